@@ -21,28 +21,28 @@ use Rattle.am_config.specs.declared.limits.TheConstants.{MAX_RECEIVERS}
 use Rattle.am_json.specs.Json.{field, is_one_of, items_of}
 use Rattle.am_json.specs.Pointer.{refusal_here, to_field, to_item}
 use Rattle.am_json.specs.Reading.{reading_within, refuse_for, check_count, as_text}
-use Rattle.am_json.specs.Reading.{as_object, required_text, required_items, read_each, read_items}
+use Rattle.am_json.specs.Reading.{read_each}
 use Rattle.am_config.specs.ConfigFile.{SaysName, SaysReceiver}
-use Rattle.am_list_files.specs.NamedText.{read_named_text}
 use Rattle.am_config.specs.ConfigFile.{SaysMatcherPair}
-use Rattle.am_config.specs.ConfigReading.{read_next_receiver}
-use Rattle.am_config.specs.ConfigFaults.{receiver_name_fault}
-use Rattle.am_config.specs.ConfigReading.{read_receiver_names, read_receivers, receiver_named}
-use Rattle.am_config.specs.ConfigReading.{effective_receiver, read_receiver}
-use Rattle.am_config.specs.ConfigReading.{append_matchers}
-use Rattle.am_config.specs.ConfigReading.{read_next_matcher_text}
-use Rattle.am_config.specs.ConfigReading.{read_matcher_pair}
-use Rattle.am_config.specs.ConfigReading.{read_next_pair}
-use Rattle.am_json.proofs.Readings.{bind_ok, within_ok, refuse_for_ok, check_count_ok}
+use Rattle.am_config.specs.ConfigForm.{next_receiver_form}
+use Rattle.am_config.specs.ConfigForm.{receiver_name_fault}
+use Rattle.am_config.specs.ConfigForm.{receiver_names_form, receivers_form, receiver_named}
+use Rattle.am_config.specs.ConfigForm.{effective_receiver, receiver_form}
+use Rattle.am_config.specs.ConfigForm.{append_matchers}
+use Rattle.am_config.specs.ConfigForm.{next_text_form}
+use Rattle.am_config.specs.ConfigForm.{matcher_pair_form}
+use Rattle.am_config.specs.ConfigForm.{next_pair_form}
+use Rattle.am_json.proofs.Deciding.{as_object_decides, cause_decides, checked_decides}
+use Rattle.am_json.proofs.Deciding.{count_decides, items_decide, said_as, text_decides}
+use Rattle.am_json.proofs.Deciding.{then_decides, within_decides}
+use Rattle.am_json.proofs.Fields.{as_text_says, as_text_reads}
+use Rattle.am_json.proofs.Items.{AllFit, read_items_decide}
+use Rattle.am_json.proofs.Readings.{Decides, bind_ok, within_ok, check_count_ok}
 use Rattle.am_json.proofs.Readings.{check_count_fits, ok_or_some, same_read}
-use Rattle.am_json.proofs.Items.{AllFit, items_say, items_read}
-use Rattle.am_json.proofs.Fields.{as_text_says, as_text_reads, as_object_says, as_object_reads}
-use Rattle.am_json.proofs.Fields.{required_text_says, required_text_reads, required_items_say}
-use Rattle.am_json.proofs.Fields.{required_items_read}
-use Rattle.am_list_files.proofs.Matching.{checked_says, checked_reads, same_condition}
-use Rattle.am_list_files.proofs.NamedTextLemmas.{named_text_reads, named_text_says}
+use Rattle.am_list_files.proofs.Matching.{checked_matcher_decides, same_condition}
+use Rattle.am_list_files.proofs.NamedTextLemmas.{named_text_decides}
 use Rattle.am_list_files.proofs.MatcherTexts.{text_gives, text_says}
-use Rattle.am_list_files.specs.MatcherTexts.{SaysMatcherText, read_matcher_text}
+use Rattle.am_list_files.specs.MatcherTexts.{SaysMatcherText, matcher_text_form}
 
 -- ---- The names of receivers.
 
@@ -84,40 +84,24 @@ free_name : (before : List (List ℕ)) (name : List ℕ) → name ≢ [] → Nam
 free_name before [] some fits = absurd (some refl)
 free_name before (c ∷ cs) some fits = rw fits refl
 
-pub name_says : (before : List (List ℕ)) (d : Data) (name : List ℕ)
-    → (read_next_receiver before d).result ≡ Ok name → SaysName d name × NameFits before name
-unfolding read_next_receiver
-name_says before d name h =
-    let members = bind_ok ((as_object d).result) _ name h in
-    let text = bind_ok ((required_text (codes "name") d).result) _ name members.2 in
-    let free =
-    bind_ok ((reading_within (to_field (codes "name"))
-    (refuse_for (receiver_name_fault before text.0))).result) _ name text.2 in
-    let none =
-    name_is_free before text.0
-    (refuse_for_ok (receiver_name_fault before text.0) free.0
-    (within_ok (to_field (codes "name"))
-    ((refuse_for (receiver_name_fault before text.0)).result) free.0 free.1)) in
-    let all : SaysName d text.0 × NameFits before text.0 = (
-      (
-        members.0,
-        as_object_says d members.0 members.1,
-        required_text_says (codes "name") d text.0 text.1,
-        none.0,
-      ),
-      none.1,
-    ) in
-    subst (λ (n : List ℕ). SaysName d n × NameFits before n) (same_read text.0 name free.2) all
+free_decides : (before : List (List ℕ)) (name : List ℕ)
+    → Decides (λ _. (name ≢ []) × NameFits before name)
+    ((refuse_for (receiver_name_fault before name)).result)
+free_decides before name =
+    said_as (cause_decides (receiver_name_fault before name)) (λ _ none. name_is_free before name none)
+    (λ _ free. free_name before name free.0 free.1)
 
-name_reads : (before : List (List ℕ)) (d : Data) (name : List ℕ) → SaysName d name
-    → NameFits before name → (read_next_receiver before d).result ≡ Ok name
-unfolding read_next_receiver
-name_reads before d name said fits =
-    rw (
-      as_object_reads d said.0 said.1,
-      required_text_reads (codes "name") d name said.2,
-      free_name before name said.3 fits,
-    ) refl
+name_decides : (before : List (List ℕ)) (d : Data)
+    → Decides (λ name. SaysName d name × NameFits before name)
+    ((next_receiver_form before d).result)
+unfolding next_receiver_form
+name_decides before d =
+    said_as
+    (then_decides (as_object_decides d)
+    (λ _. checked_decides (text_decides (codes "name") d)
+    (λ name. within_decides (to_field (codes "name")) (free_decides before name))))
+    (λ name (members, is, (has, free)). ((members, is, has, free.0), free.1))
+    (λ name (said, fits). (said.0, said.1, (said.2, (said.3, fits))))
 
 -- an array of receivers
 pub record SaysNames (d : Data) (names : List (List ℕ)) : Type 0 where
@@ -127,46 +111,33 @@ pub record SaysNames (d : Data) (names : List (List ℕ)) : Type 0 where
   pub few : length names ≤ MAX_RECEIVERS
   pub distinct : IsDistinct same_text names
 
-pub names_say : (d : Data) (names : List (List ℕ)) → (read_receivers d).result ≡ Ok names
-    → SaysNames d names
-unfolding read_receivers read_receiver_names
-names_say d names h =
-    let items = bind_ok ((required_items (codes "receivers") d).result) _ names h in
-    let read =
-    within_ok (to_field (codes "receivers")) ((read_receiver_names items.0).result) names
-    items.2 in
-    let few =
-    bind_ok ((check_count MAX_RECEIVERS (length items.0)).result)
-    (λ _. (read_items read_next_receiver [] items.0).result) names read in
-    let found = items_say SaysName NameFits read_next_receiver name_says [] items.0 names few.2 in
-    let said = subst (λ (v : List (List ℕ)). AllZip SaysName items.0 v) (sym found.1) found.2 in
-    let fits = subst (λ (v : List (List ℕ)). AllFit NameFits [] v) (sym found.1) found.3 in
+pub names_decide : (d : Data) → Decides (SaysNames d) ((receivers_form d).result)
+unfolding receivers_form receiver_names_form
+names_decide d =
+    said_as
+    (then_decides (items_decide (codes "receivers") d)
+    (λ items. within_decides (to_field (codes "receivers"))
+    (then_decides (count_decides MAX_RECEIVERS (length items))
+    (λ _. read_items_decide SaysName NameFits next_receiver_form name_decides items))))
+    (λ names (items, is_array, (_, few, (said, fits))).
+    let long = AllZip-long SaysName items names said in
     record {
-      items = items.0;
-      is_array = required_items_say (codes "receivers") d items.0 items.1;
+      items = items;
+      is_array = is_array;
       names_are = said;
-      few = omega (
-        arith,
-        check_count_ok MAX_RECEIVERS (length items.0) few.0 few.1,
-        AllZip-long SaysName items.0 names said,
-      );
+      few = omega arith;
       distinct = names_distinct [] names (distinct_none same_text) fits;
-    }
-
-pub names_read : (d : Data) (names : List (List ℕ)) → SaysNames d names
-    → (read_receivers d).result ≡ Ok names
-unfolding read_receivers read_receiver_names
-names_read d names said =
-    let count : length said.items ≤ MAX_RECEIVERS =
-    omega (arith, said.few, AllZip-long SaysName said.items names said.names_are) in
-    let all =
-    items_read SaysName NameFits read_next_receiver name_reads [] said.items names
-    said.names_are (distinct_names [] names said.distinct) in
-    rw (
-      required_items_read (codes "receivers") d said.items said.is_array,
-      check_count_fits MAX_RECEIVERS (length said.items) count,
-      all,
-    ) refl
+    })
+    (λ names said.
+    let long = AllZip-long SaysName said.items names said.names_are in (
+      said.items,
+      said.is_array,
+      (
+        tt,
+        omega (arith, said.few),
+        (said.names_are, distinct_names [] names said.distinct),
+      ),
+    ))
 
 -- ---- The receiver of a route.
 
@@ -195,8 +166,8 @@ found_says names parent d (Some v) r is h =
     (is ∙ ap (λ (x : Data). Some x) (as_text_says v name.0 name.1)) name.2
 
 pub receiver_says : (names : List (List ℕ)) (parent : Option ℕ) (d : Data) (r : ℕ)
-    → (read_receiver names parent d).result ≡ Ok r → SaysReceiver names parent d r
-unfolding read_receiver
+    → (receiver_form names parent d).result ≡ Ok r → SaysReceiver names parent d r
+unfolding receiver_form
 receiver_says names parent d r h =
     found_says names parent d (field (codes "receiver") d) r refl
     (within_ok (to_field (codes "receiver"))
@@ -209,8 +180,8 @@ named_reads names parent [] r some is = absurd (some refl)
 named_reads names parent (c ∷ cs) r some is = rw is refl
 
 pub receiver_reads : (names : List (List ℕ)) (parent : Option ℕ) (d : Data) (r : ℕ)
-    → SaysReceiver names parent d r → (read_receiver names parent d).result ≡ Ok r
-unfolding read_receiver
+    → SaysReceiver names parent d r → (receiver_form names parent d).result ≡ Ok r
+unfolding receiver_form
 receiver_reads names parent d r (inl said) =
     rw (said.named, named_reads names parent said.name r said.some said.declared) refl
 receiver_reads names parent d r (inr said) =
@@ -292,14 +263,14 @@ adds_more Says before ms next all joins sound rest =
     }
 
 next_text_says : (before : List Condition) (i : ℕ) (d : Data) (all : List Condition)
-    → (read_next_matcher_text before (i, d)).result ≡ Ok all
+    → (next_text_form before (i, d)).result ≡ Ok all
     → (ms : List Condition) × SaysMatcherText d ms × Joins before ms all
     × IsTrue (have_valid_patterns ms)
-unfolding read_next_matcher_text
+unfolding next_text_form
 next_text_says before i d all h =
     let text = bind_ok ((reading_within (to_item i) (as_text d)).result) _ all h in
     let ms =
-    bind_ok ((read_matcher_text (to_item i) [] text.0).result)
+    bind_ok ((matcher_text_form (to_item i) [] text.0).result)
     (λ ns. (append_matchers before ns).result) all text.2 in
     let said = text_says (to_item i) [] text.0 ms.0 ms.1 in (
       ms.0,
@@ -316,8 +287,8 @@ next_text_says before i d all h =
 text_reads : (before : List Condition) (i : ℕ) (d : Data) (ms : List Condition)
     → SaysMatcherText d ms → IsTrue (have_valid_patterns ms)
     → length before + length ms ≤ MAX_MATCHERS
-    → (read_next_matcher_text before (i, d)).result ≡ Ok (before ++ ms)
-unfolding read_next_matcher_text
+    → (next_text_form before (i, d)).result ≡ Ok (before ++ ms)
+unfolding next_text_form
 text_reads before i d ms said sound le =
     let few : length ms ≤ MAX_MATCHERS = omega (arith, le) in
     rw (
@@ -355,7 +326,7 @@ adds_that P Q before all f adds =
     }
 
 pub texts_say : (before : List Condition) (i : ℕ) (ds : List Data) (all : List Condition)
-    → (read_each read_next_matcher_text before (enumerate_from i ds)).result ≡ Ok all
+    → (read_each next_text_form before (enumerate_from i ds)).result ≡ Ok all
     → Adds (SaysTexts ds) before all
 unfolding read_each
 texts_say before i [] all h =
@@ -363,8 +334,8 @@ texts_say before i [] all h =
     (record { lists = []; texts = tt; joined = refl })
 texts_say before i (d ∷ ds) all h =
     let next =
-    bind_ok ((read_next_matcher_text before (i, d)).result)
-    (λ ns. (read_each read_next_matcher_text ns (enumerate_from (i + 1) ds)).result) all
+    bind_ok ((next_text_form before (i, d)).result)
+    (λ ns. (read_each next_text_form ns (enumerate_from (i + 1) ds)).result) all
     h in
     let one = next_text_says before i d next.0 next.1 in
     let rest = texts_say next.0 (i + 1) ds all next.2 in
@@ -375,7 +346,7 @@ texts_say before i (d ∷ ds) all h =
 pub texts_read : (before : List Condition) (i : ℕ) (ds : List Data) (lists : List (List Condition))
     → AllZip SaysMatcherText ds lists → IsTrue (have_valid_patterns (flat_map (λ ms. ms) lists))
     → length before + length (flat_map (λ ms. ms) lists) ≤ MAX_MATCHERS
-    → (read_each read_next_matcher_text before (enumerate_from i ds)).result ≡ Ok
+    → (read_each next_text_form before (enumerate_from i ds)).result ≡ Ok
     (before ++ flat_map (λ ms. ms) lists)
 unfolding read_each
 texts_read before i [] [] said sound le =
@@ -394,46 +365,43 @@ texts_read before i (d ∷ ds) (ms ∷ more) said sound le =
 
 -- ---- Pairs.
 
-pair_says : (op : Op) (name : List ℕ) (d : Data) (m : Condition)
-    → (read_matcher_pair op name d).result ≡ Ok m → SaysMatcherPair op (name, d) m
-    × IsTrue (have_valid_patterns (m ∷ []))
-unfolding read_matcher_pair
-pair_says op name d m h =
-    let text = bind_ok ((read_named_text name d).result) _ m h in
-    let made : Condition = record { name = name; op = op; value = text.0 } in
-    let checked = checked_says made m text.2 in
-    subst (λ (x : Condition). SaysMatcherPair op (name, d) x × IsTrue (have_valid_patterns (x ∷ [])))
-    checked.0 ((named_text_says name d text.0 text.1, refl), rw checked.1 refl)
-
-pair_reads : (op : Op) (name : List ℕ) (d : Data) (m : Condition) → SaysMatcherPair op (name, d) m
-    → IsTrue (have_valid_patterns (m ∷ [])) → (read_matcher_pair op name d).result ≡ Ok m
-unfolding read_matcher_pair
-pair_reads op name d m said sound =
-    let same : record { name = name; op = op; value = m.value } ≡ m =
-    same_condition m name op said.0.0 said.1 in
-    let fine =
-    subst (λ (x : Condition). IsTrue (has_valid_pattern x)) (sym same)
-    (and_parts (has_valid_pattern m) true sound).0 in
-    rw (
-      named_text_reads name d m.value (refl, said.0.1, said.0.2),
-      checked_reads (record { name = name; op = op; value = m.value }) fine,
-    ) (ap (λ (x : Condition). Ok x) same)
+pair_decides : (op : Op) (name : List ℕ) (d : Data)
+    → Decides (λ m. SaysMatcherPair op (name, d) m × IsTrue (have_valid_patterns (m ∷ [])))
+    ((matcher_pair_form op name d).result)
+unfolding matcher_pair_form
+pair_decides op name d =
+    said_as
+    (then_decides (named_text_decides name d)
+    (λ value. checked_matcher_decides (record { name = name; op = op; value = value })))
+    (λ m (value, said, (is, valid)).
+    subst (λ (x : Condition). SaysMatcherPair op (name, d) x
+    × IsTrue (have_valid_patterns (x ∷ []))) is ((said, refl), rw valid refl))
+    (λ m (said, sound).
+    let same = same_condition m name op said.0.0 said.1 in (
+      m.value,
+      (refl, said.0.1, said.0.2),
+      (
+        same,
+        subst (λ (x : Condition). IsTrue (has_valid_pattern x)) (sym same)
+            (and_parts (has_valid_pattern m) true sound).0,
+      ),
+    ))
 
 pub pairs_say : (op : Op) (before : List Condition) (pairs : List (List ℕ × Data))
-    (all : List Condition) → (read_each (read_next_pair op) before pairs).result ≡ Ok all
+    (all : List Condition) → (read_each (next_pair_form op) before pairs).result ≡ Ok all
     → Adds (AllZip (SaysMatcherPair op) pairs) before all
-unfolding read_each read_next_pair
+unfolding read_each next_pair_form
 pairs_say op before [] all h =
     adds_none (AllZip (SaysMatcherPair op) []) before all (same_read before all h) tt
 pairs_say op before (pair ∷ pairs) all h =
     let next =
-    bind_ok ((read_next_pair op before pair).result)
-    (λ ns. (read_each (read_next_pair op) ns pairs).result) all h in
-    let m = bind_ok ((reading_within (to_field pair.0) (read_matcher_pair op pair.0 pair.1)).result)
+    bind_ok ((next_pair_form op before pair).result)
+    (λ ns. (read_each (next_pair_form op) ns pairs).result) all h in
+    let m = bind_ok ((reading_within (to_field pair.0) (matcher_pair_form op pair.0 pair.1)).result)
     (λ n. (append_matchers before (n ∷ [])).result) next.0 next.1 in
     let said =
-    pair_says op pair.0 pair.1 m.0
-    (within_ok (to_field pair.0) ((read_matcher_pair op pair.0 pair.1).result) m.0 m.1) in
+    (pair_decides op pair.0 pair.1).says m.0
+    (within_ok (to_field pair.0) ((matcher_pair_form op pair.0 pair.1).result) m.0 m.1) in
     let rest = pairs_say op next.0 pairs all next.2 in
     adds_more (AllZip (SaysMatcherPair op) (pair ∷ pairs)) before (m.0 ∷ []) next.0 all
     (append_says before (m.0 ∷ []) next.0 m.2) said.1
@@ -444,15 +412,15 @@ pairs_say op before (pair ∷ pairs) all h =
 pub pairs_read : (op : Op) (before : List Condition) (pairs : List (List ℕ × Data))
     (ms : List Condition) → AllZip (SaysMatcherPair op) pairs ms → IsTrue (have_valid_patterns ms)
     → length before + length ms ≤ MAX_MATCHERS
-    → (read_each (read_next_pair op) before pairs).result ≡ Ok (before ++ ms)
-unfolding read_each read_next_pair
+    → (read_each (next_pair_form op) before pairs).result ≡ Ok (before ++ ms)
+unfolding read_each next_pair_form
 pairs_read op before [] [] said sound le =
     ap (λ (ns : List Condition). Ok ns) (sym (append-nil before))
 pairs_read op before [] (m ∷ ms) said sound le = absurd said
 pairs_read op before (pair ∷ pairs) [] said sound le = absurd said
 pairs_read op before (pair ∷ pairs) (m ∷ ms) said sound le =
     let split = sound_apart (m ∷ []) ms sound in
-    let first = pair_reads op pair.0 pair.1 m said.0 split.0 in
+    let first = (pair_decides op pair.0 pair.1).reads m (said.0, split.0) in
     let joins = append_reads before (m ∷ []) (omega (arith, le)) in
     let rest =
     pairs_read op (before ++ m ∷ []) pairs ms said.1 split.1

@@ -15,9 +15,9 @@ use Rattle.am_json.specs.Pointer.{to_field}
 use Rattle.am_json.specs.Reading.{as_items, as_object, read_each}
 use Rattle.am_config.specs.ConfigFile.{MatcherFields, SaysMatcherPair}
 use Rattle.am_config.specs.ConfigFile.{SaysPairs, SaysMatchers}
-use Rattle.am_config.specs.ConfigReading.{refuse_root_matchers, read_matcher_texts}
-use Rattle.am_config.specs.ConfigReading.{read_next_pair, read_texts, read_pairs, optional_texts}
-use Rattle.am_config.specs.ConfigReading.{optional_pairs, read_matchers}
+use Rattle.am_config.specs.ConfigForm.{refuse_root_matchers, each_text_form}
+use Rattle.am_config.specs.ConfigForm.{next_pair_form, texts_form, pairs_form, optional_texts}
+use Rattle.am_config.specs.ConfigForm.{optional_pairs, matchers_form}
 use Rattle.am_json.proofs.Readings.{bind_ok, within_ok, same_read}
 use Rattle.am_json.proofs.Fields.{as_object_says}
 use Rattle.am_config.proofs.ConfigParts.{Adds, adds_none}
@@ -47,7 +47,7 @@ record SaysOptionalTexts (key : List ℕ) (d : Data) (all : List Condition) : Ty
 optional_texts_say : (is_root : Bool) (key : List ℕ) (d : Data) (found : Option Data)
     (all : List Condition) → field key d ≡ found
     → (optional_texts is_root key found).result ≡ Ok all → SaysOptionalTexts key d all
-unfolding read_texts
+unfolding texts_form
 optional_texts_say is_root key d None all is h = record {
   items = [];
   is_array = inl (is, refl);
@@ -55,10 +55,10 @@ optional_texts_say is_root key d None all is h = record {
       (record { lists = []; texts = tt; joined = refl });
 }
 optional_texts_say is_root key d (Some v) all is h =
-    let read = within_ok (to_field key) ((read_texts is_root v).result) all h in
+    let read = within_ok (to_field key) ((texts_form is_root v).result) all h in
     let items = bind_ok ((as_items v).result) _ all read in
     let ms =
-    bind_ok ((read_matcher_texts items.0).result)
+    bind_ok ((each_text_form items.0).result)
     (λ ns. (refuse_root_matchers is_root ns).result) all items.2 in
     record {
       items = items.0;
@@ -71,14 +71,14 @@ optional_pairs_say : (is_root : Bool) (op : Op) (key : List ℕ) (d : Data) (bef
     (found : Option Data) (all : List Condition) → field key d ≡ found
     → (optional_pairs is_root op key before found).result ≡ Ok all
     → Adds (SaysPairs op key d) before all
-unfolding read_pairs
+unfolding pairs_form
 optional_pairs_say is_root op key d before None all is h =
     adds_none (SaysPairs op key d) before all (same_read before all h) (inl (is, refl))
 optional_pairs_say is_root op key d before (Some v) all is h =
-    let read = within_ok (to_field key) ((read_pairs is_root op before v).result) all h in
+    let read = within_ok (to_field key) ((pairs_form is_root op before v).result) all h in
     let members = bind_ok ((as_object v).result) _ all read in
     let ms =
-    bind_ok ((read_each (read_next_pair op) before (member_list members.0)).result)
+    bind_ok ((read_each (next_pair_form op) before (member_list members.0)).result)
     (λ ns. (refuse_root_matchers is_root ns).result) all members.2 in
     let added =
     subst (λ (ns : List Condition). Adds (AllZip (SaysMatcherPair op) (member_list members.0))
@@ -97,8 +97,8 @@ optional_pairs_say is_root op key d before (Some v) all is h =
     }
 
 pub matchers_say : (fields : MatcherFields) (is_root : Bool) (d : Data) (all : List Condition)
-    → (read_matchers fields is_root d).result ≡ Ok all → SaysMatchers fields d all
-unfolding read_matchers
+    → (matchers_form fields is_root d).result ≡ Ok all → SaysMatchers fields d all
+unfolding matchers_form
 matchers_say fields is_root d all h =
     let texts =
     bind_ok ((optional_texts is_root fields.texts (field fields.texts d)).result) _ all h in
@@ -139,7 +139,7 @@ optional_texts_read : (is_root : Bool) (key : List ℕ) (found : Option Data) (i
     → length (flat_map (λ ms. ms) lists) ≤ MAX_MATCHERS
     → (is_root ≡ true → flat_map (λ ms. ms) lists ≡ [])
     → (optional_texts is_root key found).result ≡ Ok (flat_map (λ ms. ms) lists)
-unfolding read_texts
+unfolding texts_form
 optional_texts_read is_root key None [] [] h said sound le none = refl
 optional_texts_read is_root key None [] (ms ∷ lists) h said sound le none = absurd said
 optional_texts_read is_root key None (e ∷ items) lists h said sound le none = absurd cc
@@ -154,7 +154,7 @@ optional_pairs_read : (is_root : Bool) (op : Op) (key : List ℕ) (d : Data)
     (before ms : List Condition) → SaysPairs op key d ms → IsTrue (have_valid_patterns ms)
     → length before + length ms ≤ MAX_MATCHERS → (is_root ≡ true → before ++ ms ≡ [])
     → (optional_pairs is_root op key before (field key d)).result ≡ Ok (before ++ ms)
-unfolding read_pairs
+unfolding pairs_form
 optional_pairs_read is_root op key d before ms (inl said) sound le none =
     rw (said.0, said.1) (ap (λ (ns : List Condition). Ok ns) (sym (append-nil before)))
 optional_pairs_read is_root op key d before ms (inr said) sound le none =
@@ -170,8 +170,8 @@ none_front (x ∷ xs) ys h = absurd cc
 
 pub matchers_read : (fields : MatcherFields) (is_root : Bool) (d : Data) (all : List Condition)
     → SaysMatchers fields d all → (is_root ≡ true → all ≡ [])
-    → (read_matchers fields is_root d).result ≡ Ok all
-unfolding read_matchers
+    → (matchers_form fields is_root d).result ≡ Ok all
+unfolding matchers_form
 matchers_read fields is_root d all said none =
     let xs : List Condition = flat_map (λ ms. ms) said.lists in
     let whole : all ≡ (xs ++ said.from_match) ++ said.from_match_re =

@@ -14,9 +14,9 @@ use Rattle.am_json.specs.Json.{json_of}
 use Rattle.am_json.specs.Reading.{required_items, required_text, read_each, read_next_item}
 use Rattle.am_json.specs.Reading.{check_only_fields, read_boolean_or, read_counted}
 use Rattle.am_config.specs.ConfigFile.{FileSaysConfig}
-use Rattle.am_config.specs.ConfigReading.{read_config, read_receivers, read_receiver_names}
-use Rattle.am_config.specs.ConfigReading.{read_next_receiver, read_route, read_route_fields}
-use Rattle.am_config.specs.ConfigReading.{read_receiver, read_matchers}
+use Rattle.am_config.specs.ConfigForm.{config_form, receivers_form, receiver_names_form}
+use Rattle.am_config.specs.ConfigForm.{next_receiver_form, route_form, route_fields_form}
+use Rattle.am_config.specs.ConfigForm.{route_settings_form, receiver_form, matchers_form}
 use Rattle.am_config.specs.SmallestConfig.{smallest_config_file, smallest_config}
 use Rattle.am_json.proofs.Values.{json_of_text}
 use Rattle.am_config.proofs.ConfigSays.{config_says}
@@ -44,10 +44,10 @@ has_value =
     json_of_text smallest_config_file value
     (IsUtf8-from_ascii smallest_config_file (all_ascii smallest_config_file refl)) reads
 
-says_smallest : (read_config value).result ≡ Ok smallest_config
-unfolding read_config read_receivers required_items read_receiver_names read_each read_next_item
-    read_next_receiver required_text read_route read_route_fields check_only_fields read_receiver
-    read_matchers read_boolean_or read_optional_items read_optional_array read_counted
+says_smallest : (config_form value).result ≡ Ok smallest_config
+unfolding config_form receivers_form required_items receiver_names_form read_each read_next_item
+    next_receiver_form required_text route_form route_fields_form route_settings_form
+    check_only_fields receiver_form matchers_form read_boolean_or read_optional_items read_optional_array read_counted
 says_smallest = refl
 
 few_bytes : length smallest_config_file ≡ 59

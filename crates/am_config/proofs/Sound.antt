@@ -15,23 +15,25 @@ use Rattle.am_universe.specs.declared.kind.Kind.TheVariants as kinds
 use Rattle.am_labels.specs.Matcher.{Condition}
 use Rattle.am_universe.specs.Text.{same_text}
 use Rattle.am_config.specs.declared.limits.TheConstants.{MAX_ROUTES, MAX_LEVELS}
-use Rattle.am_json.specs.Json.{field}
+use Rattle.am_json.specs.Json.{field, member_list}
 use Rattle.am_json.specs.Pointer.{refusal_here, to_field}
-use Rattle.am_json.specs.Reading.{reading_within, as_text, read_each, read_next_item, read_items}
+use Rattle.am_json.specs.Reading.{reading_within, as_items, as_object, as_text, read_each}
+use Rattle.am_json.specs.Reading.{read_next_item, read_items}
 use Rattle.am_config.specs.ConfigFile.{RouteSettings, RouteTree, route, Routes, no_routes, Rule}
 use Rattle.am_config.specs.ConfigFile.{IsConfig}
 use Rattle.am_config.specs.ConfigFile.{MatcherFields, route_matcher_fields, routes_of, matchers_of}
 use Rattle.am_config.specs.ConfigFile.{route_count, routes_count, route_levels, routes_levels}
 use Rattle.am_config.specs.ConfigFile.{has_receivers_below, have_receivers_below}
-use Rattle.am_config.specs.ConfigReading.{RouteFields, parent_receiver, receiver_position}
-use Rattle.am_config.specs.ConfigReading.{receiver_named, effective_receiver, read_receiver}
-use Rattle.am_config.specs.ConfigReading.{optional_texts, optional_pairs, read_matchers}
-use Rattle.am_config.specs.ConfigReading.{read_route_fields, read_route, read_next_child}
+use Rattle.am_config.specs.ConfigForm.{RouteFields, parent_receiver, receiver_position}
+use Rattle.am_config.specs.ConfigForm.{receiver_named, effective_receiver, receiver_form}
+use Rattle.am_config.specs.ConfigForm.{optional_texts, optional_pairs, each_text_form}
+use Rattle.am_config.specs.ConfigForm.{matchers_form, next_pair_form, pairs_form, texts_form}
+use Rattle.am_config.specs.ConfigForm.{refuse_root_matchers}
+use Rattle.am_config.specs.ConfigForm.{route_fields_form, route_form, next_child_form}
 use Rattle.am_json.proofs.Readings.{bind_ok, within_ok, ok_or_some, same_read}
 use Rattle.am_json.proofs.Items.{item_first}
-use Rattle.am_config.proofs.MatcherFaultLemmas.{texts_field_gives, texts_reading}
-use Rattle.am_config.proofs.PairFaultLemmas.{pairs_field_gives, pairs_reading}
 use Rattle.am_config.proofs.Routing.{are_read, count_push}
+use Rattle.am_config.proofs.SettingsSay.{settings_are_read}
 
 -- ---- Receivers.
 
@@ -66,9 +68,9 @@ effective_below names parent (Some d) r below h =
     named_below names parent name.0 r below name.2
 
 receiver_below : (names : List (List ℕ)) (parent : Option ℕ) (d : Data) (r : ℕ)
-    → IsBelow (length names) parent → (read_receiver names parent d).result ≡ Ok r
+    → IsBelow (length names) parent → (receiver_form names parent d).result ≡ Ok r
     → r < length names
-unfolding read_receiver
+unfolding receiver_form
 receiver_below names parent d r below h =
     effective_below names parent (field (codes "receiver") d) r below
     (within_ok (to_field (codes "receiver"))
@@ -76,26 +78,35 @@ receiver_below names parent d r below h =
 
 -- ---- The matchers of the top-level route.
 
+root_none : (ms all : List Condition) → (refuse_root_matchers true ms).result ≡ Ok all → all ≡ []
+root_none [] all h = sym (same_read [] all h)
+root_none (m ∷ ms) all h = absurd cc
+
 texts_none : (key : List ℕ) (found : Option Data) (all : List Condition)
     → (optional_texts true key found).result ≡ Ok all → all ≡ []
+unfolding texts_form
 texts_none key None all h = sym (same_read [] all h)
 texts_none key (Some d) all h =
-    let read = within_ok (to_field key) ((texts_reading true (Some d)).result) all h in
-    let gives = texts_field_gives true (Some d) all read in
-    gives.1 refl
+    let read = within_ok (to_field key) ((texts_form true d).result) all h in
+    let items = bind_ok ((as_items d).result) _ all read in
+    let ms = bind_ok ((each_text_form items.0).result) _ all items.2 in
+    root_none ms.0 all ms.2
 
 pairs_none : (op : Op) (key : List ℕ) (before : List Condition) (found : Option Data)
     (all : List Condition) → before ≡ [] → (optional_pairs true op key before found).result ≡ Ok all
     → all ≡ []
+unfolding pairs_form
 pairs_none op key before None all none h = sym (same_read before all h) ∙ none
 pairs_none op key before (Some d) all none h =
-    let read = within_ok (to_field key) ((pairs_reading true op before (Some d)).result) all h in
-    let gives = pairs_field_gives true op before all (Some d) (λ _. none) read in
-    gives.1 refl
+    let read = within_ok (to_field key) ((pairs_form true op before d).result) all h in
+    let members = bind_ok ((as_object d).result) _ all read in
+    let ms = bind_ok ((read_each (next_pair_form op) before (member_list members.0)).result) _ all
+    members.2 in
+    root_none ms.0 all ms.2
 
 root_matchers_none : (fields : MatcherFields) (d : Data) (all : List Condition)
-    → (read_matchers fields true d).result ≡ Ok all → all ≡ []
-unfolding read_matchers
+    → (matchers_form fields true d).result ≡ Ok all → all ≡ []
+unfolding matchers_form
 root_matchers_none fields d all h =
     let texts =
     bind_ok ((optional_texts true fields.texts (field fields.texts d)).result) _ all h in
@@ -137,17 +148,17 @@ push_levels left (s ∷ ts) t h k = omega (arith, h, k, push_levels left ts t (o
 
 children_sound : (names : List (List ℕ)) (left receiver before : ℕ)
     → ((n : ℕ) (d : Data) (t : RouteTree)
-    → (read_route names left (Some receiver) n d).result ≡ Ok t → IsSound (length names) left n t)
+    → (route_form names left (Some receiver) n d).result ≡ Ok t → IsSound (length names) left n t)
     → (earlier : List RouteTree) (ds : List Data) (all : List RouteTree)
     → AreSound (length names) left before (routes_of earlier)
-    → (read_items (read_next_child names left receiver before) earlier ds).result ≡ Ok all
+    → (read_items (next_child_form names left receiver before) earlier ds).result ≡ Ok all
     → AreSound (length names) left before (routes_of all)
 unfolding read_each read_next_item
 children_sound names left receiver before one earlier [] all sound h =
     subst (λ (ts : List RouteTree). AreSound (length names) left before (routes_of ts))
     (same_read earlier all h) sound
 children_sound names left receiver before one earlier (d ∷ ds) all sound h =
-    let child = item_first (read_next_child names left receiver before) earlier d ds all h in
+    let child = item_first (next_child_form names left receiver before) earlier d ds all h in
     let is = one (before + routes_count (routes_of earlier)) d child.0 child.1 in
     let more : AreSound (length names) left before (routes_of (earlier ++ child.0 ∷ [])) = record {
       in_range = push_in_range (length names) earlier child.0 sound.in_range is.in_range;
@@ -171,20 +182,20 @@ route_is_sound count left before settings ts below sound = record {
 pub record IsRead (names : List (List ℕ)) (left : ℕ) (parent : Option ℕ) (before : ℕ) (d : Data)
     (t : RouteTree) : Type 0 where
   pub fields : RouteFields
-  pub fields_are : (read_route_fields names parent before d).result ≡ Ok fields
+  pub fields_are : (route_fields_form names parent before d).result ≡ Ok fields
   pub children : List RouteTree
-  pub children_are : (read_items (read_next_child names left fields.settings.receiver (before + 1))
+  pub children_are : (read_items (next_child_form names left fields.settings.receiver (before + 1))
       [] fields.items).result ≡ Ok children
   pub is : route fields.settings (routes_of children) ≡ t
 
 pub is_read : (names : List (List ℕ)) (left : ℕ) (parent : Option ℕ) (before : ℕ) (d : Data)
-    (t : RouteTree) → (read_route names (suc left) parent before d).result ≡ Ok t
+    (t : RouteTree) → (route_form names (suc left) parent before d).result ≡ Ok t
     → IsRead names left parent before d t
-unfolding read_route
+unfolding route_form
 is_read names left parent before d t h =
-    let fields = bind_ok ((read_route_fields names parent before d).result) _ t h in
+    let fields = bind_ok ((route_fields_form names parent before d).result) _ t h in
     let read =
-    read_items (read_next_child names left fields.0.settings.receiver (before + 1))
+    read_items (next_child_form names left fields.0.settings.receiver (before + 1))
     [] fields.0.items in
     let children =
     bind_ok ((reading_within (to_field (codes "routes")) read).result) _ t fields.2 in
@@ -197,22 +208,22 @@ is_read names left parent before d t h =
     }
 
 pub no_level : (names : List (List ℕ)) (parent : Option ℕ) (before : ℕ) (d : Data) (t : RouteTree)
-    → (read_route names zero parent before d).result ≡ Ok t → ⊥
-unfolding read_route
+    → (route_form names zero parent before d).result ≡ Ok t → ⊥
+unfolding route_form
 no_level names parent before d t h = cc
 
 pub route_sound : (names : List (List ℕ)) (left : ℕ) (parent : Option ℕ) (before : ℕ) (d : Data)
     (t : RouteTree) → IsBelow (length names) parent
-    → (read_route names left parent before d).result ≡ Ok t → IsSound (length names) left before t
+    → (route_form names left parent before d).result ≡ Ok t → IsSound (length names) left before t
 route_sound names zero parent before d t below h = absurd (no_level names parent before d t h)
 route_sound names (suc left) parent before d t below h =
     let read = is_read names left parent before d t h in
+    let fields = are_read names parent before d read.fields read.fields_are in
     let receiver =
     receiver_below names parent d read.fields.settings.receiver below
-    (are_read names parent before d read.fields read.fields_are).receiver in
-    let room = (are_read names parent before d read.fields read.fields_are).room in
+    (settings_are_read names parent d read.fields.settings fields.settings).receiver in
     let none : AreSound (length names) left (before + 1) no_routes =
-    record { in_range = refl; levels = omega arith; number = omega (arith, room) } in
+    record { in_range = refl; levels = omega arith; number = omega (arith, fields.room) } in
     let all =
     children_sound names left read.fields.settings.receiver (before + 1)
     (λ n e s. route_sound names left (Some read.fields.settings.receiver) n e s receiver)
@@ -222,19 +233,20 @@ route_sound names (suc left) parent before d t below h =
     receiver all)
 
 pub root_unmatched : (names : List (List ℕ)) (left before : ℕ) (d : Data) (t : RouteTree)
-    → (read_route names left None before d).result ≡ Ok t → matchers_of t ≡ []
+    → (route_form names left None before d).result ≡ Ok t → matchers_of t ≡ []
 root_unmatched names zero before d t h = absurd (no_level names None before d t h)
 root_unmatched names (suc left) before d t h =
     let read = is_read names left None before d t h in
+    let fields = are_read names None before d read.fields read.fields_are in
     let none =
     root_matchers_none route_matcher_fields d read.fields.settings.matchers
-    (are_read names None before d read.fields read.fields_are).matchers in
+    (settings_are_read names None d read.fields.settings fields.settings).matchers in
     ap matchers_of (sym read.is) ∙ none
 
 -- ---- The configuration.
 
 pub config_sound : (names : List (List ℕ)) (d : Data) (t : RouteTree) (rules : List Rule)
-    → (read_route names MAX_LEVELS None 0 d).result ≡ Ok t
+    → (route_form names MAX_LEVELS None 0 d).result ≡ Ok t
     → IsConfig (record { receivers = names; root = t; rules = rules })
 config_sound names d t rules h =
     let is = route_sound names MAX_LEVELS None 0 d t tt h in

@@ -1,5 +1,5 @@
--- Configurations, and which JSON value says which. (Alertmanager configuration reference 0.25; the
--- limits, and which fields are read, are this project's own.)
+-- Configurations, and which JSON value says which. (Alertmanager configuration reference 0.25. The
+-- limits, and which fields are ignored, are this project's own.)
 use Rattle.std.specs.Prelude.{◌≡◌, ◌≢◌, ◌⊎◌, ◌≤◌, ◌+◌, ℕ, max, List, [], ◌∷◌, ◌++◌, length, Bool}
 use Rattle.std.specs.Prelude.{true, false, ◌&&◌, nat_lt, IsTrue, Option, Some, None}
 use Rattle.std.specs.Prelude.{option_and_then, position, codes, ⊤}
@@ -27,6 +27,11 @@ pub record RouteSettings : Type 0 where
   pub matchers : List Condition
   pub continues : Bool
 
+-- What a route says of itself that sets nothing but these.
+abbrev pub settings_with : ℕ → List Condition → Bool → RouteSettings
+settings_with receiver matchers continues =
+    record { receiver = receiver; matchers = matchers; continues = continues }
+
 -- A tree of routes.
 mutual
   -- a route: what it says of itself, and its children
@@ -38,9 +43,9 @@ mutual
     no_routes : Routes
     next_route : RouteTree → Routes → Routes
 
--- An inhibition rule: the matchers of the alerts that inhibit, those of the alerts that are
--- inhibited, and the names of the labels that have to have the same value in both. (Reference,
--- "<inhibit_rule>".)
+-- An inhibition rule: its source side, which is the matchers of the alerts that inhibit; its target
+-- side, which is those of the alerts that are inhibited; and the names of the labels that must have
+-- the same value in both. (Reference, "<inhibit_rule>".)
 pub record Rule : Type 0 where
   pub source : List Condition
   pub target : List Condition
@@ -58,8 +63,8 @@ abbrev pub routes_of : List RouteTree → Routes
 routes_of [] = no_routes
 routes_of (t ∷ ts) = next_route t (routes_of ts)
 
--- The parts of a route: what it says of itself, which is its matchers, the position of its receiver
--- and whether later siblings are tried after it; and its children.
+-- The parts of a route: what it says of itself, which is its matchers, the position of its
+-- receiver, and whether later siblings are tried after it; and its children.
 abbrev pub settings_of : RouteTree → RouteSettings
 settings_of (route settings children) = settings
 
@@ -75,7 +80,7 @@ continues_of t = (settings_of t).continues
 abbrev pub children_of : RouteTree → Routes
 children_of (route settings children) = children
 
--- How many routes there are.
+-- How many routes there are: the route, and all below it.
 abbrev mutual
   pub route_count : RouteTree → ℕ
   route_count (route settings children) = 1 + routes_count children
@@ -84,7 +89,7 @@ abbrev mutual
   routes_count no_routes = 0
   routes_count (next_route t ts) = route_count t + routes_count ts
 
--- In how many levels they lie, the route itself in the first.
+-- How many levels of routes there are. The route itself is in the first.
 abbrev mutual
   pub route_levels : RouteTree → ℕ
   route_levels (route settings children) = 1 + routes_levels children
@@ -93,7 +98,7 @@ abbrev mutual
   routes_levels no_routes = 0
   routes_levels (next_route t ts) = max (route_levels t) (routes_levels ts)
 
--- Each receiver's position is below this number.
+-- The position of the receiver is below this number, for the route and for each route below it.
 abbrev mutual
   pub has_receivers_below : ℕ → RouteTree → Bool
   has_receivers_below count (route settings children) =
@@ -104,41 +109,42 @@ abbrev mutual
   have_receivers_below count (next_route t ts) =
       has_receivers_below count t && have_receivers_below count ts
 
--- What holds of every configuration that is read: each receiver is declared, the top-level route
--- has no matchers, and there are at most `MAX_ROUTES` routes in at most `MAX_LEVELS` levels.
+-- What holds of every configuration that is read: the receiver of each route is declared, the
+-- top-level route has no matchers, and there are at most `MAX_ROUTES` routes in at most
+-- `MAX_LEVELS` levels.
 -- Source: Alertmanager configuration reference 0.25, "<route>": the top-level route has no
 -- configured matchers. Own choice: the limits.
--- Example: no configuration has 1,025 routes, or a route in a 33rd level, where the top-level route
--- is the first.
+-- Example: no configuration has 1,025 routes, or a route in level 33. The top-level route is in
+-- level 1.
 pub record IsConfig (c : Configuration) : Type 0 where
   pub receivers_declared : IsTrue (has_receivers_below (length c.receivers) c.root)
   pub root_unmatched : length (matchers_of c.root) ≡ 0
   pub routes_within_limit : route_count c.root ≤ MAX_ROUTES
   pub levels_within_limit : route_levels c.root ≤ MAX_LEVELS
 
--- The fields that a route may have. How alerts are grouped, and when they are sent, is not read.
+-- The fields that a route may have. Those for grouping and timing are ignored.
 abbrev pub route_fields : List (List ℕ)
 route_fields =
     codes "receiver" ∷ codes "matchers" ∷ codes "match" ∷ codes "match_re" ∷ codes "continue"
     ∷ codes "routes" ∷ codes "group_by" ∷ codes "group_wait" ∷ codes "group_interval"
     ∷ codes "repeat_interval" ∷ codes "mute_time_intervals" ∷ codes "active_time_intervals" ∷ []
 
--- The names of three fields with matchers: an array of texts, and two objects of names and texts,
--- those of the first for `=` and those of the second for `=~`.
+-- The names of the three fields that have matchers: an array of texts, an object of names and texts
+-- for `=`, and another for `=~`.
 pub record MatcherFields : Type 0 where
   pub texts : List ℕ
   pub equalities : List ℕ
   pub patterns : List ℕ
 
--- Those of a route. (Reference, "<route>", where the last two are deprecated.)
+-- The three fields with the matchers of a route. (Reference, "<route>", where the last two are
+-- deprecated.)
 abbrev pub route_matcher_fields : MatcherFields
 route_matcher_fields =
     record { texts = codes "matchers"; equalities = codes "match"; patterns = codes "match_re" }
 
--- The fields that an inhibition rule may have. Those with matchers are as the fields of a route:
--- three of the source side, and three of the target side. (Reference, "<inhibit_rule>", where
--- `source_match` and the like are deprecated. Own choice: `name`, which later versions have, may
--- stand and is not read.)
+-- The fields that an inhibition rule may have. The source side has three fields with matchers, and
+-- the target side has three. (Reference, "<inhibit_rule>", where `source_match` and the like are
+-- deprecated. Own choice: `name`, which later versions have, is allowed and ignored.)
 abbrev pub rule_fields : List (List ℕ)
 rule_fields =
     codes "name" ∷ codes "source_matchers" ∷ codes "source_match" ∷ codes "source_match_re"
@@ -160,18 +166,19 @@ target_matcher_fields = record {
 
 -- ---- Which value says which configuration.
 
--- An object says its `name`, a text that is not empty. (Reference, "<receiver>".)
+-- An object says the name of a receiver: its `name`, a text that is not empty. (Reference,
+-- "<receiver>".)
 abbrev pub SaysName : Data → List ℕ → Type 0
 SaysName d name =
     (members : Members) × (d ≡ object members) × (field (codes "name") d ≡ Some (string name))
     × (name ≢ [])
 
--- The receiver of a route, by its position among the declared names: that of the name in
--- `receiver`, or, where that is absent or the empty text, the one of the parent route.
+-- The receiver of a route, by its position among the declared names. It is the one that `receiver`
+-- names. If that field is absent or the empty text, it is the receiver of the parent route.
 -- Source: Alertmanager configuration reference 0.25, "<route>": parameters are inherited from the
--- parent if not set. Own choice: the empty text is as if it were not set.
--- Example: below a route with the receiver `a`, `{}` and `{"receiver": ""}` have `a`, and
--- `{"receiver": "b"}` has `b` if that is declared, and no receiver if it is not.
+-- parent if not set. Own choice: the empty text counts as not set.
+-- Example: below a route with the receiver `a`, `{}` and `{"receiver": ""}` have the receiver `a`.
+-- `{"receiver": "b"}` has `b` if that is declared, and else none.
 pub record NamesReceiver (names : List (List ℕ)) (d : Data) (receiver : ℕ) : Type 0 where
   pub name : List ℕ
   pub named : field (codes "receiver") d ≡ Some (string name)
@@ -191,18 +198,20 @@ SaysReceiver names parent d receiver =
 abbrev pub SaysMatcherPair : Op → List ℕ × Data → Condition → Type 0
 SaysMatcherPair op pair m = SaysNamedText pair m.name m.value × (m.op ≡ op)
 
--- A field has an object whose members say matchers; where the field is absent, there are none.
+-- A field has an object whose members say matchers with this operator. If the field is absent,
+-- there are none.
 abbrev pub SaysPairs : Op → List ℕ → Data → List Condition → Type 0
 SaysPairs op key d matchers =
     ((field key d ≡ None) × (matchers ≡ []))
     ⊎ ((members : Members) × (field key d ≡ Some (object members))
     × AllZip (SaysMatcherPair op) (member_list members) matchers)
 
--- The matchers of three fields, one behind the other: those of the texts, then the pairs for `=`,
--- then those for `=~`, whose texts are patterns. They are at most 64, and each pattern is sound.
+-- The matchers of three fields, in this order: those that the texts spell, the pairs for `=`, and
+-- the pairs for `=~`, whose texts are patterns. There are at most `MAX_MATCHERS`, and each pattern
+-- is valid.
 -- Source: Alertmanager configuration reference 0.25, "<route>": `matchers`, `match` and `match_re`,
 -- and "<inhibit_rule>", where they are called `source_matchers`, `target_matchers` and so on. Own
--- choice: their order, their number, and which patterns are sound.
+-- choice: their order, their number, and which patterns are valid.
 -- Example: `{"match_re": {"e": "f|g"}, "match": {"c": "d"}, "matchers": ["a!=b"]}` has the matchers
 -- `a!="b"`, `c="d"` and `e=~"f|g"`, in this order.
 pub record SaysMatchers (fields : MatcherFields) (d : Data) (matchers : List Condition)
@@ -219,27 +228,37 @@ pub record SaysMatchers (fields : MatcherFields) (d : Data) (matchers : List Con
   pub few : length matchers ≤ MAX_MATCHERS
   pub valid_patterns : IsTrue (have_valid_patterns matchers)
 
--- Whether later siblings of a route are tried after it: what `continue` says, and `false` where it
--- is absent.
+-- Whether later siblings of a route are tried after it: what `continue` says, and `false` if it is
+-- absent.
 -- Source: Alertmanager configuration reference 0.25, "<route>": `continue`, whose default is false.
 -- Example: `{"continue": true}` says `true`, `{}` says `false`, and `{"continue": "true"}` says
 -- neither.
 abbrev pub SaysContinue : Data → Bool → Type 0
 SaysContinue d continues = SaysBooleanOr false (codes "continue") d continues
 
--- An object with the fields of a route alone says a route, field by field, and the items of its
--- `routes` say its children. The receiver is handed down to them.
--- Source: Alertmanager configuration reference 0.25, "<route>". Own choice: how alerts are grouped,
--- and when they are sent, is not read.
--- Example: where the receivers are `a` and `b`,
--- `{"receiver": "a", "routes": [{"receiver": "b"}, {}]}` says a route with the receiver `a` and two
--- children: the first has `b`, and the second has `a`.
-pub record SaysRouteFields (names : List (List ℕ)) (parent : Option ℕ) (d : Data)
-    (settings : RouteSettings) (SaysChildren : List Data → Type 0) : Type 0 where
+-- A JSON value says what a route sets: it is an object with fields of a route alone, and these say
+-- the receiver, the matchers, and whether later siblings are tried.
+-- Source: Alertmanager configuration reference 0.25, "<route>". Own choice: the fields for grouping
+-- and timing are ignored, and other fields are refused.
+-- Example: let the receivers be `a` and `b`, and `a` the one of the parent. Then
+-- `{"receiver": "b", "continue": true, "group_by": ["c"]}` says the receiver `b`, no matchers, and
+-- that later siblings are tried. `{"group": ["c"]}` says nothing.
+pub record SaysSettings (names : List (List ℕ)) (parent : Option ℕ) (d : Data)
+    (settings : RouteSettings) : Type 0 where
   pub only : HasOnlyFields route_fields d
   pub receiver_is : SaysReceiver names parent d settings.receiver
   pub matchers_are : SaysMatchers route_matcher_fields d settings.matchers
   pub continues_is : SaysContinue d settings.continues
+
+-- A JSON value says a route: it says what the route sets, and the items of its `routes` say the
+-- children, which inherit the receiver.
+-- Source: Alertmanager configuration reference 0.25, "<route>".
+-- Example: let the receivers be `a` and `b`. Then
+-- `{"receiver": "a", "routes": [{"receiver": "b"}, {}]}` says a route with the receiver `a` and two
+-- children. The first child has the receiver `b`, and the second has `a`.
+pub record SaysRouteFields (names : List (List ℕ)) (parent : Option ℕ) (d : Data)
+    (settings : RouteSettings) (SaysChildren : List Data → Type 0) : Type 0 where
+  pub settings_are : SaysSettings names parent d settings
   pub items : List Data
   pub is_array : HasItems (codes "routes") d items
   pub children : SaysChildren items
@@ -257,20 +276,20 @@ abbrev mutual
   SaysRoutes names receiver (d ∷ ds) (next_route t ts) =
       SaysRoute names (Some receiver) d t × SaysRoutes names receiver ds ts
 
--- A value in `equal` says the name of a label: a text that is not empty.
+-- An item of `equal` says the name of a label: it is a text that is not empty.
 -- Source: Alertmanager configuration reference 0.25, "<inhibit_rule>": `equal`. Own choice: any
 -- text but the empty one is a name, and a name may stand twice.
--- Example: `"cluster"` says the name `cluster`, and `""` and `1` say none.
+-- Example: `"cluster"` says the name `cluster`. `""` and `1` say none.
 abbrev pub SaysEqualName : Data → List ℕ → Type 0
 SaysEqualName d name = (d ≡ string name) × (name ≢ [])
 
--- An object with the fields of an inhibition rule alone says a rule, field by field. A side without
--- matchers matches every alert.
--- Source: Alertmanager configuration reference 0.25, "<inhibit_rule>". Own choice: the limits; of
--- the fields the name is not read, and any that the form does not list are refused.
+-- A JSON value says an inhibition rule: it is an object with fields of a rule alone, and these say
+-- the matchers of both sides and the names in `equal`. A side without matchers matches every alert.
+-- Source: Alertmanager configuration reference 0.25, "<inhibit_rule>". Own choice: the limits;
+-- `name` is ignored, and other fields are refused.
 -- Example: `{"source_match": {"a": "b"}, "target_matchers": ["c=d"], "equal": ["e"]}` says a rule
 -- with the source matcher `a="b"`, the target matcher `c="d"` and the label `e`. `{}` says a rule
--- without matchers and labels: both its sides match every alert, so by it none is inhibited.
+-- without matchers and labels. Both its sides match every alert, so it inhibits none.
 pub record SaysRule (d : Data) (rule : Rule) : Type 0 where
   pub only : HasOnlyFields rule_fields d
   pub source : SaysMatchers source_matcher_fields d rule.source
@@ -280,12 +299,12 @@ pub record SaysRule (d : Data) (rule : Rule) : Type 0 where
   pub few : length items ≤ MAX_EQUAL_NAMES
   pub equal : AllZip SaysEqualName items rule.equal
 
--- An object says a configuration: receivers of different names, a top-level route without matchers,
--- and inhibition rules, of which there may be none. No other field of the object is read.
+-- A JSON value says a configuration: it is an object with receivers of different names, a top-level
+-- route without matchers, and inhibition rules, if it has any. Its other fields are ignored.
 -- Source: Alertmanager configuration reference 0.25, "File layout and global settings", "<route>",
 -- "<inhibit_rule>" and "<receiver>". Own choice: the limits.
--- Example: `{"receivers": [{"name": "a"}], "route": {"receiver": "a"}}` says one receiver and one
--- route, which has it. With `"matchers": ["x=y"]` in that route the object says no configuration.
+-- Example: `{"receivers": [{"name": "a"}], "route": {"receiver": "a"}}` says one receiver, and one
+-- route that has it. With `"matchers": ["x=y"]` in that route, it says no configuration.
 pub record SaysConfig (d : Data) (c : Configuration) : Type 0 where
   pub items : List Data
   pub is_array : option_and_then items_of (field (codes "receivers") d) ≡ Some items

@@ -5,7 +5,7 @@ use Rattle.am_config.specs.declared.config.Config.{Config}
 use Rattle.am_config.specs.declared.config_file as declared
 use Rattle.am_config.specs.declared.route_matchers as keys
 use Rattle.am_config.specs.ConfigFile.{Configuration, MatcherFields}
-use Rattle.am_config.specs.ConfigReading.{RouteFields}
+use Rattle.am_config.specs.ConfigForm.{RouteFields}
 use Rattle.am_config.specs.RouteView.{route_view, names_of}
 
 -- The configuration that a `Config` stands for.
@@ -18,10 +18,7 @@ config_view c = record {
 
 -- What is read of a route before its children, with their JSON values.
 abbrev pub fields_view : declared.RouteFields.RouteFields → RouteFields
-fields_view f = record {
-  settings = record { receiver = f.receiver; matchers = f.matchers; continues = f.continues };
-  items = map view f.items.now;
-}
+fields_view f = record { settings = f.settings; items = map view f.items.now }
 
 -- The names of three fields with matchers.
 abbrev pub matcher_fields_view : keys.MatcherFields.MatcherFields → MatcherFields

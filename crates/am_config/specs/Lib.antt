@@ -1,9 +1,9 @@
 pub mod ConfigFile
 pub mod SmallestConfig
 pub mod RuleExample
-pub mod ConfigReading
+pub mod FaultExamples
+pub mod ConfigForm
 pub mod RouteView
 pub mod ConfigView
 pub mod Path
 pub mod RoutePaths
-pub mod ConfigFaults

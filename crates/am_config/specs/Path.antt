@@ -15,8 +15,8 @@ numeral n = if n == 0 then codes "0" else map (λ d. 48 + d) (digits_of 10 n)
 abbrev pub step_text : ℕ → List ℕ
 step_text p = codes "/" ++ numeral p
 
--- The text of a path: `/` for the top-level route; for every other `/` and a position for each
--- child on the way, in decimal. Positions count from 0.
+-- The text of a path: `/` for the top-level route, and for another route `/` and a position for
+-- each child on the way. Positions are decimal and count from 0.
 -- Source: own choice.
 -- Example: the third child of the first child of the top-level route is `/0/2`.
 abbrev pub path_text : List ℕ → List ℕ
@@ -40,6 +40,7 @@ pub record IsPath (path : List ℕ) : Type 0 where
   pub steps : length path ≤ MAX_PATH_STEPS
   pub positions : AllByRecursion (λ p. p ≤ MAX_CHILD_POSITION) path
 
--- A way down is that of the first path, or goes on from it.
+-- The second path begins with the first. So its route is that of the first path, or stands below
+-- it.
 abbrev pub leads_through : List ℕ → List ℕ → Bool
 leads_through first path = starts_with (λ p q. p == q) path first

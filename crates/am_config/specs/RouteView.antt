@@ -7,9 +7,7 @@ use Rattle.am_config.specs.ConfigFile.{RouteTree, route, routes_of}
 
 -- One level of a route, with each child already seen.
 abbrev pub view_step : Route-F RouteTree → RouteTree
-view_step r =
-    route (record { receiver = r.receiver; matchers = r.matchers; continues = r.continues })
-    (routes_of r.routes.items)
+view_step r = route r.settings (routes_of r.routes.items)
 
 -- The route that a `Route` stands for, with all that is below it.
 abbrev pub route_view : Route → RouteTree

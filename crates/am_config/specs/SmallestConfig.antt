@@ -1,6 +1,6 @@
 -- The smallest configuration: what a file has to say, and no more.
 use Rattle.std.specs.Prelude.{ℕ, List, [], ◌∷◌, false, codes}
-use Rattle.am_config.specs.ConfigFile.{Configuration, route, no_routes}
+use Rattle.am_config.specs.ConfigFile.{Configuration, route, no_routes, settings_with}
 
 -- A file that names one receiver, `none`, and has the top-level route alone; and the configuration
 -- that it says. (Reference, "File layout and global settings": both fields are required.)
@@ -11,6 +11,6 @@ smallest_config_file =
 abbrev pub smallest_config : Configuration
 smallest_config = record {
   receivers = codes "none" ∷ [];
-  root = route (record { receiver = 0; matchers = []; continues = false }) no_routes;
+  root = route (settings_with 0 [] false) no_routes;
   rules = [];
 }

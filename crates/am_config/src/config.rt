@@ -45,7 +45,8 @@ impl Config {
         self.receivers[i].as_str()
     }
 
-    /// The top-level route. It has no matchers, and is the first of all routes and of all levels.
+    /// The top-level route, which has no matchers. It comes first in preorder, and is the first
+    /// level.
     pub fn root(&self) -> &Route
         ensures root { route_view result.now ≡ (config_view self.now).root }
         ensures sound { IsConfig (config_view self.now) }
@@ -60,7 +61,7 @@ impl Config {
         &self.rules
     }
 
-    /// The position of the receiver with this name, if it is declared.
+    /// The position of the receiver with this name; `None` if no receiver has it.
     pub fn receiver_position(&self, name: &str) -> Option<usize>
         ensures position { result ≡ position (λ other. same_text other name.now)
             (config_view self.now).receivers }
@@ -68,7 +69,7 @@ impl Config {
         position(&self.receivers, name)
     }
 
-    /// The route at a path, if there is one.
+    /// The route at a path; `None` if the configuration has no such route.
     pub fn at(&self, path: &Path) -> Option<&Route>
         ensures found { IfSome result (λ route.
             route_at (config_view self.now).root path.now ≡ Some (route_view route.now)) }

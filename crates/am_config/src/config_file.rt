@@ -11,17 +11,17 @@ ghost use Rattle.am_config.specs.ConfigFile.{FileSaysConfig, route_fields, route
 ghost use Rattle.am_config.specs.ConfigFile.{route_count, routes_count, routes_of};
 ghost use Rattle.am_config.specs.RouteView.{route_view, names_of};
 ghost use Rattle.am_config.specs.ConfigView.{config_view, fields_view};
-ghost use Rattle.am_config.specs.ConfigReading.{read_next_receiver, read_receiver_names};
-ghost use Rattle.am_config.specs.ConfigReading.{read_receivers, parent_receiver, receiver_position};
-ghost use Rattle.am_config.specs.ConfigReading.{effective_receiver, read_receiver, read_matchers};
-ghost use Rattle.am_config.specs.ConfigReading.{read_route_fields, read_route, read_equal_name};
-ghost use Rattle.am_config.specs.ConfigReading.{read_equal, read_rule, read_rules, read_next_child};
-ghost use Rattle.am_config.specs.ConfigReading.{read_config, read_config_file};
-ghost use Rattle.am_config.specs.ConfigFaults.{receiver_name_fault, ConfigFileRefusedFor};
+ghost use Rattle.am_config.specs.ConfigForm.{next_receiver_form, receiver_names_form};
+ghost use Rattle.am_config.specs.ConfigForm.{receivers_form, parent_receiver, receiver_position};
+ghost use Rattle.am_config.specs.ConfigForm.{effective_receiver, receiver_form, matchers_form};
+ghost use Rattle.am_config.specs.ConfigForm.{route_settings_form, route_fields_form, route_form};
+ghost use Rattle.am_config.specs.ConfigForm.{equal_name_form, equal_form, rule_form, rules_form};
+ghost use Rattle.am_config.specs.ConfigForm.{next_child_form, config_form, config_file_form};
+ghost use Rattle.am_config.specs.ConfigForm.{receiver_name_fault, ConfigFileRefusedFor};
 
 use crate::config::{Config, position};
 use crate::limits::{MAX_EQUAL_NAMES, MAX_LEVELS, MAX_RECEIVERS, MAX_ROUTES, MAX_RULES};
-use crate::route::Route;
+use crate::route::{Route, RouteSettings};
 use crate::route_matchers::{MatcherFields, read_matchers};
 use crate::rule::Rule;
 use am_json::{
@@ -35,7 +35,7 @@ use am_universe::{Fault, Kind, Place};
 use serde_json::Value;
 use std::alloc::Global;
 
-/// The fields of a route. How alerts are grouped, and when they are sent, is not read.
+/// The fields of a route. Those that say how alerts are grouped and when they are sent are ignored.
 const ROUTE_FIELDS: [&str; 12] = [
     "receiver",
     "matchers",
@@ -51,31 +51,32 @@ const ROUTE_FIELDS: [&str; 12] = [
     "active_time_intervals",
 ];
 
-/// The configuration that the bytes of a configuration file say.
+/// Reads a configuration file: an Alertmanager configuration (reference 0.25) as JSON.
 ///
-/// The first fault is the one answered, at the place `Config` and at the pointer of the part at
-/// fault. A field that is `null` counts as absent.
-/// - `Limit`: more than `MAX_FILE_BYTES` bytes, [`MAX_RECEIVERS`] receivers, [`MAX_ROUTES`]
-///   routes, [`MAX_LEVELS`] levels of routes, `MAX_MATCHERS` matchers of a route or of one side of
-///   a rule, [`MAX_RULES`] inhibition rules or [`MAX_EQUAL_NAMES`] names in `equal`;
+/// A field that is `null` is absent. Some fields are ignored: of a route, those that say how alerts
+/// are grouped and when they are sent; of an inhibition rule, `name`; of a receiver, all but
+/// `name`; and of the file, all but `receivers`, `route` and `inhibit_rules`. The JSON value of the
+/// whole file is in memory until the call returns. Each name of a receiver is compared with those
+/// before it, and each that a route has with those declared. Fails with the first fault of the
+/// file, at the place `Config`, with the pointer to the part at fault:
+/// - `Limit`: more than `MAX_FILE_BYTES` bytes, [`MAX_RECEIVERS`] receivers, [`MAX_ROUTES`] routes,
+///   [`MAX_LEVELS`] levels of routes, `MAX_MATCHERS` matchers of a route or of one side of a rule,
+///   [`MAX_RULES`] inhibition rules or [`MAX_EQUAL_NAMES`] names in `equal`;
 /// - `NotJson`: the bytes have no JSON value;
-/// - `Shape`: a value is not of its kind, or a required field is absent;
+/// - `Shape`: a value is not of its kind, a required field is absent, or the top-level route names
+///   no receiver;
 /// - `UnknownField`: a route or an inhibition rule has a field that the form does not have;
 /// - `Empty`: the name of a receiver is the empty text, or one in `equal`, or in `match`,
 ///   `match_re` and the like;
-/// - `Duplicate`: a receiver has the name of an earlier one;
+/// - `Duplicate`: an earlier receiver has the same name;
 /// - `UndefinedReceiver`: a route names a receiver that is not declared;
 /// - `RootMatchers`: the top-level route has matchers;
-/// - `BadMatcher`: a text in `matchers` or the like spells no list of matchers;
+/// - `BadMatcher`: a text in `matchers` or the like does not spell a list of matchers;
 /// - `PatternProfile`: a pattern is outside the profile;
-/// - `Pattern`: the engine refuses a pattern of the profile, as it does where its grammar does not
-///   read it, and may do where it is too large. Such a refusal may come before the first fault that
-///   the file has by itself, and not after it.
+/// - `Pattern`: the engine refuses a pattern of the profile. It refuses each that its grammar does
+///   not read. It may also refuse one that is too large, if no other fault comes before it.
 ///
-/// `Memory`, at the place `Memory` and the empty pointer, comes wherever memory ran out.
-///
-/// The JSON value of the whole file is in memory until the configuration is answered. Each name of
-/// a receiver is compared with those before it, and each that a route has with those declared.
+/// If memory runs out, the fault is `Memory`, at the place `Memory`, with the empty pointer.
 pub fn read_config(alloc: Global, bytes: &[u8]) -> Result<Config, Fault>
     ensures says { IfOk result (λ c. FileSaysConfig bytes.now (config_view c)) }
     ensures first { IfErr result (IsRefusalAt places.Config (ConfigFileRefusedFor bytes.now)) }
@@ -86,17 +87,17 @@ pub fn read_config(alloc: Global, bytes: &[u8]) -> Result<Config, Fault>
     }
 }
 
-#[tactic(auto, using(am_json::proofs::Readings::steps), unfolding(crate::specs::ConfigReading::read_config_file))]
+#[tactic(auto, using(am_json::proofs::Readings::steps), unfolding(crate::specs::ConfigForm::config_file_form))]
 fn read_config_file(alloc: Global, bytes: &[u8]) -> Result<Config, ReadError>
-    ensures { Gives config_view result (read_config_file bytes.now) }
+    ensures { Gives config_view result (config_file_form bytes.now) }
 {
     let value = read_json(alloc, bytes)?;
     read_config_object(alloc, &value)
 }
 
-#[tactic(auto, using(am_json::proofs::Readings::steps), unfolding(crate::specs::ConfigReading::read_config))]
+#[tactic(auto, using(am_json::proofs::Readings::steps), unfolding(crate::specs::ConfigForm::config_form))]
 fn read_config_object(alloc: Global, value: &Value) -> Result<Config, ReadError>
-    ensures { Gives config_view result (read_config (view value.now)) }
+    ensures { Gives config_view result (config_form (view value.now)) }
 {
     as_object(alloc, value)?;
     let receivers = read_receivers(alloc, value)?;
@@ -112,18 +113,18 @@ fn read_config_object(alloc: Global, value: &Value) -> Result<Config, ReadError>
 
 // ---- The receivers.
 
-#[tactic(auto, using(am_json::proofs::Readings::steps), unfolding(crate::specs::ConfigReading::read_receivers))]
+#[tactic(auto, using(am_json::proofs::Readings::steps), unfolding(crate::specs::ConfigForm::receivers_form))]
 fn read_receivers(alloc: Global, value: &Value) -> Result<Vec<String>, ReadError>
-    ensures { Gives (λ names. names_of names.items) result (read_receivers (view value.now)) }
+    ensures { Gives (λ names. names_of names.items) result (receivers_form (view value.now)) }
 {
     let items = required_items(alloc, value, "receivers")?;
     within_field(alloc, "receivers", read_receiver_names(alloc, items))
 }
 
-#[tactic(auto, unfolding(crate::specs::ConfigReading::read_receiver_names))]
+#[tactic(auto, unfolding(crate::specs::ConfigForm::receiver_names_form))]
 fn read_receiver_names(alloc: Global, items: &[Value]) -> Result<Vec<String>, ReadError>
     ensures { Gives (λ names. names_of names.items) result
-        (read_receiver_names (map view items.now)) }
+        (receiver_names_form (map view items.now)) }
 {
     check_count(alloc, MAX_RECEIVERS, items.len())?;
     read_each_name(alloc, items, |before, item| {
@@ -131,8 +132,8 @@ fn read_receiver_names(alloc: Global, items: &[Value]) -> Result<Vec<String>, Re
     })
 }
 
-/// The names that `read` gives of the items, each behind those before it. The first refusal is the
-/// one answered, at its item.
+/// Reads each name with `read`, which also gets the names before it. Fails with the first refusal,
+/// at its item.
 fn read_each_name<F: Fn(&[String], &Value) -> Result<String, ReadError>>(
     alloc: Global,
     items: &[Value],
@@ -148,17 +149,17 @@ fn read_each_name<F: Fn(&[String], &Value) -> Result<String, ReadError>>(
     let mut names = Vec::new(alloc);
     for item in items {
         let found = read(names.as_slice(), item);
-        let name = within_item(alloc, names.len(), found)?;
-        names.push(name)?;
+        let next = within_item(alloc, names.len(), found)?;
+        names.push(next)?;
     }
     Ok(names)
 }
 
-/// The name of a receiver behind others.
-#[tactic(auto, using(am_json::proofs::Readings::steps), unfolding(crate::specs::ConfigReading::read_next_receiver))]
+/// Reads the name of a receiver that follows others.
+#[tactic(auto, using(am_json::proofs::Readings::steps), unfolding(crate::specs::ConfigForm::next_receiver_form))]
 fn read_next_receiver(alloc: Global, before: &[String], value: &Value) -> Result<String, ReadError>
     ensures { Gives string_bytes result
-        (read_next_receiver (names_of before.now) (view value.now)) }
+        (next_receiver_form (names_of before.now) (view value.now)) }
 {
     as_object(alloc, value)?;
     let name = required_text(alloc, value, "name")?;
@@ -186,7 +187,7 @@ fn receiver_name_fault(before: &[String], name: &str) -> Option<Kind>
 
 fn read_root(alloc: Global, names: &[String], value: &Value) -> Result<Route, ReadError>
     ensures { Gives route_view result
-        (read_route (names_of names.now) MAX_LEVELS None 0 (view value.now)) }
+        (route_form (names_of names.now) MAX_LEVELS None 0 (view value.now)) }
 {
     let (root, _) = read_route(alloc, names, MAX_LEVELS, None, 0, value)?;
     Ok(root)
@@ -199,17 +200,37 @@ const MATCHER_FIELDS: MatcherFields<'static> = MatcherFields {
     patterns: "match_re",
 };
 
-/// What is read of a route before its children: what it says of itself, and their values.
+/// Reads what a route says of itself.
+#[tactic(auto, using(am_json::proofs::Readings::steps), unfolding(crate::specs::ConfigForm::route_settings_form))]
+fn read_route_settings(
+    alloc: Global,
+    names: &[String],
+    parent: Option<usize>,
+    value: &Value,
+) -> Result<RouteSettings, ReadError>
+    ensures { Gives (λ s. s) result
+        (route_settings_form (names_of names.now) parent (view value.now)) }
+{
+    check_route_fields(alloc, value)?;
+    let receiver = read_receiver(alloc, names, parent, value)?;
+    let matchers = read_route_matchers(alloc, parent.is_none(), value)?;
+    let continues = read_boolean_or(alloc, value, "continue", false)?;
+    Ok(RouteSettings {
+        receiver,
+        matchers,
+        continues,
+    })
+}
+
+/// The fields of a route, before its children are read: what it says of itself, and their values.
 #[derive(Drop)]
 struct RouteFields<'v> {
-    receiver: usize,
-    matchers: Matchers,
-    continues: bool,
+    settings: RouteSettings,
     items: &'v [Value],
 }
 
-/// The fields of a route with so many others before it in preorder.
-#[tactic(auto, using(am_json::proofs::Readings::steps), unfolding(crate::specs::ConfigReading::read_route_fields))]
+/// Reads the fields of a route. `before` is the number of routes before it in preorder.
+#[tactic(auto, using(am_json::proofs::Readings::steps), unfolding(crate::specs::ConfigForm::route_fields_form))]
 fn read_route_fields<'v>(
     alloc: Global,
     names: &[String],
@@ -219,23 +240,15 @@ fn read_route_fields<'v>(
 ) -> Result<RouteFields<'v>, ReadError>
     requires { before ≤ MAX_ROUTES }
     ensures { Gives fields_view result
-        (read_route_fields (names_of names.now) parent before (view value.now)) }
+        (route_fields_form (names_of names.now) parent before (view value.now)) }
 {
     check_count(alloc, MAX_ROUTES, before + 1)?;
-    check_route_fields(alloc, value)?;
-    let receiver = read_receiver(alloc, names, parent, value)?;
-    let matchers = read_route_matchers(alloc, parent.is_none(), value)?;
-    let continues = read_boolean_or(alloc, value, "continue", false)?;
+    let settings = read_route_settings(alloc, names, parent, value)?;
     let items = read_optional_items(alloc, value, "routes")?;
-    Ok(RouteFields {
-        receiver,
-        matchers,
-        continues,
-        items,
-    })
+    Ok(RouteFields { settings, items })
 }
 
-/// A route has no other fields than those of the form.
+/// Refuses a route that has other fields than those of the form.
 fn check_route_fields(alloc: Global, value: &Value) -> Result<(), ReadError>
     ensures { Gives (λ _. tt) result (check_only_fields route_fields (view value.now)) }
 {
@@ -244,14 +257,15 @@ fn check_route_fields(alloc: Global, value: &Value) -> Result<(), ReadError>
 
 fn read_route_matchers(alloc: Global, is_root: bool, value: &Value) -> Result<Matchers, ReadError>
     ensures { Gives (λ ms. ms) result
-        (read_matchers route_matcher_fields is_root (view value.now)) }
+        (matchers_form route_matcher_fields is_root (view value.now)) }
 {
     read_matchers(alloc, MATCHER_FIELDS, is_root, value)
 }
 
-/// A route with the levels that are left, its own included, the receiver of its parent, if it has
-/// one, and the number of routes that stand before it in preorder. With it comes the number before
-/// the one that follows it.
+/// Reads one route, and the routes below it.
+///
+/// `levels` is the number of levels that are left, its own included. `parent` is the receiver of
+/// its parent, if it has one. `before` counts the routes read so far; the new count is returned.
 #[cycle(routes)]
 fn read_route(
     alloc: Global,
@@ -263,36 +277,25 @@ fn read_route(
 ) -> Result<(Route, usize), ReadError>
     requires { before ≤ MAX_ROUTES }
     ensures reads { Gives (λ r. route_view r.0) result
-        (read_route (names_of names.now) levels parent before (view value.now)) }
+        (route_form (names_of names.now) levels parent before (view value.now)) }
     ensures number { IfOk result (λ r.
         (r.1 ≡ before + route_count (route_view r.0)) × (r.1 ≤ MAX_ROUTES)) }
 {
     if levels == 0 {
         return Err(ReadError::refused(alloc, Kind::Limit));
     }
-    let fields = read_route_fields(alloc, names, parent, before, value)?;
+    let RouteFields { settings, items } = read_route_fields(alloc, names, parent, before, value)?;
+    let receiver = settings.receiver();
     let (routes, after) = within_field(
         alloc,
         "routes",
-        read_routes(
-            alloc,
-            names,
-            levels - 1,
-            fields.receiver,
-            before + 1,
-            fields.items,
-        ),
+        read_routes(alloc, names, levels - 1, receiver, before + 1, items),
     )?;
-    let route = Route {
-        receiver: fields.receiver,
-        matchers: fields.matchers,
-        continues: fields.continues,
-        routes,
-    };
-    Ok((route, after))
+    Ok((Route { settings, routes }, after))
 }
 
-/// The children of a route with this receiver, and the number of routes before what follows them.
+/// Reads the children of a route with this receiver. `before` counts the routes read so far; the
+/// new count is returned.
 #[cycle(routes)]
 fn read_routes(
     alloc: Global,
@@ -304,7 +307,7 @@ fn read_routes(
 ) -> Result<(Vec<Route>, usize), ReadError>
     requires { before ≤ MAX_ROUTES }
     ensures reads { Gives (λ rs. map route_view rs.0.items) result
-        (read_items (read_next_child (names_of names.now) levels receiver before) []
+        (read_items (next_child_form (names_of names.now) levels receiver before) []
         (map view items.now)) }
     ensures number { IfOk result (λ rs.
         (rs.1 ≡ before + routes_count (routes_of (map route_view rs.0.items)))
@@ -314,22 +317,22 @@ fn read_routes(
     let mut after = before;
     for item in items {
         let found = read_route(alloc, names, levels, Some(receiver), after, item);
-        let (route, next) = within_item(alloc, routes.len(), found)?;
-        routes.push(route)?;
-        after = next;
+        let (next, count) = within_item(alloc, routes.len(), found)?;
+        routes.push(next)?;
+        after = count;
     }
     Ok((routes, after))
 }
 
-/// The receiver of a route: its own, or that of its parent where it names none.
-#[tactic(auto, using(am_json::proofs::Readings::within_gives), unfolding(crate::specs::ConfigReading::read_receiver))]
+/// Reads the receiver of a route: its own, or that of its parent if it names none.
+#[tactic(auto, using(am_json::proofs::Readings::within_gives), unfolding(crate::specs::ConfigForm::receiver_form))]
 fn read_receiver(
     alloc: Global,
     names: &[String],
     parent: Option<usize>,
     value: &Value,
 ) -> Result<usize, ReadError>
-    ensures { Gives (λ r. r) result (read_receiver (names_of names.now) parent (view value.now)) }
+    ensures { Gives (λ r. r) result (receiver_form (names_of names.now) parent (view value.now)) }
 {
     within_field(
         alloc,
@@ -378,7 +381,7 @@ fn receiver_position(alloc: Global, names: &[String], name: &str) -> Result<usiz
 
 // ---- The inhibition rules.
 
-/// The fields of an inhibition rule. Its name is not read.
+/// The fields of an inhibition rule. Its name is ignored.
 const RULE_FIELDS: [&str; 8] = [
     "name",
     "source_matchers",
@@ -397,7 +400,7 @@ const SOURCE_FIELDS: MatcherFields<'static> = MatcherFields {
     patterns: "source_match_re",
 };
 
-/// The names of those that have the matchers of its target side.
+/// The names of the fields of a rule that have the matchers of its target side.
 const TARGET_FIELDS: MatcherFields<'static> = MatcherFields {
     texts: "target_matchers",
     equalities: "target_match",
@@ -405,16 +408,16 @@ const TARGET_FIELDS: MatcherFields<'static> = MatcherFields {
 };
 
 fn read_rules(alloc: Global, value: &Value) -> Result<Vec<Rule>, ReadError>
-    ensures { Gives (λ rules. rules.items) result (read_rules (view value.now)) }
+    ensures { Gives (λ rules. rules.items) result (rules_form (view value.now)) }
 {
     read_optional_array(alloc, value, "inhibit_rules", MAX_RULES, |item| {
         read_rule(alloc, item)
     })
 }
 
-#[tactic(auto, using(am_json::proofs::Readings::steps), unfolding(crate::specs::ConfigReading::read_rule))]
+#[tactic(auto, using(am_json::proofs::Readings::steps), unfolding(crate::specs::ConfigForm::rule_form))]
 fn read_rule(alloc: Global, value: &Value) -> Result<Rule, ReadError>
-    ensures { Gives (λ rule. rule) result (read_rule (view value.now)) }
+    ensures { Gives (λ rule. rule) result (rule_form (view value.now)) }
 {
     check_only_fields(alloc, value, &RULE_FIELDS)?;
     let source = read_matchers(alloc, SOURCE_FIELDS, false, value)?;
@@ -429,7 +432,7 @@ fn read_rule(alloc: Global, value: &Value) -> Result<Rule, ReadError>
 
 #[tactic(auto, using(am_json::proofs::Readings::steps), unfolding(am_json::specs::OptionalItems::read_optional_array))]
 fn read_equal(alloc: Global, value: &Value) -> Result<Vec<String>, ReadError>
-    ensures { Gives (λ names. names_of names.items) result (read_equal (view value.now)) }
+    ensures { Gives (λ names. names_of names.items) result (equal_form (view value.now)) }
 {
     let items = read_optional_items(alloc, value, "equal")?;
     within_field(alloc, "equal", read_equal_names(alloc, items))
@@ -438,16 +441,16 @@ fn read_equal(alloc: Global, value: &Value) -> Result<Vec<String>, ReadError>
 #[tactic(auto, unfolding(am_json::specs::Reading::read_counted))]
 fn read_equal_names(alloc: Global, items: &[Value]) -> Result<Vec<String>, ReadError>
     ensures { Gives (λ names. names_of names.items) result
-        (read_counted MAX_EQUAL_NAMES read_equal_name (map view items.now)) }
+        (read_counted MAX_EQUAL_NAMES equal_name_form (map view items.now)) }
 {
     check_count(alloc, MAX_EQUAL_NAMES, items.len())?;
     read_each_name(alloc, items, |_, item| read_equal_name(alloc, item))
 }
 
-/// The name of a label, which is not empty.
-#[tactic(auto, using(am_json::proofs::Readings::steps), unfolding(crate::specs::ConfigReading::read_equal_name))]
+/// Reads the name of a label, which must not be empty.
+#[tactic(auto, using(am_json::proofs::Readings::steps), unfolding(crate::specs::ConfigForm::equal_name_form))]
 fn read_equal_name(alloc: Global, value: &Value) -> Result<String, ReadError>
-    ensures { Gives string_bytes result (read_equal_name (view value.now)) }
+    ensures { Gives string_bytes result (equal_name_form (view value.now)) }
 {
     let name = as_text(alloc, value)?;
     refuse_for(alloc, label_name_fault(name))?;

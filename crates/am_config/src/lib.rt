@@ -1,9 +1,8 @@
-//! The configuration file of the program, read from its bytes.
+//! The reader of configuration files, and what they consist of: receivers, routes, paths and rules.
 //!
-//! [`read_config`] reads a configuration file, which is an Alertmanager configuration as JSON. It
-//! answers what the file says, or its first fault: why the file is refused and, by a JSON Pointer
-//! (RFC 6901), at which part. docs/FORMATS.md has the form of the file, and the order of its
-//! faults.
+//! [`read_config`] reads an Alertmanager configuration as JSON. It returns what the file says, or
+//! fails with its first fault: why the file is refused and, by a JSON Pointer (RFC 6901), at which
+//! part. docs/REFERENCE.md has the form of the file, and the order of its faults.
 #![tactic(auto)]
 
 // How much there may be.

@@ -1,23 +1,23 @@
-//! How much there may be in a configuration file. These limits are this project's own.
+//! The limits of configuration files. They are this project's own choice.
 
-/// The most receivers of a configuration.
+/// The most receivers that a configuration may have.
 pub const MAX_RECEIVERS: usize = 1024;
 
-/// The most routes of a configuration, the top-level route among them.
+/// The most routes that a configuration may have, with the top-level route.
 pub const MAX_ROUTES: usize = 1024;
 
-/// The most levels in which the routes of a configuration lie, the top-level route in the first.
+/// The most levels of routes that a configuration may have. The top-level route is the first level.
 pub const MAX_LEVELS: usize = 32;
 
-/// The most inhibition rules of a configuration.
+/// The most inhibition rules that a configuration may have.
 pub const MAX_RULES: usize = 1024;
 
-/// The most names in `equal` of an inhibition rule.
+/// The most names that an inhibition rule may have in `equal`.
 pub const MAX_EQUAL_NAMES: usize = 64;
 
-/// The most positions of a path: one for each level below the first.
+/// The most positions that a path may have: one for each level below the first.
 pub const MAX_PATH_STEPS: usize = MAX_LEVELS - 1;
 
-/// The largest position of a child: that of the last one where every route but the top-level route
-/// is its child.
+/// The largest position that a child may have: that of the last child of the top-level route, if
+/// all other routes are its children.
 pub const MAX_CHILD_POSITION: usize = MAX_ROUTES - 2;

@@ -1,4 +1,4 @@
-//! Paths: which route of a configuration is meant.
+//! Paths, which say which route of a configuration is meant.
 
 ghost use Rattle.std.specs.Prelude.{◌≡◌, ◌≢◌, ◌<◌, ◌≤◌, ◌⊎◌, ℕ, List, [], ◌∷◌, ◌++◌, length};
 ghost use Rattle.std.specs.Prelude.{slice_index, IfOk, IfErr, MatchOption};
@@ -12,8 +12,9 @@ use crate::limits::{MAX_CHILD_POSITION, MAX_PATH_STEPS};
 use am_universe::{Kind, Positions, Sink, put_all, put_str};
 use std::marker::Model;
 
-/// The way from the top-level route down to a route: the positions of children, at most
-/// [`MAX_PATH_STEPS`]. Positions count from 0.
+/// The way from the top-level route down to a route.
+///
+/// It consists of at most [`MAX_PATH_STEPS`] positions of children, which count from 0.
 #[derive(Clone, Copy, PartialEq, Eq, Debug)]
 pub struct Path {
     steps: Positions,
@@ -42,7 +43,8 @@ impl Path {
         }
     }
 
-    /// The path of a child of this route.
+    /// The path of the child at this position. This path must have fewer than [`MAX_PATH_STEPS`]
+    /// positions.
     pub fn child(&self, position: u16) -> Path
         requires room { length self.now < MAX_PATH_STEPS }
         ensures steps { result ≡ self.now ++ position ∷ [] }
@@ -60,7 +62,7 @@ impl Path {
         self.steps.len()
     }
 
-    /// The position at `i`.
+    /// The position at `i`, counted from the top.
     pub fn get(&self, i: usize) -> u16
         requires within { i < length self.now }
         ensures position { result ≡ slice_index self.now i }
@@ -68,18 +70,18 @@ impl Path {
         self.steps.get(i)
     }
 
-    /// The positions in a row.
+    /// The positions, from the top down.
     pub fn steps(&self) -> &[u16]
         ensures steps { result.now ≡ self.now }
     {
         self.steps.as_slice()
     }
 
-    /// The path with this text: `/` for the top-level route, else `/` and a position for each step,
-    /// in decimal and with no zero in front.
+    /// Reads the text of a path, as `/0/2`; that of the top-level route is `/`.
     ///
-    /// `QuestionSyntax` where no path has this text. `UnknownRoute` where one has it that is
-    /// longer, or has a larger position, than that of any route of a configuration.
+    /// Each position is written in decimal, without leading zeros. Fails with `QuestionSyntax` if
+    /// the text is not that of a path, and with `UnknownRoute` if the path is longer, or has a
+    /// larger position, than that of any route of any configuration.
     pub fn parse(text: &str) -> Result<Path, Kind>
         ensures ok { IfOk result (λ path. (path_text path ≡ text.now) × IsPath path) }
         ensures refused { IfErr result (λ kind.
@@ -99,15 +101,16 @@ impl Path {
         parse_steps(steps).ok_or(Kind::UnknownRoute)
     }
 
-    /// Whether this is the other path, or goes on from it.
+    /// Whether the other path is a prefix of this one, or the same.
     pub fn leads_through(&self, other: &Path) -> bool
         ensures leads { result ≡ leads_through other.now self.now }
     {
         self.steps().starts_with(other.steps())
     }
 
-    /// Writes the text of the path. The only `Err` is `Kind::Write`, after a part of that from its
-    /// front. No memory is taken.
+    /// Writes the text of the path.
+    ///
+    /// Fails only with `Kind::Write`; what was written is then a proper prefix. Takes no memory.
     #[tactic(auto, using(am_universe::proofs::Writing::steps))]
     pub fn write<W: Sink>(&self, out: &mut W) -> Result<(), Kind>
         ensures written { Writes W.taken W.failures out.old out.new (path_text self.now) result }
@@ -122,7 +125,7 @@ impl Path {
     }
 }
 
-/// Whether the text is a number in decimal, with no zero in front.
+/// Whether the text is a number in decimal, without leading zeros.
 fn is_numeral(text: &str) -> bool
     ensures { result ≡ same_text (numeral (digits_value 10 text.now)) text.now }
 {
@@ -133,7 +136,7 @@ fn is_numeral(text: &str) -> bool
     digits.iter().all(|byte| byte.is_ascii_digit())
 }
 
-/// The number that the text is in decimal, if it is the position of a child.
+/// The number that the text is in decimal, if a child may have it as its position.
 fn child_position(text: &str) -> Option<u16>
     ensures { (n : ℕ) → numeral n ≡ text.now → MatchOption result (MAX_CHILD_POSITION < n)
         (λ position. (position ≡ n) × (n ≤ MAX_CHILD_POSITION)) }
@@ -150,7 +153,7 @@ fn child_position(text: &str) -> Option<u16>
     }
 }
 
-/// The path of these positions, with a `/` between two, if there is such a path.
+/// Reads the positions of a path, with a `/` between two; `None` if no path has them.
 fn parse_steps(text: &str) -> Option<Path>
     ensures { (path : List ℕ) → 0 < length path → path_text path ≡ 47 ∷ text.now
         → MatchOption result (IsPath path → ⊥) (λ read. (read ≡ path) × IsPath path) }
@@ -166,7 +169,7 @@ fn parse_steps(text: &str) -> Option<Path>
     Some(path)
 }
 
-/// Writes a position on the way.
+/// Writes one position, with a `/` before it.
 #[tactic(auto, using(am_universe::proofs::Writing::steps, crate::proofs::Numerals::decimal_steps))]
 fn write_step<W: Sink>(position: u16, out: &mut W) -> Result<(), Kind>
     ensures written { Writes W.taken W.failures out.old out.new (step_text position) result }

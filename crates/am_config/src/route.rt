@@ -1,43 +1,77 @@
 //! Routes, as they are kept in memory.
 
+// The module of words stands on these types, so their own words come from where they stand.
 ghost use Rattle.std.specs.Prelude.{◌≡◌, map};
 ghost use Rattle.am_config.specs.ConfigFile.{matchers_of, continues_of, receiver_of, children_of};
 ghost use Rattle.am_config.specs.ConfigFile.{routes_of};
 ghost use Rattle.am_config.specs.RouteView.{route_view};
 
 use am_labels::Matchers;
+use std::marker::Model;
 
-/// A route of a configuration. An alert that it matches is handled by it, or below it.
+/// What a route says of itself.
 #[derive(Drop)]
-pub struct Route {
+pub struct RouteSettings {
     pub(crate) receiver: usize,
     pub(crate) matchers: Matchers,
     pub(crate) continues: bool,
+}
+
+impl Model for RouteSettings {
+    ghost use Rattle.am_config.specs.ConfigFile as spec;
+
+    ghost Value = { spec.RouteSettings };
+
+    ghost view = { λ s. record {
+      receiver = s.receiver;
+      matchers = s.matchers;
+      continues = s.continues;
+    } };
+}
+
+impl RouteSettings {
+    pub(crate) fn receiver(&self) -> usize
+        ensures { result ≡ self.now.receiver }
+    {
+        self.receiver
+    }
+}
+
+/// A route of a configuration (Alertmanager configuration reference 0.25, `<route>`).
+///
+/// If the route is tried for an alert and matches it, the route itself or routes below it handle
+/// the alert.
+#[derive(Drop)]
+pub struct Route {
+    pub(crate) settings: RouteSettings,
     pub(crate) routes: Vec<Route>,
 }
 
 impl Route {
-    /// The matchers, all of which an alert has to match: those of `matchers`, then those of `match`
-    /// and of `match_re`, each by the bytes of their names.
+    /// The matchers, all of which an alert has to match.
+    ///
+    /// They are those of `matchers`, in their order, then those of `match` and then those of
+    /// `match_re`, both in the order of the bytes of their names.
     pub fn matchers(&self) -> &Matchers
         ensures matchers { result.now ≡ matchers_of (route_view self.now) }
     {
-        &self.matchers
+        &self.settings.matchers
     }
 
-    /// Whether later siblings are tried after it. On the top-level route it means nothing.
+    /// Whether later siblings are tried after it (`continue`). It has no effect on the top-level
+    /// route.
     pub fn continues(&self) -> bool
         ensures continues { result ≡ continues_of (route_view self.now) }
     {
-        self.continues
+        self.settings.continues
     }
 
-    /// The position of its receiver among those of the configuration: of the one that it names, or
-    /// of its parent's.
+    /// The position of its receiver in the configuration. A route that names none has that of its
+    /// parent.
     pub fn receiver(&self) -> usize
         ensures receiver { result ≡ receiver_of (route_view self.now) }
     {
-        self.receiver
+        self.settings.receiver()
     }
 
     /// Its children, in the order of the file.

@@ -1,4 +1,4 @@
-//! The matchers of three fields of an object, one behind the other, as a route has them.
+//! Reading the matchers of a route, or of one side of a rule, from three fields.
 
 ghost use Rattle.std.specs.Prelude.{◌≡◌, ◌≢◌, [], ◌∷◌, map, option_map, Err, IsErrAnd};
 ghost use Rattle.am_universe.specs.declared.kind.Kind.TheVariants as kinds;
@@ -6,16 +6,17 @@ ghost use Rattle.am_json.specs.declared.read_error.ReadError.TheVariants as erro
 ghost use Rattle.serde_json.specs.View.{view};
 ghost use Rattle.am_json.specs.Pointer.{to_item};
 ghost use Rattle.am_json.specs.Reading.{Gives, IsRefusalOrMemory};
-ghost use Rattle.am_list_files.specs.MatcherTexts.{read_matcher_text, text_refusal};
+ghost use Rattle.am_list_files.specs.MatcherTexts.{matcher_text_form, text_refusal};
 ghost use Rattle.am_config.specs.ConfigView.{matcher_fields_view};
-ghost use Rattle.am_config.specs.ConfigReading.{read_matchers, optional_texts, read_texts};
-ghost use Rattle.am_config.specs.ConfigReading.{read_matcher_texts, read_next_matcher_text};
-ghost use Rattle.am_config.specs.ConfigReading.{append_matchers, optional_pairs, read_pairs};
-ghost use Rattle.am_config.specs.ConfigReading.{read_next_pair, read_matcher_pair};
-ghost use Rattle.am_config.specs.ConfigReading.{refuse_root_matchers};
+ghost use Rattle.am_config.specs.ConfigForm.{matchers_form, optional_texts, texts_form};
+ghost use Rattle.am_config.specs.ConfigForm.{each_text_form, next_text_form};
+ghost use Rattle.am_config.specs.ConfigForm.{append_matchers, optional_pairs, pairs_form};
+ghost use Rattle.am_config.specs.ConfigForm.{next_pair_form, matcher_pair_form};
+ghost use Rattle.am_config.specs.ConfigForm.{refuse_root_matchers};
 
 use am_json::{
-    ReadError, as_items, as_object, as_text, field, read_each_member, within_field, within_item,
+    ReadError, as_items, as_object, as_text, field, or_refused, read_each_member, within_field,
+    within_item,
 };
 use am_labels::{Matcher, Matchers, Op, parse_matchers};
 use am_list_files::{new_matcher, read_named_text};
@@ -32,8 +33,8 @@ pub(crate) struct MatcherFields<'n> {
     pub(crate) patterns: &'n str,
 }
 
-/// The matchers of the three fields, one behind the other.
-#[tactic(auto, using(am_json::proofs::Readings::steps), unfolding(crate::specs::ConfigReading::read_matchers))]
+/// Reads the matchers of the three fields, one field after the other.
+#[tactic(auto, using(am_json::proofs::Readings::steps), unfolding(crate::specs::ConfigForm::matchers_form))]
 pub(crate) fn read_matchers(
     alloc: Global,
     fields: MatcherFields<'_>,
@@ -41,7 +42,7 @@ pub(crate) fn read_matchers(
     value: &Value,
 ) -> Result<Matchers, ReadError>
     ensures { Gives (λ ms. ms) result
-        (read_matchers (matcher_fields_view fields.entry) is_root (view value.now)) }
+        (matchers_form (matcher_fields_view fields.entry) is_root (view value.now)) }
 {
     let MatcherFields {
         texts,
@@ -71,9 +72,9 @@ fn optional_texts(
     }
 }
 
-#[tactic(auto, using(am_json::proofs::Readings::steps), unfolding(crate::specs::ConfigReading::read_texts))]
+#[tactic(auto, using(am_json::proofs::Readings::steps), unfolding(crate::specs::ConfigForm::texts_form))]
 fn read_texts(alloc: Global, is_root: bool, value: &Value) -> Result<Matchers, ReadError>
-    ensures { Gives (λ ms. ms) result (read_texts is_root (view value.now)) }
+    ensures { Gives (λ ms. ms) result (texts_form is_root (view value.now)) }
 {
     let items = as_items(alloc, value)?;
     let found = read_each_text(alloc, items)?;
@@ -81,33 +82,34 @@ fn read_texts(alloc: Global, is_root: bool, value: &Value) -> Result<Matchers, R
 }
 
 fn read_each_text(alloc: Global, items: &[Value]) -> Result<Matchers, ReadError>
-    ensures { Gives (λ ms. ms) result (read_matcher_texts (map view items.now)) }
+    ensures { Gives (λ ms. ms) result (each_text_form (map view items.now)) }
 {
-    let mut found = Matchers::empty(alloc);
+    let mut all = Matchers::empty(alloc);
     for (i, item) in items.iter().enumerate() {
-        found = read_next_matcher_text(alloc, found, i, item)?;
+        all = read_next_matcher_text(alloc, all, i, item)?;
     }
-    Ok(found)
+    Ok(all)
 }
 
-/// The matchers of a text, which stands at this position, behind others.
-#[tactic(auto, using(am_json::proofs::Readings::steps), unfolding(crate::specs::ConfigReading::read_next_matcher_text))]
+/// Adds the matchers of a text, which is at this position, to those before it.
+#[tactic(auto, using(am_json::proofs::Readings::steps), unfolding(crate::specs::ConfigForm::next_text_form))]
 fn read_next_matcher_text(
     alloc: Global,
     before: Matchers,
     i: usize,
     item: &Value,
 ) -> Result<Matchers, ReadError>
-    ensures { Gives (λ ms. ms) result (read_next_matcher_text before (i, view item.now)) }
+    ensures { Gives (λ ms. ms) result (next_text_form before (i, view item.now)) }
 {
     let text = within_item(alloc, i, as_text(alloc, item))?;
     let more = read_matcher_text_at(alloc, i, text)?;
     append_matchers(alloc, before, more)
 }
 
-/// The matchers of a text. Its limit is refused at the array, and any other fault at the text.
+/// Reads the matchers of a text. Too many are refused at the array, and any other fault at the
+/// text.
 fn read_matcher_text_at(alloc: Global, i: usize, text: &str) -> Result<Matchers, ReadError>
-    ensures { Gives (λ ms. ms) result (read_matcher_text (to_item i) [] text.now) }
+    ensures { Gives (λ ms. ms) result (matcher_text_form (to_item i) [] text.now) }
 {
     match parse_matchers(alloc, text) {
         Ok(found) => Ok(found),
@@ -127,15 +129,13 @@ fn refuse_text(alloc: Global, i: usize, kind: Kind) -> Result<Matchers, ReadErro
     }
 }
 
-/// Both lists, one behind the other.
+/// Adds the second list to the first.
 fn append_matchers(alloc: Global, before: Matchers, more: Matchers) -> Result<Matchers, ReadError>
     ensures { Gives (λ ms. ms) result (append_matchers before more) }
 {
     let mut all = before;
-    match all.append(more) {
-        Ok(()) => Ok(all),
-        Err(kind) => Err(ReadError::refused(alloc, kind)),
-    }
+    or_refused(alloc, all.append(more))?;
+    Ok(all)
 }
 
 #[tactic(auto, using(am_json::proofs::Readings::steps))]
@@ -156,7 +156,7 @@ fn optional_pairs(
     }
 }
 
-#[tactic(auto, using(am_json::proofs::Readings::steps), unfolding(crate::specs::ConfigReading::read_pairs))]
+#[tactic(auto, using(am_json::proofs::Readings::steps), unfolding(crate::specs::ConfigForm::pairs_form))]
 fn read_pairs(
     alloc: Global,
     is_root: bool,
@@ -164,7 +164,7 @@ fn read_pairs(
     before: Matchers,
     value: &Value,
 ) -> Result<Matchers, ReadError>
-    ensures { Gives (λ ms. ms) result (read_pairs is_root op before (view value.now)) }
+    ensures { Gives (λ ms. ms) result (pairs_form is_root op before (view value.now)) }
 {
     let members = as_object(alloc, value)?;
     let found = read_each_member(before, members, |before, name, value| {
@@ -173,7 +173,7 @@ fn read_pairs(
     refuse_root_matchers(alloc, is_root, found)
 }
 
-#[tactic(auto, using(am_json::proofs::Readings::steps), unfolding(crate::specs::ConfigReading::read_next_pair))]
+#[tactic(auto, using(am_json::proofs::Readings::steps), unfolding(crate::specs::ConfigForm::next_pair_form))]
 fn read_next_pair(
     alloc: Global,
     op: Op,
@@ -181,33 +181,31 @@ fn read_next_pair(
     name: &str,
     value: &Value,
 ) -> Result<Matchers, ReadError>
-    ensures { Gives (λ ms. ms) result (read_next_pair op before (name.now, view value.now)) }
+    ensures { Gives (λ ms. ms) result (next_pair_form op before (name.now, view value.now)) }
 {
     let matcher = within_field(alloc, name, read_matcher_pair(alloc, op, name, value))?;
     push_matcher(alloc, before, matcher)
 }
 
-/// The list with a matcher behind it.
+/// Adds a matcher to the list.
 fn push_matcher(alloc: Global, before: Matchers, matcher: Matcher) -> Result<Matchers, ReadError>
     ensures { Gives (λ ms. ms) result (append_matchers before (matcher ∷ [])) }
 {
     let mut all = before;
-    match all.push(matcher) {
-        Ok(()) => Ok(all),
-        Err(kind) => Err(ReadError::refused(alloc, kind)),
-    }
+    or_refused(alloc, all.push(matcher))?;
+    Ok(all)
 }
 
-/// The matcher of a name and a text.
-#[tactic(auto, using(am_json::proofs::Readings::steps), unfolding(crate::specs::ConfigReading::read_matcher_pair))]
+/// Makes the matcher of a name and a text.
+#[tactic(auto, using(am_json::proofs::Readings::steps), unfolding(crate::specs::ConfigForm::matcher_pair_form))]
 fn read_matcher_pair(alloc: Global, op: Op, name: &str, value: &Value) -> Result<Matcher, ReadError>
-    ensures { Gives (λ m. m) result (read_matcher_pair op name.now (view value.now)) }
+    ensures { Gives (λ m. m) result (matcher_pair_form op name.now (view value.now)) }
 {
     let text = read_named_text(alloc, name, value)?;
     new_matcher(alloc, name, op, text)
 }
 
-/// The top-level route has no matchers.
+/// Refuses matchers on the top-level route.
 fn refuse_root_matchers(
     alloc: Global,
     is_root: bool,

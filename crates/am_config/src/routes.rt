@@ -1,4 +1,4 @@
-//! The routes of a configuration, one after another.
+//! All routes of a configuration, with their paths.
 
 ghost use Rattle.std.specs.Prelude.{◌≡◌, ◌<◌, ◌≤◌, ◌+◌, ◌++◌, length, map, IfOk, OnOk};
 ghost use Rattle.am_config.specs.declared.limits.TheConstants.{MAX_LEVELS, MAX_ROUTES};
@@ -14,7 +14,7 @@ use crate::path::Path;
 use crate::route::Route;
 use std::alloc::{AllocError, Global};
 
-/// Routes of a configuration, one after another, and their paths, in the same order.
+/// Routes of a configuration, and their paths in the same order.
 #[derive(Drop)]
 pub struct RouteList<'c> {
     pub paths: Vec<Path>,
@@ -22,8 +22,10 @@ pub struct RouteList<'c> {
 }
 
 impl Config {
-    /// All routes in preorder: each route before those below it, and these before its next sibling.
-    /// An `Err` only where memory was refused.
+    /// Returns all routes in preorder: each route before its children, and these before its next
+    /// sibling.
+    ///
+    /// Fails only if memory runs out.
     pub fn routes(&self, alloc: Global) -> Result<RouteList<'_>, AllocError>
         ensures routes { IfOk result (AreListed (all_routes (config_view self.now))) }
     {

@@ -7,9 +7,11 @@ ghost use Rattle.am_config.specs.RouteView.{names_of};
 use am_labels::Matchers;
 use std::marker::Model;
 
-/// An inhibition rule: while an alert fires that its source side matches, it mutes the alerts that
-/// its target side matches and that have the same values as that one for the labels in `equal`. An
-/// alert that both sides match is not muted by another that both sides match.
+/// An inhibition rule (Alertmanager configuration reference 0.25, `<inhibit_rule>`).
+///
+/// While an alert fires that matches the source side, the rule mutes the alerts that match the
+/// target side and have the same values for the labels in `equal`. If both alerts match both sides,
+/// neither mutes the other.
 #[derive(Drop)]
 pub struct Rule {
     pub(crate) source: Matchers,
@@ -31,25 +33,29 @@ impl Model for Rule {
 }
 
 impl Rule {
-    /// The matchers of the source side: an alert inhibits by this rule only where it matches all of
-    /// them. They are those of `source_matchers`, then those of `source_match` and of
-    /// `source_match_re`, each by the bytes of their names.
+    /// The matchers of the source side. An alert inhibits by this rule only if it matches all of
+    /// them.
+    ///
+    /// They are those of `source_matchers`, in their order, then those of `source_match` and then
+    /// those of `source_match_re`, both in the order of the bytes of their names.
     pub fn source(&self) -> &Matchers
         ensures source { result.now ≡ self.now.source }
     {
         &self.source
     }
 
-    /// The matchers of the target side, in the same order: an alert is inhibited by this rule only
-    /// where it matches all of them.
+    /// The matchers of the target side, in the same order. An alert is inhibited by this rule only
+    /// if it matches all of them.
     pub fn target(&self) -> &Matchers
         ensures target { result.now ≡ self.now.target }
     {
         &self.target
     }
 
-    /// The names of the labels that have to have the same value in both alerts, in the order of the
-    /// file. A name may stand twice.
+    /// The names of the labels that must have the same value in both alerts, in the order of the
+    /// file.
+    ///
+    /// A name may occur twice.
     pub fn equal(&self) -> &[String]
         ensures equal { names_of result.now ≡ self.now.equal }
     {

@@ -9,14 +9,14 @@ use Rattle.am_labels.specs.Space.{Space}
 use Rattle.am_json.specs.Pointer.{Refusal}
 use Rattle.am_json.proofs.FormLaws.{says_no_fault}
 use Rattle.am_list_files.specs.UniverseFile.{FileSaysUniverse}
-use Rattle.am_list_files.specs.UniverseFaults.{UniverseFileRefusedFor}
+use Rattle.am_list_files.specs.UniverseForm.{UniverseFileRefusedFor}
 use Rattle.am_list_files.specs.SilencesFile.{Silence}
-use Rattle.am_list_files.proofs.UniverseFaultLemmas.{universe_laws}
-use Rattle.am_list_files.proofs.SilencesFaultLemmas.{silences_laws}
-use Rattle.am_list_files.proofs.AlertsFaultLemmas.{alerts_laws}
+use Rattle.am_list_files.proofs.UniverseLaws.{universe_file_laws}
+use Rattle.am_list_files.proofs.SilencesLaws.{silences_file_laws}
+use Rattle.am_list_files.proofs.AlertsLaws.{alerts_file_laws}
 use Rattle.am_config.specs.ConfigFile.{Configuration, FileSaysConfig}
-use Rattle.am_config.specs.ConfigFaults.{ConfigFileRefusedFor}
-use Rattle.am_config.proofs.ConfigFaultLemmas.{config_laws}
+use Rattle.am_config.specs.ConfigForm.{ConfigFileRefusedFor}
+use Rattle.am_config.proofs.ConfigLaws.{config_file_laws}
 use Rattle.am_eval.specs.World.{World}
 use Rattle.am_eval.specs.Pairs.{pairs_of}
 use Rattle.am_eval.specs.Files.{config_of, SaysSilencesIfAny, SaysAlertsIfAny}
@@ -32,44 +32,44 @@ use Rattle.am_eval.proofs.SetRefusals.{set_accepted}
 
 pub universe_accepted : (bytes : List ℕ) (s : Space) (r : Refusal) → FileSaysUniverse bytes s
     → UniverseFileRefusedFor bytes r → r.kind ≡ kinds.Pattern
-universe_accepted = universe_laws.accepted
+universe_accepted = universe_file_laws.accepted
 
 pub config_accepted : (bytes : List ℕ) (c : Configuration) (r : Refusal) → FileSaysConfig bytes c
     → ConfigFileRefusedFor bytes r → r.kind ≡ kinds.Pattern
-config_accepted = config_laws.accepted
+config_accepted = config_file_laws.accepted
 
 silences_accepted : (file : Option (List ℕ)) (silences : List Silence) (r : Refusal)
     → SaysSilencesIfAny file silences → SilencesRefusedFor file r → r.kind ≡ kinds.Pattern
 silences_accepted None silences r said refused = absurd refused
 silences_accepted (Some bytes) silences r said refused =
-    silences_laws.accepted bytes silences r said refused
+    silences_file_laws.accepted bytes silences r said refused
 
 alerts_accepted : (file : Option (List ℕ)) (alerts : List LabelMap) (r : Refusal)
     → SaysAlertsIfAny file alerts → AlertsRefusedFor file r → ⊥
 alerts_accepted None alerts r said refused = refused
 alerts_accepted (Some bytes) alerts r said refused =
-    says_no_fault alerts_laws.file bytes alerts r said refused
+    says_no_fault alerts_file_laws bytes alerts r said refused
 
 -- a file says one space, one configuration, one list of alerts, and one of silences
 pub one_space : (bytes : List ℕ) (s t : Space) → FileSaysUniverse bytes s
     → FileSaysUniverse bytes t → s ≡ t
-one_space = universe_laws.file.one
+one_space = universe_file_laws.exact.one
 
 pub one_configuration : (bytes : List ℕ) (c d : Configuration) → FileSaysConfig bytes c
     → FileSaysConfig bytes d → c ≡ d
-one_configuration = config_laws.file.one
+one_configuration = config_file_laws.exact.one
 
 pub alerts_once : (file : Option (List ℕ)) (alerts others : List LabelMap)
     → SaysAlertsIfAny file alerts → SaysAlertsIfAny file others → alerts ≡ others
 alerts_once None alerts others said again = said ∙ sym again
 alerts_once (Some bytes) alerts others said again =
-    alerts_laws.file.one bytes alerts others said again
+    alerts_file_laws.exact.one bytes alerts others said again
 
 silences_once : (file : Option (List ℕ)) (silences others : List Silence)
     → SaysSilencesIfAny file silences → SaysSilencesIfAny file others → silences ≡ others
 silences_once None silences others said again = said ∙ sym again
 silences_once (Some bytes) silences others said again =
-    silences_laws.file.one bytes silences others said again
+    silences_file_laws.exact.one bytes silences others said again
 
 -- ---- Worlds.
 

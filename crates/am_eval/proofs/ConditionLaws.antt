@@ -1,10 +1,14 @@
--- A simple part of a question is true exactly where its condition is.
+-- A simple part of a question is true exactly where its condition is; and a property is one where
+-- what hides an alert is.
 use Rattle.std.proofs.Common.{◌≡◌, Bool, true, false, ◌&&◌, ◌||◌, refl}
 use Rattle.am_universe.specs.LabelSet.{LabelMap}
 use Rattle.am_labels.specs.Matcher.{all_hold}
 use Rattle.am_eval.specs.World.{World}
 use Rattle.am_eval.specs.declared.property.Property.TheVariants.{Any, Silenced, Inhibited}
-use Rattle.am_eval.specs.Question.{Simple, Is, Receiver, Route, Braces, holds_of}
+use Rattle.am_eval.specs.declared.property.Property.{Property}
+use Rattle.am_eval.specs.Silencing.{is_silenced}
+use Rattle.am_eval.specs.Inhibition.{is_inhibited}
+use Rattle.am_eval.specs.Question.{Simple, Is, Receiver, Route, Braces, has_property, holds_of}
 use Rattle.am_eval.specs.Conditions.{literal_holds, some_way_holds, conditions_of}
 use Rattle.am_eval.proofs.RouteConditions.{route_condition, receiver_condition}
 use Rattle.am_eval.proofs.HidingConditions.{silenced_condition, inhibited_condition}
@@ -21,3 +25,10 @@ exactly w s (Is Inhibited) = inhibited_condition w s
 exactly w s (Receiver receiver) = receiver_condition w s receiver
 exactly w s (Route reach path) = route_condition w s reach path
 exactly w s (Braces matchers) = one_list (all_hold s matchers)
+
+pub same_property : (w v : World) (s t : LabelMap) (property : Property)
+    → is_silenced w s ≡ is_silenced v t → is_inhibited w s ≡ is_inhibited v t
+    → has_property w property s ≡ has_property v property t
+same_property w v s t Silenced silenced inhibited = silenced
+same_property w v s t Inhibited silenced inhibited = inhibited
+same_property w v s t _ silenced inhibited = refl

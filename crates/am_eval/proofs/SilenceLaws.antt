@@ -24,9 +24,10 @@ use Rattle.am_eval.specs.Silencing.{is_active, hides, is_silenced, positions_whe
 use Rattle.am_eval.specs.Silencing.{at_instant, IsSteady}
 use Rattle.am_eval.specs.Tree.{Part, Not, And, Or}
 use Rattle.am_eval.specs.Inhibition.{inhibits}
-use Rattle.am_eval.specs.declared.property.Property.TheVariants.{Any, Silenced, Inhibited}
+use Rattle.am_eval.specs.declared.property.Property.TheVariants.{Silenced}
 use Rattle.am_eval.specs.Question.{Question, Simple, Is, Receiver, Route, Braces, holds_of}
 use Rattle.am_eval.specs.Question.{reaches, satisfies, answers}
+use Rattle.am_eval.proofs.ConditionLaws.{same_property}
 use Rattle.am_eval.proofs.HidingConditions.{silenced_condition}
 use Rattle.am_eval.proofs.ListTests.{some_passes, passes_among, one_of}
 use Rattle.am_eval.proofs.PairLemmas.{Numbers, numbers_ascend}
@@ -132,14 +133,13 @@ AreSame w v =
 
 same_part : (w v : World) (s : LabelMap) (simple : Simple) → AreSame w v
     → holds_of w simple s ≡ holds_of v simple s
-same_part w v s (Is Any) same = refl
-same_part w v s (Is Silenced) same =
-    silenced_condition w s
+same_part w v s (Is property) same =
+    same_property w v s s property
+    (silenced_condition w s
     ∙ ap (λ active. some_way_holds (literal_holds s)
     (map (λ (silence : Silence). matching silence.matchers ∷ []) active)) same.2
-    ∙ sym (silenced_condition v s)
-same_part w v s (Is Inhibited) same =
-    λ i. list_any (λ rule. list_any (λ a. inhibits rule a s) (same.1 i)) (same.0 i).rules
+    ∙ sym (silenced_condition v s))
+    (λ i. list_any (λ rule. list_any (λ a. inhibits rule a s) (same.1 i)) (same.0 i).rules)
 same_part w v s (Receiver receiver) same =
     ap (λ c. list_any (λ other. other == receiver) (receivers s c)) same.0
 same_part w v s (Route reach path) same = ap (λ c. list_any (reaches reach path) (ends s c)) same.0

@@ -3,7 +3,7 @@ use Rattle.std.specs.Prelude.{ℕ, ℤ, List, Option, Some, None, option_and_the
 use Rattle.am_universe.specs.declared.kind.Kind.{Kind}
 use Rattle.am_universe.specs.declared.kind.Kind.TheVariants as kinds
 use Rattle.am_list_files.specs.Instant.{instant_of}
-use Rattle.am_list_files.specs.SilencesFaults.{time_fault}
+use Rattle.am_list_files.specs.Instant.{time_fault}
 
 -- The instant that is asked about, where there is a text that says one.
 abbrev pub asked_instant : Option (List ℕ) → Option ℤ

@@ -53,6 +53,10 @@ explanation_text c set ends silencers inhibitors =
 -- The world is accepted, the words are those of the label set, and the text explains the set by all
 -- its ends in the world, all silences that hide it there, and all rules and alerts that inhibit it
 -- there.
+-- Source: own choice.
+-- Example: where the top-level route stands alone and has the receiver `a`, and there are no
+-- silences and no alerts, the text for the words `team=db` is the lines `{team="db"}` and
+-- `end / "a"`.
 pub record ExplainsSet (files : Files) (words : List (List ℕ)) (text : List ℕ) : Type 0 where
   pub world : World
   pub set : LabelMap

@@ -10,12 +10,12 @@ use Rattle.am_labels.specs.Space.{Space}
 use Rattle.am_json.specs.Pointer.{Refusal, refusal_here}
 use Rattle.am_json.specs.Reading.{refusal_of}
 use Rattle.am_list_files.specs.UniverseFile.{FileSaysUniverse}
-use Rattle.am_list_files.specs.UniverseFaults.{UniverseFileRefusedFor}
+use Rattle.am_list_files.specs.UniverseForm.{UniverseFileRefusedFor}
 use Rattle.am_config.specs.ConfigFile.{Configuration, FileSaysConfig}
-use Rattle.am_config.specs.ConfigFaults.{ConfigFileRefusedFor}
+use Rattle.am_config.specs.ConfigForm.{ConfigFileRefusedFor}
 use Rattle.am_list_files.specs.SilencesFile.{Silence}
-use Rattle.am_list_files.specs.SilencesFaults.{SilencesFileRefusedFor}
-use Rattle.am_list_files.specs.AlertsFaults.{IsFirstFaultOfAlertsFile}
+use Rattle.am_list_files.specs.SilencesForm.{SilencesFileRefusedFor}
+use Rattle.am_list_files.specs.AlertsForm.{IsFirstFaultOfAlertsFile}
 use Rattle.am_eval.specs.declared.limits.TheConstants.{MAX_PAIRS}
 use Rattle.am_eval.specs.Pairs.{pairs_of}
 use Rattle.am_eval.specs.Files.{SaysSilencesIfAny, SaysAlertsIfAny}
@@ -30,6 +30,9 @@ pub record Stage : Type 1 where
 
 -- The first fault of a call whose stages come in this order, unless memory runs out: one stage
 -- refuses its input for it, and every earlier stage accepts its own.
+-- Source: own choice.
+-- Example: where both files of `dead` are `{`, the first fault is the `not-json` of the universe
+-- file.
 abbrev pub IsFirstFaultOfCall : List Stage → Place → Refusal → Type 0
 IsFirstFaultOfCall [] place r = ⊥
 IsFirstFaultOfCall (stage ∷ later) place r =

@@ -9,48 +9,48 @@ use Rattle.am_eval.specs.declared.pair.Pair.{Pair}
 use Rattle.am_eval.specs.World.{World}
 use Rattle.am_eval.specs.Silencing.{positions_where}
 
--- Two alerts have the same values for these labels.
+-- Two alerts have the same value for each of these labels.
 -- Source: Alertmanager configuration reference 0.25, "<inhibit_rule>": `equal`; a missing label and
 -- a label with an empty value are the same thing.
--- Example: `{team="db"}` and `{team="db",severity="warning"}` have the same value for `team` and
--- for `region`, and not for `severity`.
+-- Example: `{team="db"}` and `{team="db",severity="warning"}` have the same value for `team`, and
+-- for `region`, which both lack, but not for `severity`.
 abbrev pub have_equal : List (List ℕ) → LabelMap → LabelMap → Bool
 have_equal names a s = list_all (λ name. same_text (value_of a name) (value_of s name)) names
 
--- An alert is two-sided for a rule: its source side and its target side match it. A side without
--- matchers matches every alert.
+-- An alert is two-sided for a rule: both sides of the rule match it. A side without matchers
+-- matches every alert.
 -- Source: Alertmanager configuration reference 0.25, "<inhibit_rule>".
--- Example: where both sides ask for the team `db`, an alert of that team is two-sided.
+-- Example: if both sides ask for the team `db`, an alert of that team is two-sided.
 abbrev pub is_two_sided : Rule → LabelMap → Bool
 is_two_sided rule s = all_hold s rule.source && all_hold s rule.target
 
--- By a rule, a firing alert inhibits another: the source side matches the one that fires, the
--- target side matches the other, they have the same values for the labels in `equal`, and they are
--- not both two-sided.
+-- By a rule, a firing alert inhibits another: the source side matches the firing alert, the target
+-- side matches the other, both have the same values for the labels in `equal`, and they are not
+-- both two-sided.
 -- Source: Alertmanager configuration reference 0.25, "<inhibit_rule>": both have the same values
 -- for the names in `equal`, and an alert that matches both sides cannot be inhibited by alerts for
 -- which the same is true, itself included.
--- Example: where the source side asks for the severity `critical` and the target side for
--- `warning`, and `equal` has `team`, a critical alert of the team `db` inhibits a warning of that
--- team, and none of the team `web`. Where both sides ask for any severity, it inhibits neither.
+-- Example: let the source side ask for the severity `critical`, the target side for `warning`, and
+-- let `equal` have `team`. Then a critical alert of the team `db` inhibits a warning of that team,
+-- and no warning of the team `web`. If both sides ask for any severity, it inhibits neither.
 abbrev pub inhibits : Rule → LabelMap → LabelMap → Bool
 inhibits rule a s =
     all_hold a rule.source && all_hold s rule.target && have_equal rule.equal a s
     && not (is_two_sided rule a && is_two_sided rule s)
 
--- An alert is inhibited: by some rule, some firing alert inhibits it. Every alert of the alerts
--- that are handed in counts as firing.
+-- An alert is inhibited: by some rule, some firing alert inhibits it. Each alert of the file counts
+-- as firing.
 -- Source: Alertmanager configuration reference 0.25, "<inhibit_rule>". Own choice: an alert that is
--- silenced or inhibited itself inhibits as any other.
--- Example: where no alert fires, or there is no rule, no alert is inhibited.
+-- silenced or inhibited itself still inhibits others.
+-- Example: if no alert fires, or there is no rule, no alert is inhibited.
 abbrev pub is_inhibited : World → LabelMap → Bool
 is_inhibited w s = list_any (λ rule. list_any (λ a. inhibits rule a s) w.alerts) w.config.rules
 
--- What inhibits an alert: the rules and the firing alerts that do so by them, by their positions,
--- rule by rule, and for each rule alert by alert.
+-- What inhibits an alert: a rule and a firing alert that inhibits it by this rule, each by its
+-- position. They stand rule by rule, and for each rule alert by alert.
 -- Source: own choice.
--- Example: where by the second rule the first and the third alert inhibit an alert, and no other
--- does, its inhibitors are 1 0 and 1 2.
+-- Example: let the first and the third alert inhibit an alert by the second rule, and let there be
+-- no others. Then its inhibitors are 1 0 and 1 2.
 abbrev pub inhibitors : World → LabelMap → List (ℕ × ℕ)
 inhibitors w s =
     flat_map

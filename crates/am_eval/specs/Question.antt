@@ -17,21 +17,25 @@ use Rattle.am_eval.specs.Silencing.{is_silenced}
 use Rattle.am_eval.specs.Inhibition.{is_inhibited}
 use Rattle.am_eval.specs.Tree.{Tree, Part, Not, And, Or}
 
--- A simple part: a property of the alert; a receiver, by its position; a route, by its path, and
--- how it is reached; a list of matchers.
+-- A simple part of a question: a property of the alert; a receiver, by its position; a route, by
+-- its path, and how the alert reaches it; or a list of matchers in braces.
+-- Source: own choice.
+-- Example: `silenced` is a property. `receiver a` is the receiver at position 0 if `a` is the first
+-- of the file. `enters /2` is the route at the path 2, and an alert reaches it if it ends there or
+-- below it.
 pub data Simple : Type 0 where
   Is : Property → Simple
   Receiver : ℕ → Simple
   Route : Reach → List ℕ → Simple
   Braces : List Condition → Simple
 
--- A question about a world.
+-- A question about a world: simple parts, joined by `not`, `and` and `or`.
 abbrev pub Question : Type 0
 Question = Tree Simple
 
--- The truth of a property on a label set: any has the first; a silence hides the alert; a firing
--- alert inhibits it. And whether an alert that ends at one path reaches the route at another: the
--- same, or also one above.
+-- A label set has a property: each has `any`, one that a silence hides has `silenced`, and one that
+-- a firing alert inhibits has `inhibited`. And an alert that ends at one path reaches the route at
+-- another: for `ends` the two are the same, and for `enters` the route may also stand above.
 abbrev pub has_property : World → Property → LabelMap → Bool
 has_property w Any s = true
 has_property w Silenced s = is_silenced w s
@@ -41,18 +45,18 @@ abbrev pub reaches : Reach → List ℕ → List ℕ → Bool
 reaches Ends path end = same_text end path
 reaches Enters path end = leads_through path end
 
--- The truth of a simple part on a label set. A receiver or a route that the configuration does not
--- have makes it false.
+-- A simple part is true of a label set. A part about a receiver or a route that the configuration
+-- does not have is false.
 -- Source: own choice.
--- Example: where an alert ends at `/0/1` alone, `ends /0/1`, `enters /0/1` and `enters /0` are
--- true, and `ends /0` is not.
+-- Example: if an alert ends at `/0/1` alone, `ends /0/1`, `enters /0/1` and `enters /0` are true,
+-- and `ends /0` is false.
 abbrev pub holds_of : World → Simple → LabelMap → Bool
 holds_of w (Is property) s = has_property w property s
 holds_of w (Receiver receiver) s = list_any (λ other. other == receiver) (receivers s w.config)
 holds_of w (Route reach path) s = list_any (reaches reach path) (ends s w.config)
 holds_of w (Braces matchers) s = all_hold s matchers
 
--- The truth of a question on a label set.
+-- A label set satisfies a question: the question is true of it.
 -- Source: own choice.
 -- Example: `enters /0 and not ends /0` is true of an alert that ends below `/0`, and not of one
 -- that ends at `/0`.
@@ -62,14 +66,15 @@ satisfies w (Not q) s = not (satisfies w q s)
 satisfies w (And q r) s = satisfies w q s && satisfies w r s
 satisfies w (Or q r) s = satisfies w q s || satisfies w r s
 
--- The same, on the label set of a choice.
+-- The label set of a choice satisfies a question.
 abbrev pub satisfies_at : List Label → World → Question → List ℕ → Bool
 satisfies_at u w q choice = satisfies w q (label_set_of u choice)
 
--- The answers: the choices of the space, in declared order, whose label sets satisfy the question.
+-- The answers to a question: the choices of a space, in declared order, whose label sets satisfy
+-- it.
 -- Source: own choice.
--- Example: of a space with the one label `team`, which may be `db` or `web`, the answers to
--- `{team!="db"}` are the one choice 1; where `team="web"` is impossible, there is none.
+-- Example: let a space have the one label `team`, which may be `db` or `web`. Then the one answer
+-- to `{team!="db"}` is the choice 1. If `team="web"` is impossible, there is none.
 abbrev pub answers : Space → World → Question → List (List ℕ)
 answers s w q = filter (satisfies_at s.labels w q) (all_choices s)
 

@@ -1,4 +1,4 @@
--- Routing: which routes handle an alert, and at which receivers it ends. An alert is its label set.
+-- Routing: which routes handle an alert, and which receivers get it. An alert is its label set.
 use Rattle.std.specs.Prelude.{ℕ, ◌+◌, List, [], ◌∷◌, map, Bool, not, ◌&&◌, if◌then◌else◌}
 use Rattle.std.specs.Prelude.{◌≡◌, Option, Some, option_map, IsTrue, IsFalse, take, slice_get}
 use Rattle.std.specs.List.{AllByRecursion, flat_map, filter_map}
@@ -9,12 +9,13 @@ use Rattle.am_config.specs.ConfigFile.{Configuration, matchers_of, continues_of,
 use Rattle.am_config.specs.ConfigFile.{children_of}
 use Rattle.am_config.specs.Path.{route_at, list_of}
 
--- The children that are tried: in order, up to and including the first that matches and lacks
--- `continue`. Of each child routing sees whether it matches the alert, whether its siblings behind
--- it are tried even so, and the routes at it and below it that handle the alert.
+-- The children of a route that are tried for an alert: in order, up to and including the first that
+-- matches it and lacks `continue`. Routing looks at three things of a child: whether it matches the
+-- alert, whether it has `continue`, and the paths of the routes at it and below it that handle the
+-- alert.
 -- Source: Alertmanager configuration reference 0.25, "<route>": `continue`.
--- Example: of a child that does not match, one that matches and continues, one that matches and
--- does not, and a fourth, the first three are tried.
+-- Example: of a child that does not match, one that matches and has `continue`, one that matches
+-- and lacks it, and a fourth, the first three are tried.
 pub record Child : Type 0 where
   pub matches : Bool
   pub continues : Bool
@@ -24,13 +25,13 @@ abbrev pub tried : List Child → List Child
 tried [] = []
 tried (c ∷ cs) = c ∷ (if c.matches && not c.continues then [] else tried cs)
 
--- Where an alert ends: the paths, from a route on, of the routes that handle it. There are none
--- where the route does not match. Where it does, they are the ends at the children that are tried,
--- in order, each path with the child's position in front; or the route itself, with the empty path,
--- where there are none. An alert enters at the top-level route.
+-- Where an alert ends: the paths, from a route on, of the routes that handle it. If the route does
+-- not match the alert, there are none. If it does, they are the ends at the children that are
+-- tried, in order, each with the position of the child in front. If these children have no end, the
+-- alert ends at the route itself, and the path is empty. An alert enters at the top-level route.
 -- Source: Alertmanager configuration reference 0.25, "<route>".
--- Example: where `/0` matches and continues, its one child does not match, `/1` matches and does
--- not continue, `/2` matches too, and there are no other routes, the ends are `/0` and `/1`.
+-- Example: let `/0` match and have `continue`, but not its one child. Let `/1` match and lack
+-- `continue`, and let `/2` match too. If there are no other routes, the ends are `/0` and `/1`.
 abbrev pub ends_tried : List Child → List (List ℕ)
 ends_tried cs = flat_map (λ c. c.ends) (tried cs)
 
@@ -61,13 +62,12 @@ abbrev mutual
 abbrev pub ends : LabelMap → Configuration → List (List ℕ)
 ends s c = ends_at s c.root
 
--- The same, said of one path and without a list of what is tried: the alert matches each route on
--- the way, none of the siblings before them both matches it and lacks `continue`, and it matches no
--- child of the last. The law `an_alert_ends_where_nothing_stops_it` says that the alert ends there
--- exactly then.
+-- The same for one path, without a list of the children that are tried. An alert ends at a path if
+-- it matches each route on the way, if no earlier sibling of one of these both matches it and lacks
+-- `continue`, and if it matches no child of the last. The law
+-- `an_alert_ends_where_nothing_stops_it` says that it ends there exactly then.
 -- Source: Alertmanager configuration reference 0.25, "<route>".
--- Example: an alert ends at `/` exactly where it matches the top-level route and none of its
--- children.
+-- Example: an alert ends at `/` exactly if it matches the top-level route and none of its children.
 abbrev pub is_last : LabelMap → RouteTree → Bool
 is_last s t = all_hold s (matchers_of t) && not (continues_of t)
 
@@ -81,10 +81,10 @@ EndsThere s t (p ∷ path) =
     × AllByRecursion (λ earlier. IsFalse (is_last s earlier)) (take p (list_of (children_of t)))
     × EndsThere s child path
 
--- The receivers of an alert, by their positions: that of each end, in order. Where two ends have
--- the same, it stands twice.
+-- The receivers of an alert, by their positions: the receiver of each end, in order. If two ends
+-- have the same receiver, it stands twice.
 -- Source: Alertmanager configuration reference 0.25, "<route>": `receiver`.
--- Example: where an alert ends at `/0` and `/1`, both of which have the receiver at position 2, the
+-- Example: if an alert ends at `/0` and `/1`, and both have the receiver at position 2, the
 -- receivers are 2 and 2.
 abbrev pub receiver_at : Configuration → List ℕ → Option ℕ
 receiver_at c path = option_map receiver_of (route_at c.root path)

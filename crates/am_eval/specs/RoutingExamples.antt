@@ -4,13 +4,12 @@ use Rattle.std.specs.Prelude.{◌≡◌, ℕ, List, [], ◌∷◌, Bool, true, f
 use Rattle.am_universe.specs.LabelSet.{LabelMap, value_of}
 use Rattle.am_labels.specs.Matcher.{Condition}
 use Rattle.am_labels.specs.declared.op.Op.TheVariants.{Equal}
-use Rattle.am_config.specs.ConfigFile.{Configuration, RouteTree, route, routes_of}
+use Rattle.am_config.specs.ConfigFile.{Configuration, RouteTree, route, routes_of, settings_with}
 
 -- A route, by its receiver, its matchers, whether it continues, and its children.
 abbrev pub node : ℕ → List Condition → Bool → List RouteTree → RouteTree
 node receiver matchers continues children =
-    route (record { receiver = receiver; matchers = matchers; continues = continues })
-    (routes_of children)
+    route (settings_with receiver matchers continues) (routes_of children)
 
 -- The matchers `team="db"` and `severity="critical"`.
 abbrev pub team_db : Condition

@@ -7,19 +7,19 @@ use Rattle.am_labels.specs.Matcher.{all_hold}
 use Rattle.am_list_files.specs.SilencesFile.{Silence}
 use Rattle.am_eval.specs.World.{World}
 
--- A silence is active at an instant: from the one at which it begins on, and up to, and not at, the
--- one at which it ends. Where no instant is given, none is active.
--- Source: Alertmanager API v2, "silence": `startsAt` and `endsAt`. Own choice: at the instant at
--- which it ends it is not active, and the status that an export gives it means nothing.
+-- A silence is active at an instant: it has begun, and it has not ended. It is active at the
+-- instant at which it begins, and not at the one at which it ends. Without an instant no silence is
+-- active.
+-- Source: Alertmanager API v2, "silence": `startsAt` and `endsAt`. Own choice: it is not active at
+-- the instant at which it ends, and the status in an export is ignored.
 -- Example: a silence from 10:00 to 11:00 is active at 10:00, and not at 11:00.
 abbrev pub is_active : Option ℤ → Silence → Bool
 is_active None silence = false
 is_active (Some instant) silence = int_le silence.starts instant && int_lt instant silence.ends
 
--- A silence is over at an instant: it has ended by then. Where no instant is given, none is.
+-- A silence is over at an instant: it has ended. Without an instant no silence is over.
 -- Source: Alertmanager API v2, "silence": `endsAt`.
--- Example: a silence from 10:00 to 11:00 is over at 11:00, and not at 9:00, though it is not active
--- at either.
+-- Example: a silence from 10:00 to 11:00 is over at 11:00. At 9:00 it is neither active nor over.
 abbrev pub is_over : Option ℤ → Silence → Bool
 is_over None silence = false
 is_over (Some instant) silence = int_le silence.ends instant
@@ -34,11 +34,11 @@ hides w s silence = is_active w.instant silence && all_hold s silence.matchers
 
 -- An alert is silenced: some silence hides it.
 -- Source: Alertmanager documentation 0.25, "Silences".
--- Example: with no active silence no alert is silenced.
+-- Example: without an active silence no alert is silenced.
 abbrev pub is_silenced : World → LabelMap → Bool
 is_silenced w s = list_any (hides w s) w.silences
 
--- The positions in a list of what passes a test, in order, counted from a number on.
+-- The positions of the items that pass a test, in order. The first item has the position `from`.
 abbrev pub positions_where : {A : Type 0} → (A → Bool) → ℕ → List A → List ℕ
 positions_where test from [] = []
 positions_where test from (x ∷ xs) =
@@ -46,8 +46,7 @@ positions_where test from (x ∷ xs) =
 
 -- The silences that hide an alert, by their positions in the file, in order.
 -- Source: own choice.
--- Example: where the first and the third of three silences hide an alert, its silencers are 0 and
--- 2.
+-- Example: if the first and the third of three silences hide an alert, its silencers are 0 and 2.
 abbrev pub silencers : World → LabelMap → List ℕ
 silencers w s = positions_where (hides w s) 0 w.silences
 

@@ -4,8 +4,10 @@ use Rattle.am_universe.specs.LabelSet.{LabelMap}
 use Rattle.am_config.specs.ConfigFile.{Configuration}
 use Rattle.am_list_files.specs.SilencesFile.{Silence}
 
--- A world: a configuration, the silences that there are, the alerts that fire, each as its labels,
--- and the instant that is asked about, if one is, in nanoseconds since 1970-01-01T00:00:00Z.
+-- A world: a configuration, silences, firing alerts, each as its labels, and the instant that you
+-- ask about, if there is one, in nanoseconds since 1970-01-01T00:00:00Z.
+-- Source: own choice.
+-- Example: the world of `explain` with `--config` alone has no silences, no alerts and no instant.
 pub record World : Type 0 where
   pub config : Configuration
   pub silences : List Silence

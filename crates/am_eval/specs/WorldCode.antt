@@ -10,8 +10,8 @@ use Rattle.am_universe.specs.LabelSet.{LabelMap}
 use Rattle.am_list_files.specs.SilencesFile.{Silence}
 use Rattle.am_list_files.specs.contracts.alert.Alerts as alerts
 use Rattle.am_list_files.specs.contracts.silence.Silences as silences
-use Rattle.am_config.specs.ConfigFile.{RouteSettings, RouteTree, Routes, Rule, route, no_routes}
-use Rattle.am_config.specs.ConfigFile.{next_route}
+use Rattle.am_config.specs.ConfigFile.{RouteTree, Routes, Rule, route, no_routes, next_route}
+use Rattle.am_config.specs.contracts.route.RouteSettings as own
 use Rattle.am_config.specs.contracts.rule.Rule as rule
 use Rattle.am_eval.specs.World.{World}
 
@@ -31,18 +31,11 @@ IsPair gnil = ⊥
 IsPair (gnum n) = ⊥
 IsPair (gcons a b) = ⊤
 
--- The codes of what a route says of itself, of a route with its children, and of children in order.
-abbrev coded_settings : Coded RouteSettings
-coded_settings =
-    code_by (ℕ × (List Condition × Bool))
-    (coded× coded_ℕ (coded× matchers.the_row.coded coded_bool))
-    (λ s. (s.receiver, (s.matchers, s.continues)))
-    (λ p. record { receiver = p.0; matchers = p.1.0; continues = p.1.1 }) (λ _. refl)
-
+-- The codes of a route with its children, and of children in order.
 abbrev mutual
   pub route_code : RouteTree → Gv
   route_code (route settings children) =
-      gcons (coded_settings.code settings) (routes_code children)
+      gcons (own.the_row.coded.code settings) (routes_code children)
 
   pub routes_code : Routes → Gv
   routes_code no_routes = gnil
@@ -52,7 +45,7 @@ abbrev mutual
 mutual
   pub route_told : (t u : RouteTree) → route_code t ≡ route_code u → t ≡ u
   route_told (route a ts) (route b us) e =
-      λ i. route (coded_settings.inj a b (ap head e) i) (routes_told ts us (ap tail e) i)
+      λ i. route (own.the_row.coded.inj a b (ap head e) i) (routes_told ts us (ap tail e) i)
 
   routes_told : (ts us : Routes) → routes_code ts ≡ routes_code us → ts ≡ us
   routes_told no_routes no_routes e = refl

@@ -18,7 +18,7 @@ use am_config::{Config, Path};
 use am_universe::{Kind, LabelSet, Sink, put_all, put_str, write_map, write_text};
 use std::alloc::{AllocError, Global};
 
-/// Why a label set goes where it goes.
+/// Where an alert with some label set goes, and why.
 #[derive(Drop)]
 pub struct Explanation {
     /// The routes that handle it.
@@ -29,7 +29,9 @@ pub struct Explanation {
     pub inhibitors: Vec<(usize, usize)>,
 }
 
-/// Finds why a label set goes where it goes. An `Err` only where memory ran out.
+/// Finds which routes handle a label set, which silences hide it, and what inhibits it.
+///
+/// Fails only if memory runs out.
 pub fn explanation_of(
     alloc: Global,
     world: &World,
@@ -47,8 +49,10 @@ pub fn explanation_of(
     })
 }
 
-/// Writes the label set, and a line for each end, each silence, and each rule and alert. The only
-/// `Err` is `Kind::Write`, after a part of that from its front. No memory is taken.
+/// Writes the label set, and a line for each end, each silence, and each rule with its alert.
+///
+/// Fails only with `Kind::Write`; what was written is then a proper prefix of that. Takes no
+/// memory.
 pub fn write_explanation<W: Sink>(
     config: &Config,
     set: &LabelSet,
@@ -87,7 +91,7 @@ fn write_route_end<W: Sink>(config: &Config, end: &Path, out: &mut W) -> Result<
     put_all(out, b"\n")
 }
 
-/// The name of the receiver of the route at a path, and the empty text where there is no route.
+/// The name of the receiver of the route at a path, or the empty text if there is no such route.
 fn receiver_name_at<'c>(config: &'c Config, path: &Path) -> &'c str
     ensures { result.now ≡ receiver_name_at (config_view config.now) path.now }
 {

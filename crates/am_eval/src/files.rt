@@ -3,23 +3,22 @@ ghost use Rattle.am_eval.specs.Files.{config_of};
 
 use std::marker::Model;
 
-/// The input files beside the universe, each as its bytes, and the instant that is asked about, as
-/// far as they are handed in.
+/// The input files without the universe, each as its bytes, and the instant. All are optional.
 #[derive(Drop)]
 pub struct Files<'a> {
-    /// The configuration. Without one, a configuration of one receiver and one route stands for it.
+    /// The configuration. Without one, a configuration of one receiver and one route is used.
     pub config: Option<&'a [u8]>,
     /// The silences, as `amtool silence query -o json` writes them. Without them there are none.
     pub silences: Option<&'a [u8]>,
-    /// The alerts that fire, as `amtool alert query -a -s -i -u -o json` writes them. Without these
-    /// letters it leaves out alerts that are silenced or inhibited. Without the file none fires.
+    /// The firing alerts, as `amtool alert query -a -s -i -u -o json` writes them. Without these
+    /// letters, `amtool` leaves out alerts that are silenced or inhibited. Without the file none
+    /// fires.
     pub alerts: Option<&'a [u8]>,
-    /// The instant at which silences are active or not, as a text. Silences need one.
+    /// The instant that is asked about, as a text. It is required if there is a file of silences.
     pub at: Option<&'a str>,
 }
 
-/// What stands for a configuration that is not handed in: one receiver and the top-level route
-/// alone.
+/// The configuration that is used without one: one receiver, and the top-level route alone.
 const STAND_IN_CONFIG: &[u8] =
     b"{\"receivers\":[{\"name\":\"none\"}],\"route\":{\"receiver\":\"none\"}}";
 
@@ -38,7 +37,7 @@ impl<'a> Model for Files<'a> {
 }
 
 impl<'a> Files<'a> {
-    /// The bytes of the configuration, or of what stands in for it.
+    /// The bytes of the configuration, or of the one that is used without it.
     pub fn config(&self) -> &'a [u8]
         ensures bytes { result.now ≡ config_of self.now.config }
     {

@@ -12,9 +12,11 @@ use am_config::Rule;
 use am_universe::LabelSet;
 use std::alloc::{AllocError, Global};
 
-/// What inhibits an alert with these labels: the rules and the firing alerts that do so by them, by
-/// their positions, rule by rule, and for each rule alert by alert. An `Err` only where memory was
-/// refused.
+/// Returns what inhibits an alert with these labels: each rule with each firing alert that does so
+/// by it.
+///
+/// Both are given by their positions, rule by rule, and for each rule alert by alert (Alertmanager
+/// configuration reference 0.25, `<inhibit_rule>`). Fails only if memory runs out.
 pub fn inhibited_by(
     alloc: Global,
     world: &World,
@@ -45,8 +47,8 @@ fn pair_inhibits(
     inhibits(alloc, rule, world.alerts().get(pair.alert), pair.both, set)
 }
 
-/// Whether a firing alert, which the source side of a rule matches, inhibits by that rule an alert
-/// with these labels. `both` says whether the target side matches the one that fires too.
+/// Whether a firing alert, which the source side of a rule matches, inhibits an alert with these
+/// labels by that rule. `both` says whether the target side matches the firing alert too.
 fn inhibits(
     alloc: Global,
     rule: &Rule,

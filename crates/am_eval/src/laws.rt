@@ -1,5 +1,4 @@
-//! What holds of the definitions by themselves: each fact is the contract of a function with an
-//! empty body.
+//! Facts about the definitions alone: each is the contract of a function with an empty body.
 ghost use Rattle.std.specs.Prelude.{◌≡◌, ◌≢◌, ◌↔◌, ◌⊎◌, ◌++◌, ◌∷◌, ℕ, List, [], length, take};
 ghost use Rattle.std.specs.Prelude.{IsTrue, IsFalse, Some, None, ◌≤◌, ℤ, pos, ◌≤ℤ◌, ◌<ℤ◌};
 ghost use Rattle.std.specs.Prelude.{slice_get, true, false, codes, map, Contains};
@@ -46,8 +45,9 @@ ghost use Rattle.am_eval.specs.AcceptedWorld.{AcceptsWorld};
 ghost use Rattle.am_eval.specs.Faults.{IsFirstFaultOfCall};
 ghost use Rattle.am_eval.specs.Conditions.{literal_holds, some_way_holds, conditions_of};
 
-/// An alert ends somewhere, since the top-level route matches every label set. Each end is the
-/// path of a route that matches, and so has a receiver.
+/// Every alert ends somewhere, because the top-level route matches every label set.
+///
+/// Each end is the path of a route that matches, and so has a receiver.
 pub fn every_label_set_ends()
     ensures somewhere { (c : Configuration) (s : LabelMap) → IsConfig c → ends s c ≢ [] }
     ensures at_routes { (c : Configuration) (s : LabelMap) (path : List ℕ)
@@ -56,7 +56,7 @@ pub fn every_label_set_ends()
         → length (receivers s c) ≡ length (ends s c) }
 {}
 
-/// A route handles an alert itself exactly where the alert matches it and none of its children.
+/// A route handles an alert itself exactly if the alert matches it and none of its children.
 pub fn a_route_handles_what_no_child_matches()
     ensures exactly { (s : LabelMap) (t : RouteTree)
         → (Contains (ends_at s t) []
@@ -65,9 +65,10 @@ pub fn a_route_handles_what_no_child_matches()
         (list_of (children_of t)))) }
 {}
 
-/// An alert ends at a path exactly where it matches each route on the way, no sibling before one of
-/// them matches it and lacks `continue`, and it matches no child of the last. Its ends are in the
-/// order of the routes, each once.
+/// An alert ends at a path exactly if it matches each route on the way, matches no earlier sibling
+/// of these that lacks `continue`, and matches no child of the last.
+///
+/// Its ends are in the order of the routes, each once.
 pub fn an_alert_ends_where_nothing_stops_it()
     ensures exactly { (s : LabelMap) (t : RouteTree) (path : List ℕ)
         → (Contains (ends_at s t) path ↔ EndsThere s t path) }
@@ -75,8 +76,10 @@ pub fn an_alert_ends_where_nothing_stops_it()
         → IsStrictlySortedBy (slice_cmp nat_cmp) (ends_at s t) }
 {}
 
-/// Below a route that matches, a child is tried exactly where each sibling before it that matches
-/// has `continue`: the ends at the child and below it are then ends of the route.
+/// Below a route that matches, a child is tried exactly if each earlier sibling that matches has
+/// `continue`.
+///
+/// The ends at the child and below it are then ends of the route.
 pub fn a_child_is_tried_where_each_match_before_it_continues()
     ensures exactly { (s : LabelMap) (t : RouteTree) (position : ℕ) (path : List ℕ)
         → (Contains (ends_at s t) (position ∷ path)
@@ -88,8 +91,10 @@ pub fn a_child_is_tried_where_each_match_before_it_continues()
         × Contains (ends_at s child) path)) }
 {}
 
-/// An example: where a label set with neither label ends, one of the team `db` alone, one of the
-/// severity `critical` alone, and one with both, behind whose first end a sibling is tried.
+/// An example: where label sets end that have neither label, the team `db` alone, the severity
+/// `critical` alone, or both.
+///
+/// With both, a sibling is tried after the first end.
 pub fn an_example_of_routing()
     ensures none { (s : LabelMap) → Has s [] []
         → (ends s worked ≡ [] ∷ []) × (receivers s worked ≡ 0 ∷ []) }
@@ -101,8 +106,8 @@ pub fn an_example_of_routing()
         → (ends s worked ≡ (0 ∷ 0 ∷ []) ∷ (1 ∷ []) ∷ []) × (receivers s worked ≡ 2 ∷ 3 ∷ []) }
 {}
 
-/// `not` is true exactly where its question is not, `and` where both are, and `or` where one is or
-/// both are.
+/// `not` is true exactly if its question is false, `and` if both are true, and `or` if at least one
+/// is.
 pub fn a_joined_question_is_true_as_its_parts_are()
     ensures not { (w : World) (s : LabelMap) (q : Question)
         → IsTrue (satisfies w (Not q) s) ↔ (IsTrue (satisfies w q s) → ⊥) }
@@ -112,10 +117,11 @@ pub fn a_joined_question_is_true_as_its_parts_are()
         ↔ (IsTrue (satisfies w q s) ⊎ IsTrue (satisfies w r s)) }
 {}
 
-/// A simple part is true of an alert exactly as it says: a receiver, where the alert ends at a
-/// route that has it; a path of `ends`, where the alert ends there; `inhibited`, where by some rule
-/// some firing alert inhibits it; matchers in braces, where each of them matches it. `any`,
-/// `silenced` and `enters` have laws of their own.
+/// A simple part of a question is true of an alert exactly as it says.
+///
+/// A receiver: the alert ends at a route that has it. `ends` and a path: the alert ends there.
+/// `inhibited`: by some rule, some firing alert inhibits it. Matchers in braces: each of them
+/// matches it. `any`, `silenced` and `enters` have laws of their own.
 pub fn a_simple_part_is_true_as_it_says()
     ensures receiver { (w : World) (s : LabelMap) (receiver : ℕ)
         → IsTrue (holds_of w (Receiver receiver) s)
@@ -149,7 +155,8 @@ pub fn what_is_not_there_is_false()
         → route_at w.config.root path ≡ None → IsFalse (holds_of w (Route reach path) s) }
 {}
 
-/// `enters` is true of a path exactly where a route is an end that the path leads to or through.
+/// `enters` is true of a path exactly if the alert ends at the route at the path, or at one below
+/// it.
 pub fn ends_are_entered()
     ensures itself { (w : World) (s : LabelMap) (path : List ℕ)
         → IsTrue (holds_of w (Route Ends path) s) → IsTrue (holds_of w (Route Enters path) s) }
@@ -158,14 +165,15 @@ pub fn ends_are_entered()
         ↔ ((below : List ℕ) × IsTrue (holds_of w (Route Ends (path ++ below)) s))) }
 {}
 
-/// `any` is true of the same label sets as all `ends` together.
+/// `any` is true of a label set exactly if `ends` is true of it for some path.
 pub fn any_is_every_end()
     ensures same { (w : World) (s : LabelMap) → IsConfig w.config
         → (IsTrue (holds_of w (Is Any) s)
         ↔ ((path : List ℕ) × IsTrue (holds_of w (Route Ends path) s))) }
 {}
 
-/// An alert is silenced exactly where some silence hides it, and so where it has a silencer.
+/// An alert is silenced exactly if it has a silencer, which is a silence that hides it.
+///
 /// Its silencers are the positions of the silences that hide it, in order, each once.
 pub fn an_alert_is_silenced_by_its_silencers()
     ensures some { (w : World) (s : LabelMap) → IsTrue (is_silenced w s) ↔ (silencers w s ≢ []) }
@@ -175,8 +183,11 @@ pub fn an_alert_is_silenced_by_its_silencers()
     ensures ascending { (w : World) (s : LabelMap) → IsStrictlySortedBy nat_cmp (silencers w s) }
 {}
 
-/// An alert is silenced exactly where an instant is asked about, and some silence has begun by then
-/// and has not ended, each of whose matchers matches the alert.
+/// An alert is silenced exactly if it matches all matchers of a silence that is active at the
+/// instant.
+///
+/// A silence is active if it has begun by the instant, and has not ended. Without an instant none
+/// is.
 pub fn an_alert_is_silenced_while_a_silence_matches_it()
     ensures exactly { (w : World) (s : LabelMap) → (IsTrue (holds_of w (Is Silenced) s)
         ↔ ((instant : ℤ) × (silence : Silence) × (w.instant ≡ Some instant)
@@ -185,7 +196,7 @@ pub fn an_alert_is_silenced_while_a_silence_matches_it()
         × AllByRecursion (λ m. IsTrue (condition_holds s m)) silence.matchers)) }
 {}
 
-/// Where no silence is active, and so where no instant is given, nothing is silenced.
+/// If no silence is active, no alert is silenced. This is so if no instant is given.
 pub fn inactive_silences_hide_nothing()
     ensures inactive { (w : World) (s : LabelMap)
         → AllByRecursion (λ silence. IsFalse (is_active w.instant silence)) w.silences
@@ -194,9 +205,11 @@ pub fn inactive_silences_hide_nothing()
         → IsFalse (is_silenced w s) }
 {}
 
-/// Worlds of one configuration and the same firing alerts give the same answers to every question
-/// where the same silences are active, in the same order. So two instants give the same answers
-/// where no silence begins or ends after the first and up to the second, that one included.
+/// Worlds with one configuration, the same firing alerts and the same active silences give the same
+/// answers to every question.
+///
+/// The active silences must be in the same order. So two instants give the same answers if no
+/// silence begins or ends after the first and up to the second, that one included.
 pub fn answers_change_only_where_silences_begin_or_end()
     ensures same_active { (s : Space) (w v : World) (question : Question)
         → w.config ≡ v.config → w.alerts ≡ v.alerts
@@ -208,7 +221,7 @@ pub fn answers_change_only_where_silences_begin_or_end()
 {}
 
 /// An example: what a silence of the team `db`, from 10 to 20, hides at 10, at 20, of another team,
-/// and where no instant is given.
+/// and without an instant.
 pub fn an_example_of_silencing()
     ensures begun { (s : LabelMap) → Has s (codes "db") []
         → is_silenced (at_instant silenced_world (pos 10)) s ≡ true }
@@ -220,10 +233,9 @@ pub fn an_example_of_silencing()
         → is_silenced silenced_world s ≡ false }
 {}
 
-/// By a rule, a firing alert inhibits another exactly where the rule's source side matches the one
-/// that fires, its target side matches the other, both have the same value for each label in
-/// `equal`, and it is not so that the target side matches the one that fires too and the source
-/// side the other.
+/// By a rule, a firing alert inhibits another exactly if it matches the source side, the other
+/// matches the target side, both have the same values for `equal`, and the two alerts do not both
+/// match both sides.
 pub fn an_alert_inhibits_as_the_rule_says()
     ensures exactly { (rule : Rule) (firing s : LabelMap) → (IsTrue (inhibits rule firing s)
         ↔ (IsTrue (all_hold firing rule.source) × IsTrue (all_hold s rule.target)
@@ -231,7 +243,8 @@ pub fn an_alert_inhibits_as_the_rule_says()
         × (IsTrue (all_hold firing rule.target) → IsTrue (all_hold s rule.source) → ⊥))) }
 {}
 
-/// An alert that is two-sided for a rule never inhibits by that rule one that is two-sided for it.
+/// Two alerts that both match both sides of a rule do not inhibit each other by it.
+///
 /// So no alert inhibits itself.
 pub fn two_sided_alerts_do_not_inhibit_each_other()
     ensures two_sided { (rule : Rule) (firing s : LabelMap) → IsTrue (is_two_sided rule firing)
@@ -239,8 +252,10 @@ pub fn two_sided_alerts_do_not_inhibit_each_other()
     ensures itself { (rule : Rule) (s : LabelMap) → IsFalse (inhibits rule s s) }
 {}
 
-/// An alert is inhibited exactly where it has an inhibitor. Its inhibitors are the rules and the
-/// firing alerts that inhibit it by them, in order, each once.
+/// An alert is inhibited exactly if it has an inhibitor: a rule, and a firing alert that inhibits
+/// it by that rule.
+///
+/// Its inhibitors are in order, each once.
 pub fn an_alert_is_inhibited_by_its_inhibitors()
     ensures some { (w : World) (s : LabelMap)
         → IsTrue (is_inhibited w s) ↔ (inhibitors w s ≢ []) }
@@ -252,8 +267,10 @@ pub fn an_alert_is_inhibited_by_its_inhibitors()
 {}
 
 /// The pairs are each rule with each firing alert that its source side matches, in order, each
-/// once, and say whether the target side matches that alert too. What inhibits an alert is among
-/// them.
+/// once.
+///
+/// A pair says whether the target side matches that alert too. What inhibits an alert is among the
+/// pairs.
 pub fn pairs_are_the_firing_alerts_of_rules()
     ensures exactly { (rules : List Rule) (alerts : List LabelMap) (pair : Pair)
         → (Contains (pairs_of rules alerts) pair
@@ -268,7 +285,7 @@ pub fn pairs_are_the_firing_alerts_of_rules()
         (filter (pair_inhibits w s) (pairs_of w.config.rules w.alerts)) }
 {}
 
-/// Where no alert fires, or there is no rule, nothing is inhibited.
+/// If no alert fires, or there is no rule, nothing is inhibited.
 pub fn without_alerts_or_rules_nothing_is_inhibited()
     ensures no_alerts { (w : World) (s : LabelMap) → w.alerts ≡ []
         → IsFalse (is_inhibited w s) }
@@ -276,11 +293,12 @@ pub fn without_alerts_or_rules_nothing_is_inhibited()
         → IsFalse (is_inhibited w s) }
 {}
 
-/// An example, while a critical alert of the team `db` fires: what is inhibited by a rule from
-/// `critical` to `warning` for the same team, and for the same region, which neither alert has; by
-/// one from any severity to any; and by one from any severity to `warning`. And which rule of two,
-/// and which alert, by their positions, inhibit a warning of the team, and the line that says so:
-/// the rule comes first.
+/// An example: what rules inhibit while a critical alert of the team `db` fires.
+///
+/// The rules go from `critical` to `warning` for the same team, and for the same region, which
+/// neither alert has; from any severity to any; and from any severity to `warning`. Then: which
+/// rule of two, and which alert, by their positions, inhibit a warning of the team, and the line
+/// that says so, in which the rule comes first.
 pub fn an_example_of_inhibition()
     ensures same_team { (s : LabelMap) → Has s (codes "db") (codes "warning")
         → is_inhibited (inhibiting_world severity_critical severity_warning (codes "team")) s
@@ -301,15 +319,18 @@ pub fn an_example_of_inhibition()
     ensures told { inhibited_line (1, 0) ≡ codes "inhibited 1 0\n" }
 {}
 
-/// A simple part of a question is true of an alert exactly where its condition is: where in one of
-/// its ways each list is matched or not, as is wanted.
+/// A simple part of a question is true of an alert exactly if its condition is.
+///
+/// A condition is true if in one of its ways each list is matched, or not matched, as the way says.
 pub fn a_simple_part_is_true_where_its_condition_holds()
     ensures exactly { (w : World) (s : LabelMap) (simple : Simple)
         → holds_of w simple s ≡ some_way_holds (literal_holds s) (conditions_of w simple) }
 {}
 
-/// A choice is among the answers exactly where it is one of the space and its label set satisfies
-/// the question. The answers are those whole choices of the labels of which it is true to be one.
+/// A choice is among the answers exactly if it is one of the space and its label set satisfies the
+/// question.
+///
+/// The answers are the list of all whole choices of the labels, without those that are not answers.
 pub fn answers_are_the_choices_that_satisfy()
     ensures exactly { (s : Space) (w : World) (question : Question) (choice : List ℕ)
         → (Contains (answers s w question) choice
@@ -319,14 +340,16 @@ pub fn answers_are_the_choices_that_satisfy()
         → answers s w question ≡ filter (is_answer s w question) (choices (sizes s.labels)) }
 {}
 
-/// Each answer comes before those after it in declared order, so none stands twice.
+/// The answers are in declared order, so none occurs twice.
 pub fn answers_ascend()
     ensures ascending { (s : Space) (w : World) (question : Question)
         → IsStrictlySortedBy (slice_cmp nat_cmp) (answers s w question) }
 {}
 
-/// Words that are those of a label set are not refused as one. Words that are refused are refused
-/// with one kind, but for the patterns that the engine may refuse.
+/// Words that spell a label set are not refused.
+///
+/// Words that are refused are refused with one kind, apart from refusals of patterns, which are the
+/// engine's to make.
 pub fn a_set_is_not_read_and_refused()
     ensures accepted { (words : List (List ℕ)) (set : LabelMap) (kind : Kind)
         → WordsSpellSet words set → SetWordsRefusedFor words kind → ⊥ }
@@ -335,8 +358,8 @@ pub fn a_set_is_not_read_and_refused()
         → kind ≡ other }
 {}
 
-/// Where the inputs of `explain` are accepted, they have no first fault, but for a pattern, which
-/// the engine may refuse.
+/// Inputs of `explain` that are accepted have no first fault, except a pattern that the engine may
+/// refuse.
 pub fn accepted_inputs_of_explain_have_no_fault()
     ensures pattern { (inputs : Files) (words : List (List ℕ)) (w : World) (s : LabelMap)
         (place : Place) (refusal : Refusal) → AcceptsWorld inputs w → WordsSpellSet words s
@@ -344,8 +367,7 @@ pub fn accepted_inputs_of_explain_have_no_fault()
         → refusal.kind ≡ kinds.Pattern }
 {}
 
-/// Inputs that are accepted fix the world, and what `explain` writes of a label set is one text for
-/// the same inputs.
+/// Inputs that are accepted fix the world, and what `explain` writes of a label set.
 pub fn an_explanation_is_one_text()
     ensures world { (inputs : Files) (w x : World) → AcceptsWorld inputs w
         → AcceptsWorld inputs x → w ≡ x }
@@ -354,7 +376,7 @@ pub fn an_explanation_is_one_text()
         → explanation ≡ other }
 {}
 
-/// The limit of worlds.
+/// The limit of the pairs of a world.
 pub fn worlds_have_a_limit()
     ensures pairs { MAX_PAIRS ≡ 16384 }
 {}

@@ -1,9 +1,11 @@
-//! What a configuration does to a label set, and the questions that ask of it.
+//! Where alerts go under a configuration, what silences and inhibits them, and questions about
+//! that.
 //!
-//! [`ends`] says which routes handle an alert, and [`receivers_of`] at which receivers it ends. In
-//! a [`World`] there are silences and firing alerts too: [`silenced_by`] says which silences hide
-//! it, and [`inhibited_by`] what inhibits it. [`read_world`] reads a world from its [`Files`]. An
-//! [`Explanation`] says of one label set why it goes where it goes, and a [`Question`] asks of any.
+//! [`ends`] returns the routes that handle an alert, and [`receivers_of`] their receivers. A
+//! [`World`] has silences and firing alerts too: [`silenced_by`] returns the silences that hide an
+//! alert, and [`inhibited_by`] what inhibits it. [`read_world`] reads a world from its [`Files`].
+//! An [`Explanation`] says of one label set where it goes and why, and a [`Question`] asks about
+//! any.
 #![tactic(auto)]
 
 // How much there may be.

@@ -26,8 +26,8 @@ pub struct Pair {
     pub both: bool,
 }
 
-/// The pairs of all rules, rule by rule, and for each rule alert by alert. `Limit` for more than
-/// [`MAX_PAIRS`]; `Memory` only where memory was refused.
+/// The pairs of all rules, rule by rule, and for each rule alert by alert. Fails with `Limit` for
+/// more than [`MAX_PAIRS`], and with `Memory` if memory runs out.
 pub(crate) fn pairs_of(alloc: Global, rules: &[Rule], alerts: &Alerts) -> Result<Vec<Pair>, Kind>
     ensures pairs { IfOk result (λ found. found.items ≡ pairs_of rules.now alerts.now) }
     ensures few { IfOk result (λ found. length found.items ≤ MAX_PAIRS) }
@@ -70,7 +70,7 @@ fn add_pairs(
     Ok(())
 }
 
-/// The sides of the rule at a position, which are held against one alert after another.
+/// The sides of the rule at a position, on which one alert after another is tested.
 #[derive(Drop)]
 struct Sides<'r> {
     rule: usize,
@@ -79,8 +79,8 @@ struct Sides<'r> {
 }
 
 impl<'r> Sides<'r> {
-    /// The pair of the rule and the alert at this position, where the source side matches the
-    /// alert. The target side is looked at only then.
+    /// The pair of the rule and the alert at this position, if the source side matches the alert.
+    /// Only then is the target side tested.
     fn pair_with(
         &mut self,
         alloc: Global,
@@ -107,7 +107,8 @@ impl<'r> Sides<'r> {
     }
 }
 
-/// Adds a pair. `Limit` where there are [`MAX_PAIRS`]; `Memory` only where memory was refused.
+/// Adds a pair. Fails with `Limit` if there are [`MAX_PAIRS`], and with `Memory` if memory runs
+/// out.
 fn add_pair(found: &mut Vec<Pair>, pair: Pair) -> Result<(), Kind>
     requires { length found.old.items ≤ MAX_PAIRS }
     ensures added { OnOk result (found.new.items ≡ found.old.items ++ pair ∷ []) }

@@ -1,4 +1,4 @@
-/// What may be asked of an alert in a world, in one word.
+/// A property of an alert in a world, for which a question has one word.
 #[derive(Clone, Copy)]
 pub enum Property {
     /// True of every alert.

@@ -11,16 +11,16 @@ use crate::reach::Reach;
 use am_config::Path;
 use am_labels::Matchers;
 
-/// A question about a label set, as the labels of an alert.
+/// A question about the label set of an alert.
 #[derive(Drop)]
 pub enum Question {
     /// The alert has this property.
     Is(Property),
-    /// Some end has the receiver at this position.
+    /// The alert ends at a route that has the receiver at this position.
     Receiver(usize),
-    /// The alert reaches the route at this path so.
+    /// The alert reaches the route at this path in this way.
     Route(Reach, Path),
-    /// Every matcher matches.
+    /// The alert matches every matcher.
     Braces(Matchers),
     /// The question is false.
     Not(Box<Question>),
@@ -31,24 +31,27 @@ pub enum Question {
 }
 
 impl Question {
-    /// Whether the route at a path is an end. Where the configuration has no such route, it is
-    /// none.
+    /// The question whether the alert ends at the route at a path.
+    ///
+    /// It is false if the configuration has no such route.
     pub fn ends(path: Path) -> Question
         ensures ends { question_view result ≡ Part (spec.Route Ends path) }
     {
         Question::Route(Reach::Ends, path)
     }
 
-    /// Whether the route at a path, or one below it, is an end. Where the configuration has no such
-    /// route, it is none.
+    /// The question whether the alert ends at the route at a path, or at one below it.
+    ///
+    /// It is false if the configuration has no such route.
     pub fn enters(path: Path) -> Question
         ensures enters { question_view result ≡ Part (spec.Route Enters path) }
     {
         Question::Route(Reach::Enters, path)
     }
 
-    /// Whether some end has the receiver at a position. Where the configuration declares no such
-    /// receiver, none has it.
+    /// The question whether the alert ends at a route that has the receiver at a position.
+    ///
+    /// It is false if the configuration has no such receiver.
     pub fn receiver(receiver: usize) -> Question
         ensures receiver { question_view result ≡ Part (spec.Receiver receiver) }
     {

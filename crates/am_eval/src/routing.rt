@@ -15,11 +15,12 @@ use am_config::{Config, Path, Route};
 use am_universe::LabelSet;
 use std::alloc::{AllocError, Global};
 
-/// The routes that handle an alert with these labels, by their paths, in order.
+/// Returns the paths of the routes that handle an alert with these labels, in order.
 ///
-/// An alert enters at the top-level route. The children of a route that matches are tried in order;
-/// behind the first that matches and has no `continue` none is tried. Where no child matches, the
-/// route handles the alert itself. An `Err` only where memory was refused.
+/// An alert enters at the top-level route. The children of a route that matches are tried in order,
+/// up to the first that matches and has no `continue`. If no child matches, the route handles the
+/// alert itself (Alertmanager configuration reference 0.25, `<route>`). Fails only if memory runs
+/// out.
 pub fn ends(alloc: Global, config: &Config, set: &LabelSet) -> Result<Vec<Path>, AllocError>
     ensures ends { IfOk result (λ found. found.items ≡ ends set.now (config_view config.now)) }
 {
@@ -28,7 +29,7 @@ pub fn ends(alloc: Global, config: &Config, set: &LabelSet) -> Result<Vec<Path>,
     Ok(found)
 }
 
-/// Adds the ends at a route and below it. The answer is whether the route matches.
+/// Adds the ends at a route and below it, and returns whether the route matches.
 #[cycle(ends)]
 fn add_ends(
     alloc: Global,
@@ -80,8 +81,10 @@ fn add_ends_of_children(
     Ok(())
 }
 
-/// The receivers at which an alert with these labels ends, by their positions: that of each end, in
-/// order. Where two ends have the same, it stands twice. An `Err` only where memory was refused.
+/// Returns the receivers at which an alert with these labels ends: that of each end, in order.
+///
+/// A receiver is given by its position, and occurs twice if two ends have it. Fails only if memory
+/// runs out.
 pub fn receivers_of(
     alloc: Global,
     config: &Config,

@@ -8,8 +8,11 @@ use am_list_files::Silence;
 use am_universe::LabelSet;
 use std::alloc::{AllocError, Global};
 
-/// The silences that hide an alert with these labels, by their positions in the file, in order. An
-/// `Err` only where memory was refused.
+/// Returns the silences that hide an alert with these labels, by their positions, in the order of
+/// the file.
+///
+/// A silence hides an alert if it is active at the instant of the world and all its matchers match
+/// the alert (Alertmanager documentation 0.25, "Silences"). Fails only if memory runs out.
 pub fn silenced_by(alloc: Global, world: &World, set: &LabelSet) -> Result<Vec<usize>, AllocError>
     ensures silencers { IfOk result (λ found. found.items ≡ silencers world.now set.now) }
 {
@@ -22,7 +25,7 @@ pub fn silenced_by(alloc: Global, world: &World, set: &LabelSet) -> Result<Vec<u
     Ok(found)
 }
 
-/// Whether a silence hides an alert with these labels. An `Err` only where memory was refused.
+/// Whether a silence hides an alert with these labels. Fails only if memory runs out.
 fn hides(
     alloc: Global,
     world: &World,

@@ -21,8 +21,7 @@ use jiff::Timestamp;
 use std::alloc::Global;
 use std::marker::Model;
 
-/// A configuration, the silences that there are, the alerts that fire, and the instant that is
-/// asked about.
+/// A configuration, silences, the alerts that fire, and the instant that is asked about.
 #[derive(Drop)]
 pub struct World {
     config: Config,
@@ -58,13 +57,15 @@ impl Model for World {
 impl World {
     ghost use Rattle.am_eval.specs.World as spec;
 
-    /// The world of these. Without an instant no silence is active. Each of the alerts counts as
-    /// firing, whether or not it is silenced or inhibited itself, and with or without an instant.
+    /// Makes a world.
     ///
-    /// `Limit`, at `Alerts` and with no pointer, for more than [`MAX_PAIRS`] pairs of an inhibition
-    /// rule and an alert that its source side matches; `Memory` only where memory was refused. Each
-    /// rule's source side is held against each alert, and its target side against those of them
-    /// that the source side matches.
+    /// Without an instant no silence is active. Each alert counts as firing, even if it is silenced
+    /// or inhibited itself, and with or without an instant. The source side of each rule is tested
+    /// on each alert, and its target side on those alerts that the source side matches.
+    ///
+    /// Fails with `Limit`, at `Alerts` and with the empty pointer, if there are more than
+    /// [`MAX_PAIRS`] pairs of an inhibition rule and an alert that its source side matches, and
+    /// with `Memory` if memory runs out.
     pub fn new(
         alloc: Global,
         config: Config,
@@ -126,6 +127,8 @@ impl World {
     }
 
     /// Whether the silence at `i` is active at the instant: it has begun, and has not ended.
+    ///
+    /// Without an instant it is not.
     pub fn active(&self, i: usize) -> bool
         requires silence { i < length self.now.silences }
         ensures active { (silence : _) → slice_get self.now.silences i ≡ Some silence
@@ -134,7 +137,7 @@ impl World {
         self.is_active(self.silences.get(i))
     }
 
-    /// Whether the silence at `i` is over at the instant: it has ended. Without an instant none is.
+    /// Whether the silence at `i` has ended by the instant. Without an instant it has not.
     pub fn over(&self, i: usize) -> bool
         requires silence { i < length self.now.silences }
         ensures over { (silence : _) → slice_get self.now.silences i ≡ Some silence

@@ -20,9 +20,13 @@ use am_universe::{Fault, Kind, LabelSet, Place};
 use jiff::Timestamp;
 use std::alloc::Global;
 
-/// Reads what a world is made of: the configuration file, the file of silences, the file of alerts,
-/// the instant, and then the pairs of rules and alerts. The first fault is the one answered, at
-/// `Config`, `Silences`, `Alerts` or `Instant`, and at `Alerts` for too many pairs; or `Memory`.
+/// Reads a world from its files.
+///
+/// It reads the configuration, the silences, the alerts and the instant, in this order, and then
+/// makes the pairs of rules and alerts. Fails with the first fault, at `Config`, `Silences`,
+/// `Alerts` or `Instant`, and at `Alerts` for too many pairs. At `Instant` it is `BadTime` if the
+/// text is not an instant, and `NeedAt` if there is a file of silences and no text. If memory runs
+/// out, it is `Memory`.
 pub fn read_world(alloc: Global, files: &Files<'_>) -> Result<World, Fault>
     ensures accepts { IfOk result (AcceptsWorld files.now) }
     ensures first { IfErr result (IsFirstFault (world_stages files.now)) }
@@ -32,8 +36,7 @@ pub fn read_world(alloc: Global, files: &Files<'_>) -> Result<World, Fault>
     World::new(alloc, read.config, read.silences, read.alerts, instant)
 }
 
-/// Reads a world as [`read_world`] does, but without a look at the instant: no silence of it is
-/// active.
+/// Reads a world as [`read_world`] does, but ignores the instant. So no silence is active.
 pub fn read_timeless_world(alloc: Global, files: &Files<'_>) -> Result<World, Fault>
     ensures accepts { IfOk result (AcceptsFiles files.now) }
     ensures first { IfErr result (IsFirstFault (timeless_stages files.now)) }
@@ -68,8 +71,8 @@ fn read_files(alloc: Global, files: &Files<'_>) -> Result<ReadFiles, Fault>
     })
 }
 
-/// The silences of a file; without one there are none. A fault is at `Silences`, as
-/// `read_silences` has it; or `Memory`.
+/// The silences of a file; without one there are none. A fault is at `Silences`, as in
+/// `read_silences`, or is `Memory`.
 fn read_silences_if_any(alloc: Global, file: Option<&[u8]>) -> Result<Silences, Fault>
     ensures says { IfOk result (SaysSilencesIfAny (option_copied file.entry)) }
     ensures first { IfErr result (IsRefusalAt places.Silences
@@ -81,8 +84,8 @@ fn read_silences_if_any(alloc: Global, file: Option<&[u8]>) -> Result<Silences, 
     }
 }
 
-/// The alerts of a file; without one there are none. A fault is at `Alerts`, as `read_alerts` has
-/// it; or `Memory`.
+/// The alerts of a file; without one there are none. A fault is at `Alerts`, as in `read_alerts`,
+/// or is `Memory`.
 fn read_alerts_if_any(alloc: Global, file: Option<&[u8]>) -> Result<Alerts, Fault>
     ensures says { IfOk result (SaysAlertsIfAny (option_copied file.entry)) }
     ensures first { IfErr result (IsRefusalAt places.Alerts
@@ -94,8 +97,8 @@ fn read_alerts_if_any(alloc: Global, file: Option<&[u8]>) -> Result<Alerts, Faul
     }
 }
 
-/// The instant that is asked about, if there is one, or the fault of its text: `BadTime` where it
-/// says none, `NeedAt` where there is no text and a file of silences needs one.
+/// The instant that is asked about, if there is one. Fails with `BadTime` if the text is not an
+/// instant, and with `NeedAt` if there is a file of silences and no text.
 fn read_instant_for(alloc: Global, files: &Files<'_>) -> Result<Option<Timestamp>, Fault>
     ensures asked { IfOk result (λ instant.
         option_map (λ t. t.nanosecond) instant ≡ asked_instant files.now.at) }
@@ -117,7 +120,7 @@ fn read_instant_for(alloc: Global, files: &Files<'_>) -> Result<Option<Timestamp
     }
 }
 
-/// Reads the words of a label set, as `parse_set_words` does. Their faults stand at `Set`.
+/// Reads a label set from words, as `parse_set_words` does, with its faults at the place `Set`.
 pub fn read_set(alloc: Global, words: &[&str]) -> Result<LabelSet, Fault>
     ensures spelled { IfOk result (WordsSpellSet (map (λ word. word.now) words.now)) }
     ensures refused { IfErr result (IsRefusalAt places.Set

@@ -12,7 +12,7 @@ use Rattle.am_json.specs.Json.{json_of, is_null, is_one_of, is_unknown, field, l
 use Rattle.am_json.specs.Json.{SaysBooleanOr, FileSays}
 use Rattle.am_json.specs.Json.{unknown_field, items_of, AreOnlyFields, HasOnlyFields}
 use Rattle.am_json.specs.Pointer.{Refusal, refusal_here, refusal_within, to_field}
-use Rattle.am_json.specs.Reading.{◌>>=◌, reading_within, accept_some, as_object, as_text, as_items}
+use Rattle.am_json.specs.Reading.{◌>>=◌, reading_within, accept_or, as_object, as_text, as_items}
 use Rattle.am_json.specs.Reading.{refuse_unknown_field, check_only_fields, required_field}
 use Rattle.am_json.specs.Reading.{required_text, required_items, check_count, read_json}
 use Rattle.am_json.specs.Reading.{boolean_or, read_boolean_or}
@@ -143,7 +143,7 @@ required_items_say key d items h =
 
 items_are_read : (key : List ℕ) (found : Option Data) (r : Refusal) (items : List Data)
     → option_and_then items_of found ≡ Some items
-    → (accept_some found r >>= λ v. reading_within (to_field key) (as_items v)).result ≡ Ok items
+    → (accept_or null found r >>= λ v. reading_within (to_field key) (as_items v)).result ≡ Ok items
 items_are_read key None r items h = absurd cc
 items_are_read key (Some v) r items h = rw h refl
 

@@ -1,110 +1,344 @@
--- The laws of a form: what holds of reading a value and a file, where the reading judges the places
--- of the form, their ranks tell them, and the reading decides what a value says.
-use Rattle.std.proofs.Common.{◌≡◌, ◌↔◌, ◌⊎◌, ℕ, List, None, Some, Ok, Err, inl, inr}
-use Rattle.std.proofs.Common.{Option, true, false, sym, ◌∙◌}
+-- Forms are lawful where their parts are; and what follows for every lawful form.
+use Rattle.std.proofs.Common.{◌≡◌, ◌↔◌, ℕ, List, [], ◌∷◌, ◌++◌, map, Bool, true, false, cond}
+use Rattle.std.proofs.Common.{Option, Some, None, Result, Ok, Err, inl, inr, refl, sym, ap, ◌∙◌}
+use Rattle.std.specs.Result.{result_map_both}
 use Rattle.serde_json.specs.Data.{Data}
 use Rattle.am_universe.specs.declared.kind.Kind.TheVariants as kinds
-use Rattle.am_json.specs.Json.{FileSays, json_of}
-use Rattle.am_json.specs.Places.{IsFileRefusedFor, IsFirstFault, IsFirstFaultOfFile, IsMetPattern}
-use Rattle.am_json.specs.Places.{IsMetPatternOfValue}
-use Rattle.am_json.specs.Pointer.{Refusal}
-use Rattle.am_json.specs.Reading.{MayRefuse, Reading, read_json, ◌>>=◌}
+use Rattle.am_json.specs.Objections.{Objection, a_fault, a_pattern, first_fault, patterns_before}
+use Rattle.am_json.specs.Objections.{IsRefusedFor, objections_within}
+use Rattle.am_json.specs.OptionalItems.{optional_items, read_optional_items, read_optional_array}
+use Rattle.am_json.specs.Pointer.{Refusal, refusal_within}
+use Rattle.am_json.specs.Reading.{Form, IsLawful, IsPatternRefusal, MayRefuse, Reading}
+use Rattle.am_json.specs.Reading.{StopsAtFirst}
+use Rattle.am_json.specs.Reading.{accept, accept_or, boolean_or, check_only_fields}
+use Rattle.am_json.specs.Reading.{ok_unless, patterns_then, read_boolean_or, read_counted}
+use Rattle.am_json.specs.Reading.{read_each}
+use Rattle.am_json.specs.Reading.{read_item_array, read_items, read_items_or_null, read_json}
+use Rattle.am_json.specs.Reading.{read_next_item, reading_within, refuse}
+use Rattle.am_json.specs.Reading.{refuse_where, required_items, required_text, result_then}
+use Rattle.am_json.specs.Reading.{stopped_at_first, ◌>>=◌}
 use Rattle.am_json.specs.ReadingLaw.{IsReadExactly}
-use Rattle.am_json.proofs.Fields.{file_decided}
-use Rattle.am_json.proofs.FileLemmas.{bytes_decide, bytes_refused}
-use Rattle.am_json.proofs.PlaceLemmas.{Form, Judges, RanksTell, first_decides, none_decides}
-use Rattle.am_json.proofs.PlaceLemmas.{refused_reached}
 use Rattle.am_json.proofs.Readings.{Decides, fault_decides, says_one}
 
-abbrev pub IsFirstOf : {P : Type 0} → (Data → Form P) → Data → Refusal → Type 0
-IsFirstOf form d r = IsFirstFault (form d).path (form d).fault_at r
+-- ---- One after the other.
 
-abbrev pub IsMetOf : {P : Type 0} → (Data → Form P) → Data → Refusal → Type 0
-IsMetOf form d r = IsMetPattern (form d).path (form d).fault_at (form d).has_pattern r
+then_result : {A B : Type 0} (os : List Objection) (x : A) (f : A → Reading B)
+    → StopsAtFirst (f x) → result_then (ok_unless (first_fault os) x) (λ y. (f y).result)
+    ≡ ok_unless (first_fault (os ++ (f x).objections)) (f x).taken
+then_result [] x f law = law.result
+then_result (a_fault r ∷ os) x f law = refl
+then_result (a_pattern pointer ∷ os) x f law = then_result os x f law
 
-pub record FormLaws {A P : Type 0} (Says : Data → A → Type 0) (read : Data → Reading A)
-    (form : Data → Form P) : Type 0 where
-  pub value : IsReadExactly Says read (IsFirstOf form)
-  pub sound : (d : Data) → ((x : A) × Says d x) ↔ ((place : P) → (form d).fault_at place ≡ None)
-  pub refused : (d : Data) (r : Refusal) → MayRefuse (read d) r → IsFirstOf form d r ⊎ IsMetOf form d r
-  pub file : IsReadExactly (FileSays Says) (λ bytes. read_json bytes >>= read)
-      (IsFirstFaultOfFile (IsFirstOf form))
-  pub file_refused : (bytes : List ℕ) (r : Refusal) → MayRefuse (read_json bytes >>= read) r
-      → IsFileRefusedFor (IsFirstOf form) (IsMetOf form) bytes r
-  -- a file that says something is refused for no more than a pattern
-  pub accepted : (bytes : List ℕ) (x : A) (r : Refusal) → FileSays Says bytes x
-      → IsFileRefusedFor (IsFirstOf form) (IsMetOf form) bytes r
-      → r.kind ≡ kinds.Pattern
+then_patterns : {A B : Type 0} (os : List Objection) (x : A) (f : A → Reading B)
+    → StopsAtFirst (f x)
+    → patterns_before os ++ patterns_then (ok_unless (first_fault os) x) (λ y. (f y).patterns)
+    ≡ patterns_before (os ++ (f x).objections)
+then_patterns [] x f law = law.patterns
+then_patterns (a_fault r ∷ os) x f law = refl
+then_patterns (a_pattern pointer ∷ os) x f law =
+    ap (λ (ps : List (List ℕ)). pointer ∷ ps) (then_patterns os x f law)
 
-exactly : {D A : Type 0} {Says : D → A → Type 0} {IsFirst : D → Refusal → Type 0}
-    (reading : D → Reading A) → ((d : D) → Decides (Says d) (reading d).result)
-    → ((d : D) (r : Refusal) → ((reading d).result ≡ Err r) ↔ IsFirst d r)
-    → IsReadExactly Says reading IsFirst
-exactly reading decides first = record {
-  read = λ d x. ((decides d).reads x, (decides d).says x);
-  one = λ d x y. says_one (decides d) x y;
-  faults = λ d. fault_decides (decides d);
-  first = first;
+pub then_stops : {A B : Type 0} (m : Reading A) (f : A → Reading B) → StopsAtFirst m
+    → ((x : A) → StopsAtFirst (f x)) → StopsAtFirst (m >>= f)
+then_stops {A} {B} m f law laws = record {
+  result =
+      ap (λ (read : Result A Refusal). result_then read (λ y. (f y).result)) law.result
+      ∙ then_result m.objections m.taken f (laws m.taken);
+  patterns =
+      (λ i. law.patterns i ++ patterns_then (law.result i) (λ y. (f y).patterns))
+      ∙ then_patterns m.objections m.taken f (laws m.taken);
 }
 
--- what says something has no first fault
-pub says_no_fault : {D A : Type 0} {Says : D → A → Type 0} {reading : D → Reading A}
-    {IsFirst : D → Refusal → Type 0} → IsReadExactly Says reading IsFirst → (d : D) (x : A)
-    (r : Refusal) → Says d x → IsFirst d r → ⊥
-says_no_fault exact d x r said is =
-    let both : Ok x ≡ Err r = sym ((exact.read d x).0 said) ∙ (exact.first d r).1 is in absurd cc
+-- ---- A part.
 
-module _ {A P : Type 0} (Says : Data → A → Type 0) (read : Data → Reading A) (form : Data → Form P)
-    (decides : (d : Data) → Decides (Says d) (read d).result)
-    (judged : (d : Data) → Judges (form d) (read d))
-    (tell : (d : Data) → RanksTell (form d).path) where
-  first : (d : Data) (r : Refusal) → ((read d).result ≡ Err r) ↔ IsFirstOf form d r
-  first d r = first_decides (form d) (tell d) (read d).result (judged d).tells r
+within_result : {A : Type 0} (part : List ℕ) (os : List Objection) (x : A)
+    → result_map_both (λ y. y) (refusal_within part) (ok_unless (first_fault os) x)
+    ≡ ok_unless (first_fault (objections_within part os)) x
+within_result part [] x = refl
+within_result part (a_fault r ∷ os) x = refl
+within_result part (a_pattern pointer ∷ os) x = within_result part os x
 
-  file_read : IsReadExactly (FileSays Says) (λ bytes. read_json bytes >>= read)
-      (IsFirstFaultOfFile (IsFirstOf form))
-  file_read =
-      exactly (λ bytes. read_json bytes >>= read) (file_decided Says read decides)
-      (bytes_decide (IsFirstOf form) (IsMetOf form) read first (λ d r met. (judged d).meets r met))
+within_patterns : (part : List ℕ) (os : List Objection)
+    → map (λ pointer. part ++ pointer) (patterns_before os)
+    ≡ patterns_before (objections_within part os)
+within_patterns part [] = refl
+within_patterns part (a_fault r ∷ os) = refl
+within_patterns part (a_pattern pointer ∷ os) =
+    ap (λ (ps : List (List ℕ)). (part ++ pointer) ∷ ps) (within_patterns part os)
 
-  a_pattern : (found : Option Data) (r : Refusal) → IsMetPatternOfValue (IsMetOf form) found r
+pub within_stops : {A : Type 0} (part : List ℕ) (m : Reading A) → StopsAtFirst m
+    → StopsAtFirst (reading_within part m)
+within_stops {A} part m law = record {
+  result =
+      ap (λ (read : Result A Refusal). result_map_both (λ y. y) (refusal_within part) read)
+      law.result ∙ within_result part m.objections m.taken;
+  patterns =
+      ap (λ (ps : List (List ℕ)). map (λ pointer. part ++ pointer) ps) law.patterns
+      ∙ within_patterns part m.objections;
+}
+
+-- ---- What is found, and checks.
+
+pub accept_stops : {A : Type 0} (x : A) → StopsAtFirst (accept x)
+accept_stops x = record { result = refl; patterns = refl }
+
+pub accept_or_stops : {A : Type 0} (stand_in : A) (found : Option A) (r : Refusal)
+    → StopsAtFirst (accept_or stand_in found r)
+accept_or_stops stand_in None r = record { result = refl; patterns = refl }
+accept_or_stops stand_in (Some x) r = record { result = refl; patterns = refl }
+
+pub refuse_stops : {A : Type 0} (stand_in : A) (r : Refusal) → StopsAtFirst (refuse stand_in r)
+refuse_stops stand_in r = record { result = refl; patterns = refl }
+
+pub stopped_stops : {A : Type 0} (taken : A) (os : List Objection)
+    → StopsAtFirst (stopped_at_first taken os)
+stopped_stops taken os = record { result = refl; patterns = refl }
+
+pub refuse_where_stops : (found : Option Refusal) → StopsAtFirst (refuse_where found)
+refuse_where_stops None = record { result = refl; patterns = refl }
+refuse_where_stops (Some r) = record { result = refl; patterns = refl }
+
+pub if_stops : {A : Type 0} (b : Bool) (m n : Reading A) → StopsAtFirst m → StopsAtFirst n
+    → StopsAtFirst (cond b m n)
+if_stops true m n law other = law
+if_stops false m n law other = other
+
+-- what a form is lawful by
+pub ruleset stops = (
+  then_stops,
+  within_stops,
+  accept_stops,
+  accept_or_stops,
+  refuse_stops,
+  refuse_where_stops,
+  stopped_stops,
+  if_stops,
+)
+
+-- ---- The parts of an object, and items.
+
+pub only_fields_stop : (known : List (List ℕ)) (d : Data) → StopsAtFirst (check_only_fields known d)
+unfolding check_only_fields
+only_fields_stop known d = search stops
+
+pub text_stops : (key : List ℕ) (d : Data) → StopsAtFirst (required_text key d)
+unfolding required_text
+text_stops key d = search stops
+
+pub items_stop : (key : List ℕ) (d : Data) → StopsAtFirst (required_items key d)
+unfolding required_items
+items_stop key d = search stops
+
+pub optional_stops : (found : Option Data) → StopsAtFirst (optional_items found)
+optional_stops None = accept_stops []
+optional_stops (Some d) = search stops
+
+pub optional_items_stop : (key : List ℕ) (d : Data) → StopsAtFirst (read_optional_items key d)
+unfolding read_optional_items
+optional_items_stop key d = search (stops, optional_stops)
+
+boolean_stops : (default : Bool) (found : Option Data) → StopsAtFirst (boolean_or default found)
+boolean_stops default None = accept_stops default
+boolean_stops default (Some d) = search stops
+
+pub boolean_or_stops : (default : Bool) (key : List ℕ) (d : Data)
+    → StopsAtFirst (read_boolean_or default key d)
+unfolding read_boolean_or
+boolean_or_stops default key d = search (stops, boolean_stops)
+
+pub each_stops : {A X : Type 0} (read : A → X → Reading A)
+    → ((before : A) (x : X) → StopsAtFirst (read before x)) → (before : A) (xs : List X)
+    → StopsAtFirst (read_each read before xs)
+unfolding read_each
+each_stops read law before [] = accept_stops before
+each_stops read law before (x ∷ xs) =
+    then_stops (read before x) (λ next. read_each read next xs) (law before x)
+    (λ next. each_stops read law next xs)
+
+next_stops : {A : Type 0} (read : List A → Data → Reading A)
+    → ((before : List A) (d : Data) → StopsAtFirst (read before d)) → (before : List A) (d : Data)
+    → StopsAtFirst (read_next_item read before d)
+unfolding read_next_item
+next_stops read law before d = search (stops, law)
+
+pub read_items_stop : {A : Type 0} (read : List A → Data → Reading A)
+    → ((before : List A) (d : Data) → StopsAtFirst (read before d)) → (before : List A)
+    (items : List Data) → StopsAtFirst (read_items read before items)
+read_items_stop read law before items =
+    each_stops (read_next_item read) (next_stops read law) before items
+
+module _ {A : Type 0} (read : Form Data A) (law : IsLawful read) (limit : ℕ) where
+  pub counted_stop : (items : List Data) → StopsAtFirst (read_counted limit read items)
+  unfolding read_counted
+  counted_stop items =
+      search (stops, read_items_stop (λ _ item. read item) (λ _ item. law item))
+
+  array_stops : (d : Data) → StopsAtFirst (read_item_array limit read d)
+  unfolding read_item_array
+  array_stops d = search (stops, counted_stop)
+
+  pub or_null_stop : (d : Data) → StopsAtFirst (read_items_or_null limit read d)
+  or_null_stop d = search (stops, array_stops)
+
+  pub optional_array_stops : (key : List ℕ) (d : Data)
+      → StopsAtFirst (read_optional_array key limit read d)
+  unfolding read_optional_array
+  optional_array_stops key d = search (stops, optional_items_stop, counted_stop)
+
+-- a file is lawful where its value is
+pub file_stops : {A : Type 0} (form : Form Data A) → IsLawful form
+    → IsLawful (λ bytes. read_json bytes >>= form)
+unfolding read_json
+file_stops form law bytes = search (stops, law)
+
+-- ---- Forms in which no pattern is met.
+
+patterns_none : {A : Type 0} (result : Result A Refusal) (patterns : A → List (List ℕ))
+    → ((x : A) → patterns x ≡ []) → patterns_then result patterns ≡ []
+patterns_none (Ok x) patterns none = none x
+patterns_none (Err r) patterns none = refl
+
+pub then_plain : {A B : Type 0} (m : Reading A) (f : A → Reading B) → m.patterns ≡ []
+    → ((x : A) → (f x).patterns ≡ []) → (m >>= f).patterns ≡ []
+then_plain m f none more = rw (none, patterns_none m.result (λ x. (f x).patterns) more) refl
+
+pub within_plain : {A : Type 0} (part : List ℕ) (m : Reading A) → m.patterns ≡ []
+    → (reading_within part m).patterns ≡ []
+within_plain part m none = rw none refl
+
+pub if_plain : {A : Type 0} (b : Bool) (m n : Reading A) → m.patterns ≡ [] → n.patterns ≡ []
+    → (cond b m n).patterns ≡ []
+if_plain true m n none other = none
+if_plain false m n none other = other
+
+pub ruleset plain = (then_plain, within_plain, if_plain)
+
+pub each_plain : {A X : Type 0} (read : A → X → Reading A)
+    → ((before : A) (x : X) → (read before x).patterns ≡ []) → (before : A) (xs : List X)
+    → (read_each read before xs).patterns ≡ []
+unfolding read_each
+each_plain read none before [] = refl
+each_plain read none before (x ∷ xs) =
+    then_plain (read before x) (λ next. read_each read next xs) (none before x)
+    (λ next. each_plain read none next xs)
+
+next_plain : {A : Type 0} (read : List A → Data → Reading A)
+    → ((before : List A) (d : Data) → (read before d).patterns ≡ []) → (before : List A) (d : Data)
+    → (read_next_item read before d).patterns ≡ []
+unfolding read_next_item
+next_plain read none before d = search (plain, none)
+
+module _ {A : Type 0} (read : Form Data A) (none : (d : Data) → (read d).patterns ≡ []) (limit : ℕ)
+  where
+    array_plain : (d : Data) → (read_item_array limit read d).patterns ≡ []
+    unfolding read_item_array read_counted
+    array_plain d =
+        search (
+          plain,
+          each_plain (read_next_item (λ _ item. read item))
+              (next_plain (λ _ item. read item) (λ _ item. none item)),
+        )
+
+    pub or_null_plain : (d : Data) → (read_items_or_null limit read d).patterns ≡ []
+    or_null_plain d = search (plain, array_plain)
+
+pub file_plain : {A : Type 0} (form : Form Data A) → ((d : Data) → (form d).patterns ≡ [])
+    → (bytes : List ℕ) → (read_json bytes >>= form).patterns ≡ []
+unfolding read_json
+file_plain form none bytes = search (plain, none)
+
+-- ---- What follows for every lawful form.
+
+pub unless_ok : {A : Type 0} (found : Option Refusal) (x y : A) → ok_unless found x ≡ Ok y
+    → found ≡ None
+unless_ok None x y e = refl
+unless_ok (Some r) x y e = absurd cc
+
+unless_err : {A : Type 0} (found : Option Refusal) (x : A) (r : Refusal)
+    → (ok_unless found x ≡ Err r) ↔ (found ≡ Some r)
+unless_err None x r = (λ e. absurd cc, λ e. absurd cc)
+unless_err (Some s) x r = (λ e. cc, λ e. cc)
+
+-- a pattern that is met may be refused, and so may the first fault
+met_refused : (os : List Objection) (r : Refusal) → IsPatternRefusal (patterns_before os) r
+    → IsRefusedFor os r
+met_refused [] r met = met
+met_refused (a_fault found ∷ os) r met = absurd met
+met_refused (a_pattern pointer ∷ os) r (inl is) = inl is
+met_refused (a_pattern pointer ∷ os) r (inr met) = inr (met_refused os r met)
+
+first_refused : (os : List Objection) (r : Refusal) → first_fault os ≡ Some r → IsRefusedFor os r
+first_refused [] r e = absurd cc
+first_refused (a_fault found ∷ os) r e = cc
+first_refused (a_pattern pointer ∷ os) r e = inr (first_refused os r e)
+
+-- where nothing is at fault, no more than a pattern may be refused
+only_pattern : (os : List Objection) (r : Refusal) → first_fault os ≡ None → IsRefusedFor os r
+    → r.kind ≡ kinds.Pattern
+only_pattern [] r none refused = absurd refused
+only_pattern (a_fault found ∷ os) r none refused = absurd cc
+only_pattern (a_pattern pointer ∷ os) r none (inl is) = ap (λ (s : Refusal). s.kind) is
+only_pattern (a_pattern pointer ∷ os) r none (inr refused) = only_pattern os r none refused
+
+pub record FormLaws {X A : Type 0} (Says : X → A → Type 0) (form : Form X A) : Type 0 where
+  -- reading gives exactly what is said, and refuses for exactly the first fault
+  pub exact : IsReadExactly Says form (λ x r. first_fault (form x).objections ≡ Some r)
+  -- something is said exactly where nothing is at fault
+  pub sound : (x : X) → ((a : A) × Says x a) ↔ (first_fault (form x).objections ≡ None)
+  -- what may be refused is objected to
+  pub refused : (x : X) (r : Refusal) → MayRefuse (form x) r → IsRefusedFor (form x).objections r
+  -- and where something is said, for no more than a pattern
+  pub accepted : (x : X) (a : A) (r : Refusal) → Says x a → IsRefusedFor (form x).objections r
       → r.kind ≡ kinds.Pattern
-  a_pattern None r met = absurd met
-  a_pattern (Some d) r met = met.stands.1
 
-  file_accepted : (bytes : List ℕ) (x : A) (r : Refusal) → FileSays Says bytes x
-      → IsFileRefusedFor (IsFirstOf form) (IsMetOf form) bytes r
-      → r.kind ≡ kinds.Pattern
-  file_accepted bytes x r said (inl is) =
-      absurd (says_no_fault file_read bytes x r said is)
-  file_accepted bytes x r said (inr met) = a_pattern (json_of bytes) r met.1
+module _ {X A : Type 0} (Says : X → A → Type 0) (form : Form X A)
+    (decides : (x : X) → Decides (Says x) (form x).result) (law : IsLawful form) where
+  first : (x : X) (r : Refusal)
+      → ((form x).result ≡ Err r) ↔ (first_fault (form x).objections ≡ Some r)
+  first x r =
+      let by = unless_err (first_fault (form x).objections) (form x).taken r in
+      (λ e. by.0 (sym (law x).result ∙ e), λ e. (law x).result ∙ by.1 e)
 
-  pub form_laws : FormLaws Says read form
+  none : (x : X) (a : A) → Says x a → first_fault (form x).objections ≡ None
+  none x a said =
+      unless_ok (first_fault (form x).objections) (form x).taken a
+      (sym (law x).result ∙ (decides x).reads a said)
+
+  pub form_laws : FormLaws Says form
   form_laws = record {
-    value = exactly read decides first;
-    sound = λ d. none_decides (form d) (read d).result (judged d).tells (decides d);
-    refused = λ d r refused. refused_reached (form d) (read d) (judged d) r refused;
-    file = file_read;
-    file_refused =
-        bytes_refused (IsFirstOf form) (IsMetOf form) read first
-        (λ d r met. (judged d).meets r met);
-    accepted = file_accepted;
+    exact = record {
+      read = λ x a. ((decides x).reads a, (decides x).says a);
+      one = λ x a b. says_one (decides x) a b;
+      faults = λ x. fault_decides (decides x);
+      first = first;
+    };
+    sound = λ x. (
+      λ said. none x said.0 said.1,
+      λ e. (
+        (form x).taken,
+        (decides x).says (form x).taken
+            ((law x).result ∙ ap (λ (found : Option Refusal). ok_unless found (form x).taken) e),
+      ),
+    );
+    refused = λ x r. elim [
+      | inl e ↦ first_refused (form x).objections r ((first x r).0 e)
+      | inr met ↦ met_refused (form x).objections r
+          (rw (law x).patterns at met)
+    ];
+    accepted = λ x a r said refused.
+        only_pattern (form x).objections r (none x a said) refused;
   }
 
-no_pattern : {P : Type 0} (form : Data → Form P)
-    → ((d : Data) (place : P) → (form d).has_pattern place ≡ false) → (found : Option Data)
-    (r : Refusal) → IsMetPatternOfValue (IsMetOf form) found r → ⊥
-no_pattern form none None r met = met
-no_pattern form none (Some d) r met =
-    let no : true ≡ false = sym met.stands.0 ∙ none d met.place in cc
+-- where no pattern is met, what is refused is the first fault
+pub plain_refused : {X A : Type 0} {Says : X → A → Type 0} {form : Form X A} → FormLaws Says form
+    → (x : X) (r : Refusal) → (form x).patterns ≡ [] → MayRefuse (form x) r
+    → first_fault (form x).objections ≡ Some r
+plain_refused {form = form} laws x r none (inl e) = (laws.exact.first x r).0 e
+plain_refused {form = form} laws x r none (inr met) = absurd (rw none at met)
 
--- where no place has a pattern, what is refused of a file is its first fault
-pub first_refused : {A P : Type 0} {Says : Data → A → Type 0} {read : Data → Reading A}
-    {form : Data → Form P} → FormLaws Says read form
-    → ((d : Data) (place : P) → (form d).has_pattern place ≡ false) → (bytes : List ℕ) (r : Refusal)
-    → MayRefuse (read_json bytes >>= read) r → IsFirstFaultOfFile (IsFirstOf form) bytes r
-first_refused {form = form} laws none bytes r refused =
-    elim (laws.file_refused bytes r refused) [
-      | inl is ↦ is
-      | inr met ↦ absurd (no_pattern form none (json_of bytes) r met.1)
-    ]
+-- what says something has no first fault
+pub says_no_fault : {X A : Type 0} {Says : X → A → Type 0} {form : Form X A} → FormLaws Says form
+    → (x : X) (a : A) (r : Refusal) → Says x a → first_fault (form x).objections ≡ Some r → ⊥
+says_no_fault {A = A} laws x a r said is =
+    let both : Ok a ≡ Err r = sym ((laws.exact.read x a).0 said) ∙ (laws.exact.first x r).1 is in
+    absurd cc

@@ -130,7 +130,7 @@ AllFit Fits before (x ∷ xs) = Fits before x × AllFit Fits (before ++ x ∷ []
 
 module _ {A : Type 0} (Says : Data → A → Type 0) (Fits : List A → A → Type 0) (read : List A → Data
     → Reading A) where
-  pub items_say : ((before : List A) (d : Data) (x : A) → (read before d).result ≡ Ok x
+  items_say : ((before : List A) (d : Data) (x : A) → (read before d).result ≡ Ok x
       → Says d x × Fits before x) → (before : List A) (ds : List Data) (all : List A)
       → (read_items read before ds).result ≡ Ok all → (xs : List A) × (all ≡ before ++ xs)
       × AllZip Says ds xs × AllFit Fits before xs
@@ -161,6 +161,19 @@ module _ {A : Type 0} (Says : Data → A → Type 0) (Fits : List A → A → Ty
       items_read reads (before ++ x ∷ []) ds xs said.1 fits.1 in
       rw (here, rest) (ap (λ (ys : List A). Ok ys) (append_assoc before (x ∷ []) xs))
 
+  pub read_items_decide : ((before : List A) (d : Data)
+      → Decides (λ x. Says d x × Fits before x) ((read before d).result)) → (ds : List Data)
+      → Decides (λ xs. AllZip Says ds xs × AllFit Fits [] xs) ((read_items read [] ds).result)
+  read_items_decide decides ds = record {
+    says = λ xs h.
+        let found = items_say (λ before d. (decides before d).says) [] ds xs h in
+        subst (λ (ys : List A). AllZip Says ds ys × AllFit Fits [] ys) (sym found.1)
+        (found.2, found.3);
+    reads = λ xs said.
+        items_read (λ before d x says fits. (decides before d).reads x (says, fits)) [] ds xs said.0
+        said.1;
+  }
+
 -- each of the values may stand behind any others
 abbrev AlwaysFits : {A : Type 0} → List A → A → Type 0
 AlwaysFits before x = ⊤
@@ -188,6 +201,10 @@ module _ {A : Type 0} (Says : Data → A → Type 0) (read : Data → Reading A)
   each_reads ds xs said =
       items_read Says AlwaysFits (λ before d. read d)
       (λ before d x says fits. (decides d).reads x says) [] ds xs said (all_fit [] xs)
+
+  pub each_decide : (ds : List Data)
+      → Decides (AllZip Says ds) ((read_items (λ before d. read d) [] ds).result)
+  each_decide ds = record { says = each_says ds; reads = each_reads ds }
 
   -- those of at most so many
   module _ (limit : ℕ) where

@@ -4,12 +4,6 @@ pub mod Readings
 pub mod Items
 pub mod Fields
 pub mod Keys
-pub mod PlaceOrder
-pub mod SameReadings
-pub mod PlaceLemmas
-pub mod SequenceLemmas
-pub mod FieldLemmas
 pub mod OptionalArrays
-pub mod ObjectLemmas
-pub mod FileLemmas
+pub mod Deciding
 pub mod FormLaws

@@ -13,8 +13,9 @@ use Rattle.am_json.specs.declared.read_error.ReadError.{ReadError}
 use Rattle.am_json.specs.declared.read_error.ReadError.TheVariants as errors
 use Rattle.am_json.specs.Pointer.{Refusal, refusal_here, refusal_within}
 use Rattle.am_json.specs.Reading.{Reading, result_then, patterns_then, ◌>>=◌, reading_within}
-use Rattle.am_json.specs.Reading.{err_where, refuse_for, check_count, IsPatternRefusal, MayRefuse}
-use Rattle.am_json.specs.Reading.{IsRefusalOrMemory, Fails, Gives, IsReadingWithin, IsFaultOf, IsRefusalAt}
+use Rattle.am_json.specs.Reading.{ok_unless, refuse_for, check_count, IsPatternRefusal, MayRefuse}
+use Rattle.am_json.specs.Reading.{IsRefusalOrMemory, Fails, Gives, IsReadingWithin, IsFaultOf}
+use Rattle.am_json.specs.Reading.{IsRefusalAt, IsFoundOrRefused}
 
 -- ---- Patterns that were met.
 
@@ -144,7 +145,7 @@ within_if_ok part (Err (errors.Refused r)) (Err e) P h is = tt
 no_memory : (found : Refusal) → errors.Refused found ≡ errors.Memory → ⊥
 no_memory found h = cc
 
-pub here_fails : {A : Type 0} (kind : Kind) (e : ReadError) (m : Reading A)
+here_fails : {A : Type 0} (kind : Kind) (e : ReadError) (m : Reading A)
     → IsRefusalOrMemory e (refusal_here kind)
     → (kind ≡ kinds.Memory → e ≡ errors.Memory)
     → (kind ≢ kinds.Memory → MayRefuse m (refusal_here kind)) → Fails e m
@@ -152,6 +153,17 @@ here_fails kind errors.Memory m tells memory refuses = tt
 here_fails kind (errors.Refused found) m tells memory refuses =
     fails_refused (errors.Refused found) m (refusal_here kind) tells
     (refuses (λ h. no_memory found (memory h)))
+
+-- what was found or refused, where the reading gives it, or may refuse it so
+pub found_gives : {X Y : Type 0} (view : X → Y) (found : Result X Kind) (seen : Result X ReadError)
+    (m : Reading Y) → IsFoundOrRefused found seen
+    → ((x : X) → found ≡ Ok x → m.result ≡ Ok (view x))
+    → ((kind : Kind) → found ≡ Err kind → kind ≢ kinds.Memory
+    → MayRefuse m (refusal_here kind)) → Gives view seen m
+found_gives view (Ok x) seen m is gives refuses = rw is (gives x refl)
+found_gives view (Err kind) (Ok x) m is gives refuses = absurd is
+found_gives view (Err kind) (Err e) m is gives refuses =
+    here_fails kind e m is.0 is.1 (refuses kind refl)
 
 -- ---- Steps that have no fault.
 
@@ -171,7 +183,7 @@ refuse_for_ok None x h = refl
 refuse_for_ok (Some kind) x h = absurd cc
 
 test_ok : (b : Bool) (x : ⊤)
-    → err_where (option_map refusal_here (cond b (Some kinds.Limit) None)) ≡ Ok x → b ≡ false
+    → ok_unless (option_map refusal_here (cond b (Some kinds.Limit) None)) tt ≡ Ok x → b ≡ false
 test_ok true x h = absurd cc
 test_ok false x h = refl
 

@@ -1,7 +1,7 @@
 -- The JSON value of a file, and its parts. (RFC 8259, as `serde_json` reads it.)
 use Rattle.std.specs.Prelude.{◌≡◌, ◌⊎◌, ◌≤◌, ℕ, List, [], ◌∷◌, length, Bool, not, ◌&&◌}
 use Rattle.std.specs.Prelude.{if◌then◌else◌, Option, Some, None, is_some, option_map}
-use Rattle.std.specs.Prelude.{option_and_then, IsTrue, ⊤}
+use Rattle.std.specs.Prelude.{option_and_then, unwrap_or, IsTrue, ⊤}
 use Rattle.std.specs.Ordering.{nat_cmp, match_ordering}
 use Rattle.std.specs.Cmp.Lexicographic.{slice_cmp}
 use Rattle.std.specs.List.{list_any}
@@ -13,11 +13,11 @@ use Rattle.serde_json.specs.Read.{read}
 use Rattle.am_universe.specs.Text.{same_text}
 use Rattle.am_json.specs.declared.limits.TheConstants.{MAX_FILE_BYTES}
 
--- The JSON value of the bytes of a file, if they have one: they are UTF-8, and the grammar of
--- `serde_json` reads them. Nesting of 127 is read, and deeper nesting is not.
+-- The JSON value of the bytes of a file. They have one if they are UTF-8 and the grammar of
+-- `serde_json` reads them. It reads at most 127 levels of nesting.
 -- Source: RFC 8259. What it leaves open is as `serde_json` has it: of a key that stands twice in
 -- one object the last counts, and nesting has a limit.
--- Example: the value of `{"a": 1, "a": 2}` is that of `{"a": 2}`, and `{"a": 1,}` has no value.
+-- Example: the value of `{"a": 1, "a": 2}` is that of `{"a": 2}`. `{"a": 1,}` has no value.
 abbrev pub json_of : List ℕ → Option Data
 json_of bytes = if is_utf8 bytes then read bytes else None
 
@@ -30,18 +30,17 @@ FileSays Says bytes x =
 abbrev pub is_null : Data → Bool
 is_null d = is_some (as_null d)
 
--- A field of an object that is `null` is absent: `non_null` takes a value that is `null` as none,
--- and `field` is the value of the field of a key, if there is one.
+-- A field that is `null` counts as absent. `non_null` returns a value unless it is `null`, and
+-- `field` returns the value of the field with a key, if there is one.
 -- Source: own choice.
--- Example: in `{"a": null, "b": 1}` the field `b` is 1, and `a` is absent, as is `c`.
+-- Example: in `{"a": null, "b": 1}` the field `b` is 1. The fields `a` and `c` are absent.
 abbrev pub non_null : Data → Option Data
 non_null d = if is_null d then None else Some d
 
 abbrev pub field : List ℕ → Data → Option Data
 field key d = option_and_then non_null (get key d)
 
--- What a field says that has a truth value or is absent: that value, and where it is absent this
--- default.
+-- A field says a truth value: it is `true` or `false`. If it is absent, it says this default.
 abbrev pub SaysBooleanOr : Bool → List ℕ → Data → Bool → Type 0
 SaysBooleanOr default key d truth =
     ((field key d ≡ None) × (truth ≡ default)) ⊎ (field key d ≡ Some (boolean truth))
@@ -73,6 +72,10 @@ item_list (item d ds) = d ∷ item_list ds
 
 abbrev pub items_of : Data → Option (List Data)
 items_of d = option_map item_list (as_array d)
+
+-- The items of the array in a field, and none where there is no array.
+abbrev pub items_in_field : Option Data → List Data
+items_in_field found = unwrap_or (option_and_then items_of found) []
 
 -- The members of an object as a list of keys and values.
 abbrev pub member_list : Members → List (List ℕ × Data)

@@ -1,6 +1,7 @@
 pub mod Json
 pub mod Pointer
-pub mod Places
+pub mod Objections
 pub mod Reading
 pub mod OptionalItems
 pub mod ReadingLaw
+pub mod FormExamples

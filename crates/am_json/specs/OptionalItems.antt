@@ -1,23 +1,21 @@
--- An array in a field that may be absent: which items it has, what is wrong with it, and reading
--- it; and what an array says that may be `null`. (This project's own.)
+-- An array in a field that may be absent: which items it has, and its form; and what an array says
+-- that may be `null`. (This project's own.)
 use Rattle.std.specs.Prelude.{◌≡◌, ◌⊎◌, ◌≤◌, ℕ, List, [], length, Option, Some, None}
 use Rattle.std.specs.Prelude.{option_and_then}
 use Rattle.std.specs.List.{AllZip}
 use Rattle.serde_json.specs.Data.{Data, null}
-use Rattle.am_universe.specs.declared.kind.Kind.{Kind}
 use Rattle.am_json.specs.Json.{field, items_of}
-use Rattle.am_json.specs.Places.{shape_or, if_there, limit_fault}
 use Rattle.am_json.specs.Pointer.{to_field}
 use Rattle.am_json.specs.Reading.{Reading, ◌>>=◌, accept, reading_within, as_items, read_counted}
 
--- A field has an array with these items; where the field is absent, there are none.
+-- A field has an array with these items. If the field is absent, there are none.
 abbrev pub HasItems : List ℕ → Data → List Data → Type 0
 HasItems key d items =
     ((field key d ≡ None) × (items ≡ []))
     ⊎ (option_and_then items_of (field key d) ≡ Some items)
 
--- An array of at most so many items says what they say, in their order, and `null` says that there
--- are none.
+-- An array of at most so many items says a list: each item says the element at its position. `null`
+-- says the empty list.
 -- Source: own choice.
 -- Example: of texts, `["a", "b"]` says two where so many may be, and nothing where one may be.
 pub record AreItems {A : Type 0} (Says : Data → A → Type 0) (limit : ℕ) (d : Data) (xs : List A)
@@ -29,11 +27,6 @@ pub record AreItems {A : Type 0} (Says : Data → A → Type 0) (limit : ℕ) (d
 
 abbrev pub SaysItemsOrNull : {A : Type 0} → (Data → A → Type 0) → ℕ → Data → List A → Type 0
 SaysItemsOrNull Says limit d xs = ((d ≡ null) × (xs ≡ [])) ⊎ AreItems Says limit d xs
-
--- What is wrong with an array that may be absent: it is none, or has too many items.
-abbrev pub optional_array_fault : ℕ → Option Data → Option Kind
-optional_array_fault limit found =
-    if_there (λ d. shape_or (λ items. limit_fault limit (length items)) (items_of d)) found
 
 -- The items of an array that may be absent, and those of the array in a field that may be absent.
 abbrev pub optional_items : Option Data → Reading (List Data)

@@ -1,10 +1,11 @@
--- Reading a JSON value field by field, with the first fault that is met. (This project's own.)
--- Readings serve the proofs of the readers; what callers are told of a fault is said by places.
+-- Forms: what is made of a value, part by part. A form says of each value what it is taken for, and
+-- what there is to object to, in order; and what reading it comes to, which stops at the first
+-- fault. (This project's own.)
 use Rattle.std.specs.Prelude.{◌≡◌, ◌≢◌, ◌⊎◌, ℕ, List, [], ◌∷◌, ◌++◌, length, map}
-use Rattle.std.specs.Prelude.{Option, Some, None, option_map, ok_or, Result, Ok, Err}
+use Rattle.std.specs.Prelude.{Option, Some, None, option_map, ok_or, unwrap_or, Result, Ok, Err}
 use Rattle.std.specs.Prelude.{Bool, IsErrAnd, if◌then◌else◌, string_bytes, ⊤}
 use Rattle.std.specs.Result.{result_map_both}
-use Rattle.serde_json.specs.Data.{Data, Members}
+use Rattle.serde_json.specs.Data.{Data, null, Members, no_members}
 use Rattle.serde_json.specs.Find as find
 use Rattle.am_universe.specs.declared.kind.Kind.{Kind}
 use Rattle.am_universe.specs.declared.kind.Kind.TheVariants as kinds
@@ -14,43 +15,92 @@ use Rattle.am_json.specs.declared.read_error.ReadError.{ReadError}
 use Rattle.am_json.specs.declared.read_error.ReadError.TheVariants as errors
 use Rattle.am_json.specs.declared.limits.TheConstants.{MAX_FILE_BYTES}
 use Rattle.am_json.specs.Json.{json_of, is_null, field, unknown_field, items_of}
+use Rattle.am_json.specs.Objections.{Objection, a_fault, objections_within, first_fault}
+use Rattle.am_json.specs.Objections.{patterns_before, limit_fault}
 use Rattle.am_json.specs.Pointer.{Refusal, refusal_here, refusal_within, to_field, to_item}
-use Rattle.am_json.specs.Places.{limit_fault}
 
 -- ---- Readings.
 
--- What reading a value comes to. Whether the engine builds a pattern that its grammar reads is the
--- engine's to say, so a refusal is left open at each pattern of the profile that is met. All else
--- is exact.
+-- What a form makes of a value. Whatever is wrong with the value, it is taken for something: a part
+-- at fault gives way to a stand-in, as the empty text. So the objections to all parts are known, by
+-- the value alone. Behind the first fault an objection may follow from a stand-in. Whoever reads
+-- the value stops at the first fault. Whether the engine builds a pattern that its grammar reads is
+-- the engine's to say, so at each pattern of the profile it is open whether reading goes on.
 pub record Reading (A : Type 0) : Type 0 where
-  -- the value, or the first fault, where the engine builds each pattern that its grammar reads
+  -- what reading it gives, or the first fault, where the engine builds each pattern that its
+  -- grammar reads
   pub result : Result A Refusal
-  -- the pointers of the patterns of the profile that were met, in order
+  -- the pointers of the patterns of the profile that reading meets, in order
   pub patterns : List (List ℕ)
+  -- what the value is taken for
+  pub taken : A
+  -- what there is to object to, in order
+  pub objections : List Objection
 
--- A result, and no pattern is met.
-abbrev pub without_patterns : {A : Type 0} → Result A Refusal → Reading A
-without_patterns result = record { result = result; patterns = [] }
+-- A form: what is made of each value.
+abbrev pub Form : Type 0 → Type 0 → Type 0
+Form X A = X → Reading A
+
+-- The value that is taken, if there is no refusal of it.
+abbrev pub ok_unless : {A : Type 0} → Option Refusal → A → Result A Refusal
+ok_unless None x = Ok x
+ok_unless (Some r) x = Err r
+
+-- Reading stops at the first fault: it gives what the value is taken for where there is none, and
+-- meets the patterns before it.
+pub record StopsAtFirst {A : Type 0} (m : Reading A) : Type 0 where
+  pub result : m.result ≡ ok_unless (first_fault m.objections) m.taken
+  pub patterns : m.patterns ≡ patterns_before m.objections
+
+-- What is read where that is known of all objections.
+abbrev pub stopped_at_first : {A : Type 0} → A → List Objection → Reading A
+stopped_at_first taken objections = record {
+  taken = taken;
+  objections = objections;
+  result = ok_unless (first_fault objections) taken;
+  patterns = patterns_before objections;
+}
+
+-- A form is lawful if reading stops at the first fault, whatever the value.
+abbrev pub IsLawful : {X A : Type 0} → Form X A → Type 0
+IsLawful {X} form = (x : X) → StopsAtFirst (form x)
 
 -- The value is accepted.
 abbrev pub accept : {A : Type 0} → A → Reading A
-accept x = without_patterns (Ok x)
+accept x = record { taken = x; objections = []; result = Ok x; patterns = [] }
 
--- The value that there is, or else this refusal.
-abbrev pub accept_some : {A : Type 0} → Option A → Refusal → Reading A
-accept_some found r = without_patterns (ok_or found r)
+-- The objection that there is, if there is a refusal.
+abbrev pub fault_where : Option Refusal → List Objection
+fault_where None = []
+fault_where (Some r) = a_fault r ∷ []
 
--- The value is refused so.
-abbrev pub refuse : {A : Type 0} → Refusal → Reading A
-refuse r = without_patterns (Err r)
+-- This objection, if nothing was found.
+abbrev pub missing_where : {A : Type 0} → Option A → Refusal → List Objection
+missing_where None r = a_fault r ∷ []
+missing_where (Some x) r = []
+
+-- What is found, or else a stand-in and this refusal.
+abbrev pub accept_or : {A : Type 0} → A → Option A → Refusal → Reading A
+accept_or stand_in found r = record {
+  taken = unwrap_or found stand_in;
+  objections = missing_where found r;
+  result = ok_or found r;
+  patterns = [];
+}
+
+-- The value is refused so, and taken for a stand-in.
+abbrev pub refuse : {A : Type 0} → A → Refusal → Reading A
+refuse stand_in r =
+    record { taken = stand_in; objections = a_fault r ∷ []; result = Err r; patterns = [] }
 
 -- Refused so, where there is a refusal.
-abbrev pub err_where : Option Refusal → Result ⊤ Refusal
-err_where None = Ok tt
-err_where (Some r) = Err r
-
 abbrev pub refuse_where : Option Refusal → Reading ⊤
-refuse_where found = without_patterns (err_where found)
+refuse_where found = record {
+  taken = tt;
+  objections = fault_where found;
+  result = ok_unless found tt;
+  patterns = [];
+}
 
 -- The result of what is read of a value, or the refusal that there is none.
 abbrev pub result_then : {A B : Type 0} → Result A Refusal → (A → Result B Refusal)
@@ -63,17 +113,22 @@ abbrev pub patterns_then : {A : Type 0} → Result A Refusal → (A → List (Li
 patterns_then (Ok x) f = f x
 patterns_then (Err r) f = []
 
--- One reading, and then another of what it gave; the first refusal counts.
+-- One after the other: the objections to the first, and then those to the second, which is handed
+-- what the first was taken for.
 infixl 10 ◌>>=◌
 abbrev pub ◌>>=◌ : {A B : Type 0} → Reading A → (A → Reading B) → Reading B
 m >>= f = record {
   result = result_then m.result (λ x. (f x).result);
   patterns = m.patterns ++ patterns_then m.result (λ x. (f x).patterns);
+  taken = (f m.taken).taken;
+  objections = m.objections ++ (f m.taken).objections;
 }
 
--- What reading a part comes to, seen from the value that has the part.
+-- What is made of a part, seen from the value that has the part.
 abbrev pub reading_within : {A : Type 0} → List ℕ → Reading A → Reading A
 reading_within part m = record {
+  taken = m.taken;
+  objections = objections_within part m.objections;
   result = result_map_both (λ x. x) (refusal_within part) m.result;
   patterns = map (λ pointer. part ++ pointer) m.patterns;
 }
@@ -105,6 +160,14 @@ Fails (errors.Refused r) reading = MayRefuse reading r
 abbrev pub Gives : {X Y : Type 0} → (X → Y) → Result X ReadError → Reading Y → Type 0
 Gives view (Ok x) reading = reading.result ≡ Ok (view x)
 Gives view (Err e) reading = Fails e reading
+
+-- What was found, or else a refusal of its kind at the value that is looked at. The kind `Memory`
+-- says that memory ran out.
+abbrev pub IsFoundOrRefused : {X : Type 0} → Result X Kind → Result X ReadError → Type 0
+IsFoundOrRefused (Ok x) seen = seen ≡ Ok x
+IsFoundOrRefused (Err kind) seen =
+    IsErrAnd seen
+    (λ e. IsRefusalOrMemory e (refusal_here kind) × (kind ≡ kinds.Memory → e ≡ errors.Memory))
 
 -- What reading a part returned, seen from the value that has the part.
 abbrev pub IsReadingWithin : {X : Type 0} → List ℕ → Result X ReadError → Result X ReadError
@@ -148,15 +211,15 @@ check_count limit count = refuse_for (limit_fault limit count)
 
 -- The members of an object, and `shape` for a value of another kind.
 abbrev pub as_object : Data → Reading Members
-as_object d = accept_some (find.as_object d) (refusal_here kinds.Shape)
+as_object d = accept_or no_members (find.as_object d) (refusal_here kinds.Shape)
 
 -- The text that the value is, and `shape` for a value of another kind.
 abbrev pub as_text : Data → Reading (List ℕ)
-as_text d = accept_some (find.as_str d) (refusal_here kinds.Shape)
+as_text d = accept_or [] (find.as_str d) (refusal_here kinds.Shape)
 
 -- The items of an array, and `shape` for a value of another kind.
 abbrev pub as_items : Data → Reading (List Data)
-as_items d = accept_some (items_of d) (refusal_here kinds.Shape)
+as_items d = accept_or [] (items_of d) (refusal_here kinds.Shape)
 
 -- ---- The fields of an object.
 
@@ -166,7 +229,8 @@ refuse_unknown_field found =
     refuse_where
     (option_map (λ key. refusal_within (to_field key) (refusal_here kinds.UnknownField)) found)
 
--- An object that has no fields but these.
+-- An object that has no fields but these: `shape` for a value that is no object, and else
+-- `unknown-field` at the least field that is none of these.
 unfoldable pub check_only_fields : List (List ℕ) → Data → Reading ⊤
 check_only_fields known d = do
   members ← as_object d
@@ -175,7 +239,7 @@ check_only_fields known d = do
 -- A field that has to be there, and `shape` at it where it is absent.
 abbrev pub required_field : List ℕ → Data → Reading Data
 required_field key d =
-    accept_some (field key d) (refusal_within (to_field key) (refusal_here kinds.Shape))
+    accept_or null (field key d) (refusal_within (to_field key) (refusal_here kinds.Shape))
 
 -- The text in a field that has to be there.
 unfoldable pub required_text : List ℕ → Data → Reading (List ℕ)
@@ -193,7 +257,7 @@ required_items key d = do
 -- value it is this default.
 abbrev pub boolean_or : Bool → Option Data → Reading Bool
 boolean_or default None = accept default
-boolean_or default (Some d) = accept_some (find.as_bool d) (refusal_here kinds.Shape)
+boolean_or default (Some d) = accept_or default (find.as_bool d) (refusal_here kinds.Shape)
 
 -- The truth value in a field, and this default where the field is absent.
 unfoldable pub read_boolean_or : Bool → List ℕ → Data → Reading Bool
@@ -241,4 +305,4 @@ read_items_or_null limit read d = if is_null d then accept [] else read_item_arr
 unfoldable pub read_json : List ℕ → Reading Data
 read_json bytes = do
   _ ← check_count MAX_FILE_BYTES (length bytes)
-  accept_some (json_of bytes) (refusal_here kinds.NotJson)
+  accept_or null (json_of bytes) (refusal_here kinds.NotJson)

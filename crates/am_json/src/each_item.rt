@@ -15,8 +15,9 @@ use crate::read_error::ReadError;
 use serde_json::{Map, Value};
 use std::alloc::Global;
 
-/// What `read` gives of each of the items, in their order. The first refusal is the one answered,
-/// at its item.
+/// Reads each item with `read`, and returns what it gives, in the order of the items.
+///
+/// Fails with the first refusal, and reads no further item. Its pointer then starts at the array.
 pub fn read_each_item<T: Drop, F: Fn(&Value) -> Result<T, ReadError>>(
     alloc: Global,
     items: &[Value],
@@ -39,7 +40,7 @@ pub fn read_each_item<T: Drop, F: Fn(&Value) -> Result<T, ReadError>>(
     Ok(all)
 }
 
-/// What `read` gives of each of at most `limit` items; the refusal of more is `Limit`.
+/// Reads each of at most `limit` items with `read`. Fails with `Limit` if there are more.
 #[tactic(auto, unfolding(crate::specs::Reading::read_counted))]
 fn read_counted<T: Drop, F: Fn(&Value) -> Result<T, ReadError>>(
     alloc: Global,
@@ -59,8 +60,10 @@ fn read_counted<T: Drop, F: Fn(&Value) -> Result<T, ReadError>>(
     read_each_item(alloc, items, read)
 }
 
-/// What `read` gives of each of at most `limit` items of an array. The value `null` says that there
-/// are none. Beside the refusals of the items there are `Shape`, for what is neither, and `Limit`.
+/// Reads each item of an array of at most `limit` items with `read`; `null` has no items.
+///
+/// Fails with `Shape` if the value is neither an array nor `null`, with `Limit` if there are more
+/// items, and else as [`read_each_item`] does.
 #[tactic(auto, using(crate::proofs::Readings::steps), unfolding(crate::specs::Reading::read_item_array))]
 pub fn read_items_or_null<T: Drop, F: Fn(&Value) -> Result<T, ReadError>>(
     alloc: Global,
@@ -83,9 +86,12 @@ pub fn read_items_or_null<T: Drop, F: Fn(&Value) -> Result<T, ReadError>>(
     read_counted(alloc, items, limit, read)
 }
 
-/// What `read` gives of each of at most `limit` items of the array in the field of this name, and
-/// none where it is absent, as [`field`](crate::field) says. Beside the refusals of the items there
-/// are `Shape`, for what is no array, and `Limit`, both at the field.
+/// Reads each item of the array in the field `key` with `read`; an absent field has no items.
+///
+/// The array has at most `limit` items. A field that is `null` is absent, as in
+/// [`field`](crate::field). Fails with `Shape` at the field if its value is not an array, with
+/// `Limit` at the field if there are more items, and else with the first refusal of an item.
+/// Pointers start at `value`.
 #[tactic(auto, using(crate::proofs::Readings::steps), unfolding(crate::specs::OptionalItems::read_optional_array))]
 pub fn read_optional_array<T: Drop, F: Fn(&Value) -> Result<T, ReadError>>(
     alloc: Global,
@@ -106,8 +112,10 @@ pub fn read_optional_array<T: Drop, F: Fn(&Value) -> Result<T, ReadError>>(
     within_field(alloc, key, read_counted(alloc, items, limit, read))
 }
 
-/// What `read` makes of `first` and each of the members of an object, one behind the other, by the
-/// bytes of their names. The first refusal is the one answered.
+/// Reads the members of an object with `read`, in the order of the bytes of their names.
+///
+/// `read` gets what was read so far, which is `first` at the start, and returns that with the
+/// member included. Fails with the first refusal, as `read` gives it, and reads no further member.
 pub fn read_each_member<T: Drop, F: Fn(T, &str, &Value) -> Result<T, ReadError>>(
     first: T,
     members: &Map<String, Value>,
@@ -120,9 +128,9 @@ pub fn read_each_member<T: Drop, F: Fn(T, &str, &Value) -> Result<T, ReadError>>
         → Gives (λ x. x) result
         (read_each reading first (member_list (members_view members.now.entries))) }
 {
-    let mut found = first;
+    let mut all = first;
     for (name, value) in members.iter() {
-        found = read(found, name.as_str(), value)?;
+        all = read(all, name.as_str(), value)?;
     }
-    Ok(found)
+    Ok(all)
 }

@@ -1,14 +1,15 @@
-//! The parts of a JSON value, each refused where it is not of its kind.
+//! The parts of a JSON value, each of which is refused if it is not of its kind.
 
-ghost use Rattle.std.specs.Prelude.{◌≡◌, ◌≢◌, ◌≤◌, Some, map, option_map, IfOk};
+ghost use Rattle.std.specs.Prelude.{◌≡◌, ◌≢◌, ◌≤◌, Some, map, option_map, IfOk, IfErr};
+ghost use Rattle.serde_json.specs.Data.{null};
 ghost use Rattle.serde_json.specs.View.{view, members_view};
 ghost use Rattle.am_universe.specs.declared.kind.Kind.TheVariants as kinds;
 ghost use Rattle.am_json.specs.Json.{json_of, field, is_one_of, is_unknown, unknown_field};
 ghost use Rattle.am_json.specs.Pointer.{refusal_here};
-ghost use Rattle.am_json.specs.Reading.{Gives, accept_some, refuse_for, check_count, as_object};
+ghost use Rattle.am_json.specs.Reading.{Gives, accept_or, refuse_for, check_count, as_object};
 ghost use Rattle.am_json.specs.Reading.{as_text, as_items, check_only_fields, required_field};
 ghost use Rattle.am_json.specs.Reading.{required_text, required_items, boolean_or, read_boolean_or};
-ghost use Rattle.am_json.specs.Reading.{read_json};
+ghost use Rattle.am_json.specs.Reading.{read_json, IsFoundOrRefused};
 ghost use Rattle.am_json.specs.OptionalItems.{read_optional_items};
 
 use crate::limits::MAX_FILE_BYTES;
@@ -18,11 +19,11 @@ use am_universe::Kind;
 use serde_json::{Map, Value};
 use std::alloc::Global;
 
-/// The JSON value of the bytes of a file.
-/// - `Limit`: there are more than [`MAX_FILE_BYTES`] bytes;
-/// - `NotJson`: the bytes have no JSON value.
+/// Returns the JSON value of the bytes of a file (RFC 8259).
 ///
-/// The whole value is in memory, which may run out for it.
+/// If a key occurs twice in an object, the last one counts. The whole value is in memory.
+/// - `Limit`: there are more than [`MAX_FILE_BYTES`] bytes;
+/// - `NotJson`: the bytes are not UTF-8, are not JSON, or nest more than 127 levels deep.
 #[tactic(auto, unfolding(crate::specs::Reading::read_json))]
 pub fn read_json(alloc: Global, bytes: &[u8]) -> Result<Value, ReadError>
     ensures reading { Gives view result (read_json bytes.now) }
@@ -32,7 +33,8 @@ pub fn read_json(alloc: Global, bytes: &[u8]) -> Result<Value, ReadError>
 }
 
 fn value_of(alloc: Global, bytes: &[u8]) -> Result<Value, ReadError>
-    ensures { Gives view result (accept_some (json_of bytes.now) (refusal_here kinds.NotJson)) }
+    ensures { Gives view result
+        (accept_or null (json_of bytes.now) (refusal_here kinds.NotJson)) }
 {
     match Value::from_slice(alloc, bytes) {
         Ok(value) => Ok(value),
@@ -45,8 +47,9 @@ fn value_of(alloc: Global, bytes: &[u8]) -> Result<Value, ReadError>
     }
 }
 
-/// Refuses the value that is looked at where it has more than `limit` parts, of which there are
-/// `count`: the refusal is `Limit`. No memory is taken.
+/// Fails with `Limit`, at the value that is being read, if `count` is more than `limit`.
+///
+/// Takes no memory.
 pub fn check_count(alloc: Global, limit: usize, count: usize) -> Result<(), ReadError>
     ensures reading { Gives (λ _. tt) result (check_count limit count) }
     ensures within { IfOk result (λ _. count ≤ limit) }
@@ -57,8 +60,9 @@ pub fn check_count(alloc: Global, limit: usize, count: usize) -> Result<(), Read
     Ok(())
 }
 
-/// Refuses the value that is looked at for this cause, if there is one. A cause is never `Write`,
-/// and `Memory` says that memory ran out. No memory is taken.
+/// Fails with this cause, if there is one, at the value that is being read.
+///
+/// A cause is never `Write`. For `Memory` the error is [`ReadError::Memory`]. Takes no memory.
 pub fn refuse_for(alloc: Global, cause: Option<Kind>) -> Result<(), ReadError>
     requires { cause ≢ Some kinds.Write }
     ensures reading { Gives (λ _. tt) result (refuse_for cause) }
@@ -69,8 +73,22 @@ pub fn refuse_for(alloc: Global, cause: Option<Kind>) -> Result<(), ReadError>
     }
 }
 
-/// The members of the object that the value is. The only refusal is `Shape`: it is no object. No
-/// memory is taken.
+/// Returns what was found, or fails with the kind of the error, at the value that is being read.
+///
+/// The kind is never `Write`. For `Memory` the error is [`ReadError::Memory`]. Takes no memory.
+pub fn or_refused<T: Drop>(alloc: Global, found: Result<T, Kind>) -> Result<T, ReadError>
+    requires { IfErr found (λ kind. kind ≢ kinds.Write) }
+    ensures seen { IsFoundOrRefused found result }
+{
+    match found {
+        Ok(found) => Ok(found),
+        Err(kind) => Err(ReadError::refused(alloc, kind)),
+    }
+}
+
+/// Returns the members of an object. Fails only with `Shape`, for a value that is not an object.
+///
+/// Takes no memory.
 pub fn as_object(alloc: Global, value: &Value) -> Result<&Map<String, Value>, ReadError>
     ensures reading { Gives (λ m. members_view m.now.entries) result (as_object (view value.now)) }
 {
@@ -80,7 +98,9 @@ pub fn as_object(alloc: Global, value: &Value) -> Result<&Map<String, Value>, Re
     }
 }
 
-/// The text that the value is. The only refusal is `Shape`: it is no text. No memory is taken.
+/// Returns the text of a JSON string. Fails only with `Shape`, for a value that is not a string.
+///
+/// Takes no memory.
 pub fn as_text(alloc: Global, value: &Value) -> Result<&str, ReadError>
     ensures reading { Gives (λ t. t.now) result (as_text (view value.now)) }
 {
@@ -90,8 +110,9 @@ pub fn as_text(alloc: Global, value: &Value) -> Result<&str, ReadError>
     }
 }
 
-/// The items of the array that the value is. The only refusal is `Shape`: it is no array. No memory
-/// is taken.
+/// Returns the items of an array. Fails only with `Shape`, for a value that is not an array.
+///
+/// Takes no memory.
 pub fn as_items(alloc: Global, value: &Value) -> Result<&[Value], ReadError>
     ensures reading { Gives (λ items. map view items.now) result (as_items (view value.now)) }
 {
@@ -101,12 +122,13 @@ pub fn as_items(alloc: Global, value: &Value) -> Result<&[Value], ReadError>
     }
 }
 
-/// Refuses a value that is not an object whose fields are all among these. A field that is `null`
-/// counts as absent.
-/// - `Shape`: the value is no object;
-/// - `UnknownField`, at the field: the first field, by the bytes of its key, that is none of these.
+/// Refuses a value that is not an object, or that has a field which is not in `known`.
 ///
-/// Memory may run out for the pointer of a refusal.
+/// A field that is `null` is absent, whatever its name. Memory is taken only for the pointer of a
+/// refusal.
+/// - `Shape`: the value is not an object;
+/// - `UnknownField`, at the field: of the fields that are not in `known`, this is the first by the
+///   bytes of its key.
 #[tactic(auto, unfolding(crate::specs::Reading::check_only_fields))]
 pub fn check_only_fields(alloc: Global, value: &Value, known: &[&str]) -> Result<(), ReadError>
     ensures reading { Gives (λ _. tt) result
@@ -123,7 +145,7 @@ pub fn check_only_fields(alloc: Global, value: &Value, known: &[&str]) -> Result
     }
 }
 
-/// The least field that is none of these.
+/// Returns the first unknown field, by the bytes of its key.
 fn unknown_field<'v>(members: &'v Map<String, Value>, known: &[&str]) -> Option<&'v str>
     ensures { option_map (λ key. key.now) result
         ≡ unknown_field (map (λ key. key.now) known.now) (members_view members.now.entries) }
@@ -148,8 +170,9 @@ fn is_one_of(key: &str, names: &[&str]) -> bool
     names.contains(&key)
 }
 
-/// The value of the field of this name, if there is one: the value that is looked at is an object
-/// and has it, and it is not `null`.
+/// Returns the value of the field `key`, or `None` if it is absent.
+///
+/// A field is absent if the value is not an object, if it has no such field, or if this is `null`.
 pub fn field<'v>(value: &'v Value, key: &str) -> Option<&'v Value>
     ensures value { option_map (λ v. view v.now) result ≡ field key.now (view value.now) }
 {
@@ -159,8 +182,10 @@ pub fn field<'v>(value: &'v Value, key: &str) -> Option<&'v Value>
     }
 }
 
-/// The value of the field of this name. The only refusal is `Shape`, at the field: it is absent, as
-/// [`field`] says. Memory may run out for its pointer.
+/// Returns the value of a required field.
+///
+/// Fails only with `Shape`, at the field, if it is absent, as in [`field`]. Memory is taken only
+/// for the pointer of the refusal.
 pub fn required_field<'v>(
     alloc: Global,
     value: &'v Value,
@@ -174,8 +199,10 @@ pub fn required_field<'v>(
     }
 }
 
-/// The text in the field of this name. The only refusal is `Shape`, at the field: it is absent, as
-/// [`field`] says, or is no text. Memory may run out for its pointer.
+/// Returns the text in a required field.
+///
+/// Fails only with `Shape`, at the field, if it is absent, as in [`field`], or is not a string.
+/// Memory is taken only for the pointer of the refusal.
 #[tactic(auto, unfolding(crate::specs::Reading::required_text))]
 pub fn required_text<'v>(alloc: Global, value: &'v Value, key: &str) -> Result<&'v str, ReadError>
     ensures reading { Gives (λ t. t.now) result (required_text key.now (view value.now)) }
@@ -184,8 +211,10 @@ pub fn required_text<'v>(alloc: Global, value: &'v Value, key: &str) -> Result<&
     within_field(alloc, key, as_text(alloc, found))
 }
 
-/// The items of the array in the field of this name. The only refusal is `Shape`, at the field: it
-/// is absent, as [`field`] says, or is no array. Memory may run out for its pointer.
+/// Returns the items of the array in a required field.
+///
+/// Fails only with `Shape`, at the field, if it is absent, as in [`field`], or is not an array.
+/// Memory is taken only for the pointer of the refusal.
 #[tactic(auto, unfolding(crate::specs::Reading::required_items))]
 pub fn required_items<'v>(
     alloc: Global,
@@ -199,9 +228,10 @@ pub fn required_items<'v>(
     within_field(alloc, key, as_items(alloc, found))
 }
 
-/// The items of the array in the field of this name, and none where it is absent, as [`field`]
-/// says. The only refusal is `Shape`, at the field: it is there, and no array. Memory may run out
-/// for its pointer.
+/// Returns the items of the array in an optional field, and none if it is absent, as in [`field`].
+///
+/// Fails only with `Shape`, at the field, if it is there and not an array. Memory is taken only for
+/// the pointer of the refusal.
 #[tactic(auto, unfolding(crate::specs::OptionalItems::read_optional_items))]
 pub fn read_optional_items<'v>(
     alloc: Global,
@@ -217,9 +247,10 @@ pub fn read_optional_items<'v>(
     }
 }
 
-/// The truth value in the field of this name, and `default` where it is absent, as [`field`] says.
-/// The only refusal is `Shape`, at the field: it is there, and no truth value. Memory may run out
-/// for its pointer.
+/// Returns the boolean in an optional field, and `default` if it is absent, as in [`field`].
+///
+/// Fails only with `Shape`, at the field, if it is there and not a boolean. Memory is taken only
+/// for the pointer of the refusal.
 #[tactic(auto, using(crate::proofs::Readings::within_gives), unfolding(crate::specs::Reading::read_boolean_or))]
 pub fn read_boolean_or(
     alloc: Global,
@@ -233,7 +264,7 @@ pub fn read_boolean_or(
     within_field(alloc, key, boolean_or(alloc, field(value, key), default))
 }
 
-/// The truth value that the value is, and `default` where there is no value.
+/// Returns the boolean that the value is, and `default` if there is no value.
 fn boolean_or(alloc: Global, found: Option<&Value>, default: bool) -> Result<bool, ReadError>
     ensures { Gives (λ truth. truth) result
         (boolean_or default (option_map (λ v. view v.now) found.entry)) }

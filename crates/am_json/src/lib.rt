@@ -1,14 +1,17 @@
-//! A JSON value, looked at part by part, and why it is refused.
+//! Reading a JSON value part by part, and where and why it is refused.
 //!
-//! [`read_json`] gives the JSON value of a file. Each other function looks at a part of a value: an
-//! object, an array, a text or a field, or whether there is too much. Where the part is not as it
-//! has to be, the answer is a [`ReadError`]: why, and by a JSON Pointer (RFC 6901) at which part of
-//! the value that is looked at. [`within_field`] and [`within_item`] say the same from the value
-//! around it, so that at the end the pointer leads from the whole file, as in the fault that
-//! [`ReadError::at`] gives.
+//! [`read_json`] returns the JSON value of a file. Each other function reads or checks a part of a
+//! value: an object, an array, a text, a field, or a count. It refuses a part that is not as it has
+//! to be with a [`ReadError`]. That says why, and points to the part with a JSON Pointer (RFC
+//! 6901), which starts at the value that the function was given. [`within_field`] and
+//! [`within_item`] let the pointer start at the value around that one, and so at last at the whole
+//! file. From that, [`ReadError::at`] makes the fault of the file.
 //!
-//! The definitions and lemmas are what a reader of a file is measured by: the places of a value and
-//! their order, the first fault of a file, and readings, one behind the other.
+//! [`or_refused`] makes a [`ReadError`] of an error that says only why.
+//!
+//! Readers of files are proved against the definitions of this crate: the form of a file, which
+//! says of each value what it is taken for and what there is to object to, in order; the first
+//! fault of a file; and what reading it gives, one part after the other.
 #![tactic(auto)]
 
 // How much there may be.
@@ -25,8 +28,9 @@ pub use read_error::{ReadError, Refusal};
 mod json;
 
 pub use json::{
-    as_items, as_object, as_text, check_count, check_only_fields, field, read_boolean_or,
-    read_json, read_optional_items, refuse_for, required_field, required_items, required_text,
+    as_items, as_object, as_text, check_count, check_only_fields, field, or_refused,
+    read_boolean_or, read_json, read_optional_items, refuse_for, required_field, required_items,
+    required_text,
 };
 
 // The items of an array, and the members of an object, one after the other.

@@ -1,4 +1,4 @@
-//! How much there may be in a file. This limit is this project's own.
+//! The limit of all files. It is this project's own choice.
 
-/// The most bytes of a file.
+/// The most bytes that a file may have.
 pub const MAX_FILE_BYTES: usize = 16_777_216;

@@ -2,14 +2,15 @@
 
 ghost use Rattle.std.specs.Prelude.{◌≡◌, ◌++◌, string_bytes, encode_utf8, flat_map, IfOk, OnOk};
 ghost use Rattle.am_json.specs.Pointer.{pointer_escape, to_field, to_item, refusal_within};
-ghost use Rattle.am_json.specs.Reading.{IsRefusalOrMemory, IsReadingWithin};
+ghost use Rattle.am_json.specs.Reading.{IsReadingWithin};
 
 use crate::read_error::{ReadError, Refusal};
 use std::alloc::{AllocError, Global};
 
-/// What reading the field of this name gave, seen from the object that has it: what was read stays
-/// as it is, and the step to the field stands in front of the pointer of a refusal. Memory may run
-/// out for that pointer.
+/// Puts the step to a field in front of the pointer of a refusal, which then starts at the object.
+///
+/// `read` is what reading the field `key` of the object gave. If it is not a refusal, it is
+/// returned as it is. Memory is taken only for the new pointer.
 pub fn within_field<T: Drop>(
     alloc: Global,
     key: &str,
@@ -18,15 +19,18 @@ pub fn within_field<T: Drop>(
     ensures within { IsReadingWithin (to_field key.now) read result }
 {
     match read {
-        Ok(value) => Ok(value),
-        Err(ReadError::Memory) => Err(ReadError::Memory),
-        Err(ReadError::Refused(refusal)) => Err(within(to_field(alloc, key)?, refusal)),
+        Err(ReadError::Refused(refusal)) => {
+            let part = to_field(alloc, key)?;
+            Err(ReadError::Refused(within(part, refusal)?))
+        }
+        other => other,
     }
 }
 
-/// What reading the item at this position gave, seen from the array that has it: what was read
-/// stays as it is, and the step to the item stands in front of the pointer of a refusal. Positions
-/// count from 0. Memory may run out for that pointer.
+/// Puts the step to an item in front of the pointer of a refusal, which then starts at the array.
+///
+/// `read` is what reading the item at this position gave; positions count from 0. If it is not a
+/// refusal, it is returned as it is. Memory is taken only for the new pointer.
 pub fn within_item<T: Drop>(
     alloc: Global,
     position: usize,
@@ -35,26 +39,27 @@ pub fn within_item<T: Drop>(
     ensures within { IsReadingWithin (to_item position) read result }
 {
     match read {
-        Ok(value) => Ok(value),
-        Err(ReadError::Memory) => Err(ReadError::Memory),
-        Err(ReadError::Refused(refusal)) => Err(within(to_item(alloc, position)?, refusal)),
+        Err(ReadError::Refused(refusal)) => {
+            let part = to_item(alloc, position)?;
+            Err(ReadError::Refused(within(part, refusal)?))
+        }
+        other => other,
     }
 }
 
-/// The refusal of a part, seen from the value that has the part.
-fn within(mut part: String, refusal: Refusal) -> ReadError
-    ensures { IsRefusalOrMemory result (refusal_within (string_bytes part) refusal) }
+/// Returns the refusal of a part, with the pointer to the part in front of its own.
+fn within(mut part: String, refusal: Refusal) -> Result<Refusal, AllocError>
+    ensures { IfOk result (λ r. r ≡ refusal_within (string_bytes part) refusal) }
 {
-    match part.push_str(refusal.pointer.as_str()) {
-        Ok(()) => ReadError::Refused(Refusal {
-            kind: refusal.kind,
-            pointer: part,
-        }),
-        Err(_) => ReadError::Memory,
-    }
+    part.push_str(refusal.pointer.as_str())?;
+    Ok(Refusal {
+        kind: refusal.kind,
+        pointer: part,
+    })
 }
 
-/// The part of a pointer that leads to a field: `~` is written `~0`, and `/` is written `~1`.
+/// Returns the part of a pointer that leads to a field: `~` is written `~0`, and `/` is written
+/// `~1`.
 fn to_field(alloc: Global, key: &str) -> Result<String, AllocError>
     ensures { IfOk result (λ part. string_bytes part ≡ to_field key.now) }
 {
@@ -78,7 +83,7 @@ fn push_escaped(part: &mut String, character: char) -> Result<(), AllocError>
     }
 }
 
-/// The part of a pointer that leads to an item.
+/// Returns the part of a pointer that leads to an item.
 fn to_item(alloc: Global, position: usize) -> Result<String, AllocError>
     ensures { IfOk result (λ part. string_bytes part ≡ to_item position) }
 {

@@ -1,4 +1,4 @@
-//! Why a reader gives no value, from the value that is looked at on.
+//! Why a reader gives no value, and at which part of the value that it reads.
 
 ghost use Rattle.std.specs.Prelude.{◌≡◌, ◌≢◌};
 ghost use Rattle.am_universe.specs.declared.kind.Kind.TheVariants as kinds;
@@ -10,8 +10,10 @@ use am_universe::{Fault, Kind, Place};
 use std::alloc::{AllocError, AllocFailed, Global};
 use std::marker::Model;
 
-/// Why a file is refused, which is never that memory ran out or a write failed, and at which part:
-/// a JSON Pointer (RFC 6901), from the value that is looked at.
+/// Why a value is refused, and at which of its parts.
+///
+/// The kind is never `Memory` or `Write`. The part is a JSON Pointer (RFC 6901), which starts at
+/// the value that is being read.
 #[derive(Drop)]
 pub struct Refusal {
     pub(crate) kind: Kind,
@@ -31,7 +33,7 @@ impl Model for Refusal {
 }
 
 impl Refusal {
-    /// The fault in the file at this place.
+    /// Returns the fault in the file at this place.
     fn at(self, place: Place) -> Fault
         ensures { IsFaultAt place self result }
     {
@@ -44,13 +46,14 @@ impl Refusal {
 pub enum ReadError {
     /// Memory ran out.
     Memory,
-    /// The value that is looked at is refused.
+    /// The value that is being read is refused.
     Refused(Refusal),
 }
 
 impl ReadError {
-    /// The value that is looked at is refused for this kind, which is never `Write`; where it is
-    /// `Memory`, memory ran out. No memory is taken.
+    /// The refusal of the whole value that is being read, with the empty pointer.
+    ///
+    /// The kind is never `Write`. For `Memory` the error is [`ReadError::Memory`]. Takes no memory.
     pub fn refused(alloc: Global, kind: Kind) -> ReadError
         requires { kind ≢ kinds.Write }
         ensures refusal { IsRefusalOrMemory result (refusal_here kind) }
@@ -65,8 +68,10 @@ impl ReadError {
         })
     }
 
-    /// The fault that it is, where the value that is looked at is that of the whole file at this
-    /// place. No memory is taken.
+    /// Returns the fault of the file at this place, if the value that was read is that of the whole
+    /// file.
+    ///
+    /// [`ReadError::Memory`] becomes a fault of memory. Takes no memory.
     pub fn at(self, alloc: Global, place: Place) -> Fault
         ensures fault { IsFaultOf place self result }
     {

@@ -9,15 +9,15 @@ use Rattle.am_json.specs.Json.{member_list}
 use Rattle.am_json.specs.Pointer.{to_field}
 use Rattle.am_json.specs.Reading.{as_object, check_count, read_each, reading_within}
 use Rattle.am_list_files.specs.AlertsFile.{SaysAlert, SaysAlerts}
-use Rattle.am_list_files.specs.AlertsReading.{read_alert, read_alert_labels, read_alerts}
-use Rattle.am_list_files.specs.AlertsReading.{read_next_alert_label}
-use Rattle.am_list_files.specs.NamedText.{SaysNamedText, read_named_text}
+use Rattle.am_list_files.specs.AlertsForm.{alert_form, alert_labels_form, alerts_form}
+use Rattle.am_list_files.specs.AlertsForm.{next_label_form}
+use Rattle.am_list_files.specs.NamedText.{SaysNamedText, named_text_form}
 use Rattle.am_list_files.specs.declared.limits.TheConstants.{MAX_ALERTS, MAX_ALERT_LABELS}
 use Rattle.am_json.proofs.Fields.{as_object_says, field_says, object_of}
 use Rattle.am_json.proofs.Items.{or_null_decides}
 use Rattle.am_json.proofs.Readings.{Decides, bind_ok, check_count_fits, check_count_ok, same_read}
 use Rattle.am_json.proofs.Readings.{within_ok}
-use Rattle.am_list_files.proofs.NamedTextLemmas.{named_text_reads, named_text_says}
+use Rattle.am_list_files.proofs.NamedTextLemmas.{named_text_decides}
 
 -- ---- The labels of an alert.
 
@@ -29,21 +29,21 @@ abbrev with_values : LabelMap → List (List ℕ × List ℕ) → LabelMap
 with_values before texts = fold (λ s label. with_value s label.0 label.1) before texts
 
 labels_say : (before : LabelMap) (pairs : List (List ℕ × Data)) (s : LabelMap)
-    → (read_each read_next_alert_label before pairs).result ≡ Ok s
+    → (read_each next_label_form before pairs).result ≡ Ok s
     → (texts : List (List ℕ × List ℕ)) × AllZip SaysLabel pairs texts
     × (s ≡ with_values before texts)
-unfolding read_each read_next_alert_label
+unfolding read_each next_label_form
 labels_say before [] s h = ([], tt, sym (same_read before s h))
 labels_say before (pair ∷ pairs) s h =
     let next =
-    bind_ok ((read_next_alert_label before pair).result)
-    (λ b. (read_each read_next_alert_label b pairs).result) s h in
+    bind_ok ((next_label_form before pair).result)
+    (λ b. (read_each next_label_form b pairs).result) s h in
     let text =
-    bind_ok ((reading_within (to_field pair.0) (read_named_text pair.0 pair.1)).result)
+    bind_ok ((reading_within (to_field pair.0) (named_text_form pair.0 pair.1)).result)
     (λ t. Ok (with_value before pair.0 t)) next.0 next.1 in
     let said =
-    named_text_says pair.0 pair.1 text.0
-    (within_ok (to_field pair.0) ((read_named_text pair.0 pair.1).result) text.0 text.1) in
+    (named_text_decides pair.0 pair.1).says text.0
+    (within_ok (to_field pair.0) ((named_text_form pair.0 pair.1).result) text.0 text.1) in
     let rest = labels_say next.0 pairs s next.2 in (
       (pair.0, text.0) ∷ rest.0,
       (said, rest.1),
@@ -53,28 +53,28 @@ labels_say before (pair ∷ pairs) s h =
 
 labels_read : (before : LabelMap) (pairs : List (List ℕ × Data)) (texts : List (List ℕ × List ℕ))
     → AllZip SaysLabel pairs texts
-    → (read_each read_next_alert_label before pairs).result ≡ Ok (with_values before texts)
-unfolding read_each read_next_alert_label
+    → (read_each next_label_form before pairs).result ≡ Ok (with_values before texts)
+unfolding read_each next_label_form
 labels_read before [] [] said = refl
 labels_read before [] (label ∷ texts) said = absurd said
 labels_read before (pair ∷ pairs) [] said = absurd said
 labels_read before (pair ∷ pairs) (label ∷ texts) said =
-    rw (named_text_reads pair.0 pair.1 label.1 (refl, said.0.1, said.0.2))
+    rw ((named_text_decides pair.0 pair.1).reads label.1 (refl, said.0.1, said.0.2))
     (labels_read (with_value before pair.0 label.1) pairs texts said.1
     ∙ ap (λ (name : List ℕ). Ok (with_values (with_value before name label.1) texts))
     (sym said.0.0))
 
 -- ---- An alert.
 
-alert_says : (d : Data) (s : LabelMap) → (read_alert d).result ≡ Ok s → SaysAlert d s
-unfolding read_alert read_alert_labels
+alert_says : (d : Data) (s : LabelMap) → (alert_form d).result ≡ Ok s → SaysAlert d s
+unfolding alert_form alert_labels_form
 alert_says d s h =
     let members = bind_ok ((as_object d).result) _ s h in
-    let value = field_says (codes "labels") d read_alert_labels s members.2 in
+    let value = field_says (codes "labels") d alert_labels_form s members.2 in
     let labels = bind_ok ((as_object value.0).result) _ s value.2 in
     let few =
     bind_ok ((check_count MAX_ALERT_LABELS (length (member_list labels.0))).result)
-    (λ _. (read_each read_next_alert_label finite.empty (member_list labels.0)).result) s
+    (λ _. (read_each next_label_form finite.empty (member_list labels.0)).result) s
     labels.2 in
     let said = labels_say finite.empty (member_list labels.0) s few.2 in
     record {
@@ -86,8 +86,8 @@ alert_says d s h =
       labels = said.2;
     }
 
-alert_reads : (d : Data) (s : LabelMap) → SaysAlert d s → (read_alert d).result ≡ Ok s
-unfolding read_alert read_alert_labels
+alert_reads : (d : Data) (s : LabelMap) → SaysAlert d s → (alert_form d).result ≡ Ok s
+unfolding alert_form alert_labels_form
 alert_reads d s said =
     let members = object_of (codes "labels") d (object said.members) said.has_labels in
     rw (
@@ -99,8 +99,8 @@ alert_reads d s said =
 
 -- ---- All alerts.
 
-alert_decides : (d : Data) → Decides (SaysAlert d) ((read_alert d).result)
+alert_decides : (d : Data) → Decides (SaysAlert d) ((alert_form d).result)
 alert_decides d = record { says = alert_says d; reads = alert_reads d }
 
-pub alerts_decide : (d : Data) → Decides (SaysAlerts d) ((read_alerts d).result)
-alerts_decide = or_null_decides SaysAlert read_alert alert_decides MAX_ALERTS
+pub alerts_decide : (d : Data) → Decides (SaysAlerts d) ((alerts_form d).result)
+alerts_decide = or_null_decides SaysAlert alert_form alert_decides MAX_ALERTS

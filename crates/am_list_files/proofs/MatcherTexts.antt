@@ -1,5 +1,6 @@
 -- Matcher texts that are read, and those that are refused.
-use Rattle.std.proofs.Common.{◌≡◌, ◌≢◌, ℕ, ◌≤◌, List, [], length, Bool, true, false, cond, Option, Some}
+use Rattle.std.proofs.Common.{◌≡◌, ◌≢◌, ℕ, ◌≤◌, List, [], length, Bool, true, false, cond, Option}
+use Rattle.std.proofs.Common.{Some}
 use Rattle.std.proofs.Common.{None, Result, Ok, Err, IsTrue, inl, inr, refl, sym, subst}
 use Rattle.std.specs.Prelude.{IsErrAnd}
 use Rattle.am_universe.specs.declared.kind.Kind.{Kind}
@@ -14,13 +15,16 @@ use Rattle.am_labels.proofs.MatcherTextWhole.{list_is_read, list_is_spelled}
 use Rattle.am_json.specs.declared.read_error.ReadError.{ReadError}
 use Rattle.am_json.specs.declared.read_error.ReadError.TheVariants as errors
 use Rattle.am_json.specs.Pointer.{Refusal, refusal_here, refusal_within}
-use Rattle.am_json.specs.Reading.{Reading, ◌>>=◌, accept, accept_some, reading_within, check_count}
-use Rattle.am_json.specs.Reading.{MayRefuse, IsRefusalOrMemory, Fails, Gives}
-use Rattle.am_list_files.specs.MatcherFaults.{check_patterns, pattern_fault}
-use Rattle.am_list_files.specs.MatcherTexts.{read_matcher_text, text_refusal}
+use Rattle.am_json.specs.Reading.{Reading, ◌>>=◌, accept, accept_or, reading_within, check_count}
+use Rattle.am_json.specs.Reading.{MayRefuse, IsRefusalOrMemory, Gives}
+use Rattle.am_json.specs.Objections.{first_fault}
+use Rattle.am_list_files.specs.MatcherFaults.{check_patterns, pattern_objections}
+use Rattle.am_list_files.specs.MatcherTexts.{matcher_text_form, text_refusal}
 use Rattle.am_json.proofs.Readings.{refuses_first, refuses_later, refuses_within, check_count_fits}
-use Rattle.am_json.proofs.Readings.{check_count_over, check_count_ok, here_fails, bind_ok, within_ok}
-use Rattle.am_json.proofs.Readings.{ok_or_some, refuse_for_ok, same_read}
+use Rattle.am_json.proofs.Readings.{check_count_over, check_count_ok, bind_ok}
+use Rattle.am_json.proofs.Readings.{Decides, within_ok}
+use Rattle.am_json.proofs.Readings.{ok_or_some, same_read}
+use Rattle.am_json.proofs.FormLaws.{unless_ok}
 use Rattle.am_list_files.proofs.Matching.{sound_passes, passes_sound, patterns_refused}
 
 abbrev err_of : ReadError → Result (List Condition) ReadError
@@ -31,8 +35,8 @@ refused_is_no_memory found h = cc
 
 pub text_gives : (part limit : List ℕ) (text : List ℕ) (ms : List Condition) → Spells text ms
     → length ms ≤ MAX_MATCHERS → IsTrue (have_valid_patterns ms)
-    → (read_matcher_text part limit text).result ≡ Ok ms
-unfolding read_matcher_text
+    → (matcher_text_form part limit text).result ≡ Ok ms
+unfolding matcher_text_form
 text_gives part limit text ms spells le sound =
     rw (
       list_is_read text ms spells,
@@ -47,13 +51,13 @@ none_read text (Some ms) is none = absurd (none ms (list_is_spelled text ms is))
 
 text_patterns : (part limit : List ℕ) (text : List ℕ) (ms : List Condition) (r : Refusal)
     → Spells text ms → length ms ≤ MAX_MATCHERS → MayRefuse (check_patterns ms) r
-    → MayRefuse (read_matcher_text part limit text) (refusal_within part r)
-unfolding read_matcher_text
+    → MayRefuse (matcher_text_form part limit text) (refusal_within part r)
+unfolding matcher_text_form
 text_patterns part limit text ms r spells le h =
-    let read : (accept_some (read_list text) (refusal_here kinds.BadMatcher)).result ≡ Ok ms =
+    let read : (accept_or [] (read_list text) (refusal_here kinds.BadMatcher)).result ≡ Ok ms =
     rw (list_is_read text ms spells) refl in
     let first : (reading_within part
-    (accept_some (read_list text) (refusal_here kinds.BadMatcher))).result ≡ Ok ms = rw read
+    (accept_or [] (read_list text) (refusal_here kinds.BadMatcher))).result ≡ Ok ms = rw read
     refl in
     let second : (reading_within limit (check_count MAX_MATCHERS (length ms))).result ≡ Ok tt =
     rw (check_count_fits MAX_MATCHERS (length ms) le) refl in
@@ -68,7 +72,7 @@ text_patterns part limit text ms r spells le h =
     refuses_later (reading_within limit (check_count MAX_MATCHERS (length ms)))
     (λ _. patterns ms) tt (refusal_within part r) second third in
     refuses_later (reading_within part
-    (accept_some (read_list text) (refusal_here kinds.BadMatcher))) few ms
+    (accept_or [] (read_list text) (refusal_here kinds.BadMatcher))) few ms
     (refusal_within part r) first behind
 
 pattern_text_refusal : (part limit : List ℕ) (profile : Bool)
@@ -78,8 +82,8 @@ pattern_text_refusal part limit true = refl
 pattern_text_refusal part limit false = refl
 
 text_refused : (part limit : List ℕ) (text : List ℕ) (kind : Kind) → TextRefusedFor text kind
-    → MayRefuse (read_matcher_text part limit text) (text_refusal part limit kind)
-unfolding read_matcher_text
+    → MayRefuse (matcher_text_form part limit text) (text_refusal part limit kind)
+unfolding matcher_text_form
 text_refused part limit text kind (inl bad) =
     rw bad.0 (inl (rw (none_read text (read_list text) refl bad.1) refl))
 text_refused part limit text kind (inr s) =
@@ -96,14 +100,14 @@ text_refused part limit text kind (inr s) =
           (patterns_refused s.list kind short.1) in
           let same : text_refusal part limit kind ≡ refusal_within part (refusal_here kind) =
           rw is (pattern_text_refusal part limit (in_profile short.1.refused.value)) in
-          subst (λ (r : Refusal). MayRefuse (read_matcher_text part limit text) r) (sym same) at
+          subst (λ (r : Refusal). MayRefuse (matcher_text_form part limit text) r) (sym same) at
     ]
 
 pub text_fails : (part limit : List ℕ) (text : List ℕ) (kind : Kind)
     (result : Result (List Condition) ReadError) → (kind ≢ kinds.Memory → TextRefusedFor text kind)
     → IsErrAnd result (λ e. IsRefusalOrMemory e (text_refusal part limit kind))
     → (kind ≡ kinds.Memory → result ≡ Err errors.Memory)
-    → Gives (λ ms. ms) result (read_matcher_text part limit text)
+    → Gives (λ ms. ms) result (matcher_text_form part limit text)
 text_fails part limit text kind (Ok ms) refused is memory = absurd is
 text_fails part limit text kind (Err errors.Memory) refused is memory = tt
 text_fails part limit text kind (Err (errors.Refused found)) refused is memory =
@@ -114,25 +118,23 @@ refused_here kinds.Limit = refl
 refused_here kind = refl
 
 -- where all that is wrong with a text stands at what is looked at
-pub text_fails_here : (text : List ℕ) (kind : Kind) (e : ReadError)
-    → (kind ≢ kinds.Memory → TextRefusedFor text kind)
-    → IsRefusalOrMemory e (refusal_here kind) → (kind ≡ kinds.Memory → e ≡ errors.Memory)
-    → Fails e (read_matcher_text [] [] text)
-text_fails_here text kind e refused is memory =
-    here_fails kind e (read_matcher_text [] [] text) is memory
-    (λ other. subst (λ (r : Refusal). MayRefuse (read_matcher_text [] [] text) r)
-    (refused_here kind) (text_refused [] [] text kind (refused other)))
+pub text_refused_here : (text : List ℕ) (kind : Kind) → (kind ≢ kinds.Memory
+    → TextRefusedFor text kind) → kind ≢ kinds.Memory
+    → MayRefuse (matcher_text_form [] [] text) (refusal_here kind)
+text_refused_here text kind refused other =
+    subst (λ (r : Refusal). MayRefuse (matcher_text_form [] [] text) r) (refused_here kind)
+    (text_refused [] [] text kind (refused other))
 
 -- ---- What a text says that is read.
 
 pub text_says : (part limit : List ℕ) (text : List ℕ) (all : List Condition)
-    → (read_matcher_text part limit text).result ≡ Ok all
+    → (matcher_text_form part limit text).result ≡ Ok all
     → Spells text all × (length all ≤ MAX_MATCHERS) × IsTrue (have_valid_patterns all)
-unfolding read_matcher_text
+unfolding matcher_text_form
 text_says part limit text all h =
     let ms =
     bind_ok ((reading_within part
-    (accept_some (read_list text) (refusal_here kinds.BadMatcher))).result) _ all h in
+    (accept_or [] (read_list text) (refusal_here kinds.BadMatcher))).result) _ all h in
     let few =
     bind_ok ((reading_within limit (check_count MAX_MATCHERS (length ms.0))).result) _ all
     ms.2 in
@@ -141,15 +143,23 @@ text_says part limit text all h =
     let spells =
     list_is_spelled text ms.0
     (ok_or_some (read_list text) (refusal_here kinds.BadMatcher) ms.0
-    (within_ok part ((accept_some (read_list text) (refusal_here kinds.BadMatcher)).result)
+    (within_ok part ((accept_or [] (read_list text) (refusal_here kinds.BadMatcher)).result)
     ms.0 ms.1)) in
     let count =
     check_count_ok MAX_MATCHERS (length ms.0) few.0
     (within_ok limit ((check_count MAX_MATCHERS (length ms.0)).result) few.0 few.1) in
     let fine =
-    passes_sound ms.0 (refuse_for_ok (pattern_fault ms.0) sound.0
+    passes_sound ms.0 (unless_ok (first_fault (pattern_objections ms.0)) tt sound.0
     (within_ok part ((check_patterns ms.0).result) sound.0 sound.1)) in (
       subst (λ (ns : List Condition). Spells text ns) is spells,
       subst (λ (ns : List Condition). length ns ≤ MAX_MATCHERS) is count,
       subst (λ (ns : List Condition). IsTrue (have_valid_patterns ns)) is fine,
     )
+
+pub spelled_decides : (part limit : List ℕ) (text : List ℕ)
+    → Decides (λ ms. Spells text ms × (length ms ≤ MAX_MATCHERS) × IsTrue (have_valid_patterns ms))
+    ((matcher_text_form part limit text).result)
+spelled_decides part limit text = record {
+  says = text_says part limit text;
+  reads = λ ms said. text_gives part limit text ms said.0 said.1 said.2;
+}

@@ -1,6 +1,6 @@
 -- Matchers whose name and pattern are accepted, and those that are refused.
-use Rattle.std.proofs.Common.{◌≡◌, ◌≢◌, ℕ, List, [], ◌∷◌, ◌++◌, Bool, true, false, ◌&&◌, cond, Some}
-use Rattle.std.proofs.Common.{None, Ok, IsTrue, inl, inr, refl}
+use Rattle.std.proofs.Common.{◌≡◌, ◌≢◌, ℕ, List, [], ◌∷◌, ◌++◌, Bool, true, false, cond, Option}
+use Rattle.std.proofs.Common.{Some, None, Ok, IsTrue, inl, inr, refl, sym, ap, ◌∙◌}
 use Rattle.std.proofs.lemmas.Bool.{and_parts}
 use Rattle.am_universe.specs.declared.kind.Kind.{Kind}
 use Rattle.am_labels.specs.declared.op.Op.{Op}
@@ -9,48 +9,88 @@ use Rattle.am_labels.specs.Pattern.{is_pattern}
 use Rattle.am_labels.specs.PatternCut.{in_profile}
 use Rattle.am_labels.specs.MatcherRefusals.{has_valid_pattern, have_valid_patterns, pattern_refusal}
 use Rattle.am_labels.specs.MatcherRefusals.{PatternsRefusedFor}
+use Rattle.am_json.specs.Objections.{Objection, a_fault, a_pattern, first_fault, patterns_before}
 use Rattle.am_json.specs.Pointer.{Refusal, refusal_here}
-use Rattle.am_json.specs.Reading.{IsPatternRefusal, MayRefuse}
+use Rattle.am_json.specs.Reading.{IsPatternRefusal, MayRefuse, refuse_for}
 use Rattle.am_list_files.specs.MatcherFaults.{check_matcher, check_patterns, label_name_fault}
-use Rattle.am_list_files.specs.MatcherFaults.{pattern_fault, profile_patterns}
-use Rattle.am_json.proofs.Readings.{pattern_right, bind_ok, refuse_for_ok, same_read}
+use Rattle.am_list_files.specs.MatcherFaults.{has_profile_pattern, pattern_objections}
+use Rattle.am_json.proofs.FormLaws.{unless_ok}
+use Rattle.am_json.proofs.Deciding.{cause_decides, said_as}
+use Rattle.am_json.proofs.Readings.{Decides, pattern_right, bind_ok, same_read}
 
 -- ---- Patterns.
 
+-- what the pattern of the first adds to the others
+first_of : (profile valid : Bool) (r : Refusal) (more : List Objection)
+    → first_fault ((cond profile (a_pattern [] ∷ []) [] ++ cond valid [] (a_fault r ∷ [])) ++ more)
+    ≡ cond valid (first_fault more) (Some r)
+first_of true true r more = refl
+first_of true false r more = refl
+first_of false true r more = refl
+first_of false false r more = refl
+
+met_of : (profile valid : Bool) (r : Refusal) (more : List Objection)
+    → patterns_before ((cond profile (a_pattern [] ∷ []) [] ++ cond valid [] (a_fault r ∷ []))
+    ++ more)
+    ≡ cond profile ([] ∷ []) [] ++ cond valid (patterns_before more) []
+met_of true true r more = refl
+met_of true false r more = refl
+met_of false true r more = refl
+met_of false false r more = refl
+
+abbrev fault_in : List Condition → Option Refusal
+fault_in ms = first_fault (pattern_objections ms)
+
+fault_is : (m : Condition) (ms : List Condition)
+    → fault_in (m ∷ ms)
+    ≡ cond (has_valid_pattern m) (fault_in ms) (Some (refusal_here (pattern_refusal m.value)))
+fault_is m ms =
+    first_of (has_profile_pattern m) (has_valid_pattern m) (refusal_here (pattern_refusal m.value))
+    (pattern_objections ms)
+
+met_is : (m : Condition) (ms : List Condition)
+    → patterns_before (pattern_objections (m ∷ ms))
+    ≡ cond (has_profile_pattern m) ([] ∷ []) []
+    ++ cond (has_valid_pattern m) (patterns_before (pattern_objections ms)) []
+met_is m ms =
+    met_of (has_profile_pattern m) (has_valid_pattern m) (refusal_here (pattern_refusal m.value))
+    (pattern_objections ms)
+
 -- sound values have no fault
-pub sound_passes : (ms : List Condition) → IsTrue (have_valid_patterns ms) → pattern_fault ms ≡ None
+pub sound_passes : (ms : List Condition) → IsTrue (have_valid_patterns ms) → fault_in ms ≡ None
 sound_passes [] h = refl
 sound_passes (m ∷ ms) h =
     let split = and_parts (has_valid_pattern m) (have_valid_patterns ms) h in
-    rw (split.0, sound_passes ms split.1) refl
+    fault_is m ms ∙ rw split.0 (sound_passes ms split.1)
 
 sound_by : (m : Condition) (ms : List Condition) (b : Bool) → has_valid_pattern m ≡ b
-    → cond b (pattern_fault ms) (Some (pattern_refusal m.value)) ≡ None
-    → (pattern_fault ms ≡ None → IsTrue (have_valid_patterns ms))
+    → cond b (fault_in ms) (Some (refusal_here (pattern_refusal m.value))) ≡ None
+    → (fault_in ms ≡ None → IsTrue (have_valid_patterns ms))
     → IsTrue (have_valid_patterns (m ∷ ms))
 sound_by m ms true is h rest = rw (is, rest h) refl
 sound_by m ms false is h rest = absurd cc
 
-pub passes_sound : (ms : List Condition) → pattern_fault ms ≡ None → IsTrue (have_valid_patterns ms)
+pub passes_sound : (ms : List Condition) → fault_in ms ≡ None → IsTrue (have_valid_patterns ms)
 passes_sound [] h = refl
-passes_sound (m ∷ ms) h = sound_by m ms (has_valid_pattern m) refl h (passes_sound ms)
+passes_sound (m ∷ ms) h =
+    sound_by m ms (has_valid_pattern m) refl (sym (fault_is m ms) ∙ h) (passes_sound ms)
 
 refused_first : (m : Condition) (after : List Condition) (takes profile pattern : Bool)
     → takes_pattern m.op ≡ takes → in_profile m.value ≡ profile → is_pattern m.value ≡ pattern
     → takes ≡ true
     → MayRefuse (check_patterns (m ∷ after)) (refusal_here (pattern_refusal m.value))
-refused_first m after true true pattern t p q h = inr (rw (t, p) (inl refl))
-refused_first m after true false pattern t p q h = inl (rw (t, p) refl)
+refused_first m after true true pattern t p q h = inr (rw (met_is m after, t, p) (inl refl))
+refused_first m after true false pattern t p q h = inl (rw (fault_is m after, t, p) refl)
 refused_first m after false profile pattern t p q h = absurd cc
 
 refused_behind : (x : Condition) (ms : List Condition) (r : Refusal) → has_valid_pattern x ≡ true
     → MayRefuse (check_patterns ms) r → MayRefuse (check_patterns (x ∷ ms)) r
-refused_behind x ms r sound (inl h) = inl (rw sound h)
+refused_behind x ms r sound (inl h) = inl (rw (fault_is x ms, sound) h)
 refused_behind x ms r sound (inr h) =
-    let later : IsPatternRefusal (cond (has_valid_pattern x) (profile_patterns ms) []) r =
-    rw sound h in
-    inr (pattern_right (cond (takes_pattern x.op && in_profile x.value) ([] ∷ []) [])
-    (cond (has_valid_pattern x) (profile_patterns ms) []) r later)
+    let met = patterns_before (pattern_objections ms) in
+    let later : IsPatternRefusal (cond (has_valid_pattern x) met []) r = rw sound h in
+    inr (rw (met_is x ms) (pattern_right (cond (has_profile_pattern x) ([] ∷ []) [])
+    (cond (has_valid_pattern x) met []) r later))
 
 refused_at : (before : List Condition) (m : Condition) (after : List Condition)
     → IsTrue (have_valid_patterns before) → IsTrue (takes_pattern m.op)
@@ -72,25 +112,38 @@ patterns_refused ms kind refused =
 
 -- ---- The name of a label.
 
-pub named_passes : (name : List ℕ) → name ≢ [] → label_name_fault name ≡ None
+named_passes : (name : List ℕ) → name ≢ [] → label_name_fault name ≡ None
 named_passes [] h = absurd (h refl)
 named_passes (c ∷ cs) h = refl
 
-pub name_is_some : (name : List ℕ) → label_name_fault name ≡ None → name ≢ []
+name_is_some : (name : List ℕ) → label_name_fault name ≡ None → name ≢ []
 name_is_some [] h = absurd cc
 name_is_some (c ∷ cs) h = λ e. cc
 
+pub named_decides : (name : List ℕ)
+    → Decides (λ _. name ≢ []) ((refuse_for (label_name_fault name)).result)
+named_decides name =
+    said_as (cause_decides (label_name_fault name)) (λ _ none. name_is_some name none)
+    (λ _ some. named_passes name some)
+
 -- ---- One matcher.
 
-pub checked_says : (n m : Condition) → (check_matcher n).result ≡ Ok m
+checked_says : (n m : Condition) → (check_matcher n).result ≡ Ok m
     → (n ≡ m) × IsTrue (has_valid_pattern n)
 checked_says n m h =
     let fine = bind_ok ((check_patterns (n ∷ [])).result) (λ _. Ok n) m h in
-    let valid = passes_sound (n ∷ []) (refuse_for_ok (pattern_fault (n ∷ [])) fine.0 fine.1) in
+    let valid = passes_sound (n ∷ []) (unless_ok (fault_in (n ∷ [])) tt fine.0 fine.1) in
     (same_read n m fine.2, (and_parts (has_valid_pattern n) true valid).0)
 
-pub checked_reads : (m : Condition) → IsTrue (has_valid_pattern m) → (check_matcher m).result ≡ Ok m
-checked_reads m valid = rw valid refl
+checked_reads : (m : Condition) → IsTrue (has_valid_pattern m) → (check_matcher m).result ≡ Ok m
+checked_reads m valid = rw (fault_is m [], valid) refl
+
+pub checked_matcher_decides : (n : Condition)
+    → Decides (λ m. (n ≡ m) × IsTrue (has_valid_pattern n)) ((check_matcher n).result)
+checked_matcher_decides n = record {
+  says = checked_says n;
+  reads = λ m said. checked_reads n said.1 ∙ ap (λ (x : Condition). Ok x) said.0;
+}
 
 pub same_condition : (m : Condition) (name : List ℕ) (op : Op) → m.name ≡ name → m.op ≡ op
     → record { name = name; op = op; value = m.value } ≡ m

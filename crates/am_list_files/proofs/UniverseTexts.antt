@@ -9,13 +9,13 @@ use Rattle.serde_json.specs.Find.{as_str}
 use Rattle.am_labels.specs.declared.limits.TheConstants.{MAX_IMPOSSIBLE}
 use Rattle.am_labels.specs.Matcher.{Condition}
 use Rattle.am_labels.specs.Space.{Space}
-use Rattle.am_json.specs.Json.{field}
+use Rattle.am_json.specs.Json.{field, items_in_field}
 use Rattle.am_json.specs.OptionalItems.{HasItems}
-use Rattle.am_json.specs.Places.{items_in_field}
 use Rattle.am_json.specs.Reading.{read_json}
 use Rattle.am_list_files.specs.UniverseFile.{SaysImpossible, SaysUniverse, FileSaysUniverse}
 use Rattle.am_list_files.specs.UniverseFile.{AreTextsOfLists, HasImpossibleTexts}
-use Rattle.am_list_files.specs.UniverseFile.{FileHasImpossibleTexts, read_universe}
+use Rattle.am_list_files.specs.UniverseFile.{FileHasImpossibleTexts}
+use Rattle.am_list_files.specs.UniverseForm.{universe_form}
 use Rattle.am_json.proofs.Fields.{json_says}
 use Rattle.am_list_files.proofs.UniverseSays.{universe_decides}
 
@@ -45,7 +45,7 @@ texts_found d s said =
 
 -- what is found in the value of a file that is read
 pub texts_are_found : (bytes : List ℕ) (d : Data) (s : Space) (texts : List (List ℕ))
-    → (read_json bytes).result ≡ Ok d → (read_universe d).result ≡ Ok s
+    → (read_json bytes).result ≡ Ok d → (universe_form d).result ≡ Ok s
     → texts ≡ filter_map as_str (items_in_field (field (codes "impossible") d))
     → FileHasImpossibleTexts bytes texts
 texts_are_found bytes d s texts json read is =

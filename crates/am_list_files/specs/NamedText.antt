@@ -10,7 +10,7 @@ abbrev pub SaysNamedText : List ℕ × Data → List ℕ → List ℕ → Type 0
 SaysNamedText pair name text = (name ≡ pair.0) × (pair.0 ≢ []) × (pair.1 ≡ string text)
 
 -- The text of a name in an object of names and texts.
-unfoldable pub read_named_text : List ℕ → Data → Reading (List ℕ)
-read_named_text name d = do
+unfoldable pub named_text_form : List ℕ → Data → Reading (List ℕ)
+named_text_form name d = do
   _ ← refuse_for (label_name_fault name)
   as_text d

@@ -1,5 +1,5 @@
--- Silences, and which JSON value says which. (The form that `amtool silence query -o json` writes
--- and `amtool silence import` reads; the limits, and which fields are read, are this project's
+-- Silences, and which JSON value says which. (The format that `amtool silence query -o json` writes
+-- and `amtool silence import` reads. The limits, and which fields are ignored, are this project's
 -- own.)
 use Rattle.std.specs.Prelude.{◌≡◌, ◌≢◌, ◌≤◌, ℕ, ℤ, List, [], length, Bool, true, false, IsTrue}
 use Rattle.std.specs.Prelude.{Some, option_and_then, codes}
@@ -22,22 +22,22 @@ pub record Silence : Type 0 where
   pub starts : ℤ
   pub ends : ℤ
 
--- The operator of a matcher, by whether the value is a pattern (`isRegex`), and whether the label
--- has to match it or must not (`isEqual`).
+-- The operator of a matcher of a silence. `isRegex` says whether the value is a pattern or a text.
+-- `isEqual` says whether the label must match the value, or must not.
 -- Source: Alertmanager API v2, "matcher": `isRegex` and `isEqual`.
--- Example: where both are true the operator is `=~`, and where both are false it is `!=`.
+-- Example: if both are true, the operator is `=~`. If both are false, it is `!=`.
 abbrev pub flagged_op : Bool → Bool → Op
 flagged_op false true = Equal
 flagged_op false false = NotEqual
 flagged_op true true = Matches
 flagged_op true false = NotMatches
 
--- An object says a matcher: a name, which is not empty, a value, and two truth values, which say
--- the operator. The value is a valid pattern where the operator takes one.
--- Source: Alertmanager API v2, "matcher". Own choice: `isRegex` may be absent too, and is then
--- false; which patterns are valid.
--- Example: `{"name": "team", "value": "db|web", "isRegex": true}` says `team=~"db|web"`, and with
--- `"isEqual": false` too `team!~"db|web"`.
+-- A JSON value says a matcher: it is an object with a name, which is not empty, a value, and two
+-- truth values, which say the operator. If the operator takes a pattern, the value is a valid one.
+-- Source: Alertmanager API v2, "matcher". Own choice: `isRegex` is optional too, and false if it is
+-- absent; which patterns are valid.
+-- Example: `{"name": "team", "value": "db|web", "isRegex": true}` says `team=~"db|web"`. With
+-- `"isEqual": false` beside it, it says `team!~"db|web"`.
 pub record SaysSilenceMatcher (d : Data) (m : Condition) : Type 0 where
   pub name : field (codes "name") d ≡ Some (string m.name)
   pub named : m.name ≢ []
@@ -54,11 +54,11 @@ abbrev pub SaysInstant : List ℕ → Data → ℤ → Type 0
 SaysInstant key d instant =
     (text : List ℕ) × (field key d ≡ Some (string text)) × (instant_of text ≡ Some instant)
 
--- An object says a silence: an array of at least one matcher and at most `MAX_MATCHERS`, and two
--- instants. Its other fields are not read.
+-- A JSON value says a silence: it is an object with an array of 1 to `MAX_MATCHERS` matchers, and
+-- two instants. Its other fields are ignored.
 -- Source: Alertmanager API v2, "silence": `matchers`, of which there is at least one, `startsAt`
 -- and `endsAt`. Own choice: there are at most `MAX_MATCHERS`; `id`, `status`, `updatedAt`,
--- `createdBy` and `comment` need not be there, and are not read.
+-- `createdBy` and `comment` are optional and ignored.
 -- Example: `{"matchers": [], "startsAt": "2024-05-01T10:00:00Z", "endsAt": "2024-05-01T11:00:00Z"}`
 -- says none, since it has no matcher.
 pub record SaysSilence (d : Data) (s : Silence) : Type 0 where
@@ -70,11 +70,11 @@ pub record SaysSilence (d : Data) (s : Silence) : Type 0 where
   pub starts : SaysInstant (codes "startsAt") d s.starts
   pub ends : SaysInstant (codes "endsAt") d s.ends
 
--- An array of at most `MAX_SILENCES` says its silences in their order, and `null` says that there
--- are none.
--- Source: Alertmanager API v2, "gettableSilences". Own choice: the limit, and that `null` says
--- none.
--- Example: `[]` and `null` say no silences, and `{}` says nothing.
+-- A JSON value says a list of silences: it is an array of at most `MAX_SILENCES` items, each of
+-- which says the silence at its position. `null` says the empty list.
+-- Source: Alertmanager API v2, "gettableSilences". Own choice: the limit, and that `null` says the
+-- empty list.
+-- Example: `[]` and `null` say the empty list, and `{}` says no list.
 abbrev pub SaysSilences : Data → List Silence → Type 0
 SaysSilences d silences = SaysItemsOrNull SaysSilence MAX_SILENCES d silences
 

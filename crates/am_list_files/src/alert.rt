@@ -8,7 +8,7 @@ use am_universe::LabelSet;
 use std::alloc::Global;
 use std::marker::Model;
 
-/// At most [`MAX_ALERTS`] alerts that fire, each as its labels, in the order of their file.
+/// At most [`MAX_ALERTS`] firing alerts, each as its label set, in the order of their file.
 #[derive(Drop)]
 pub struct Alerts {
     pub(crate) alerts: Vec<LabelSet>,
@@ -31,7 +31,7 @@ impl Model for Alerts {
 }
 
 impl Alerts {
-    /// No alerts. It keeps the allocator.
+    /// A list of no alerts. It keeps the allocator.
     pub fn none(alloc: Global) -> Alerts
         ensures no_alert { result ≡ [] }
     {
@@ -48,14 +48,14 @@ impl Alerts {
         self.alerts.len()
     }
 
-    /// Whether there is none.
+    /// Whether there are none.
     pub fn is_empty(&self) -> bool
         ensures empty { result ≡ (length self.now == 0) }
     {
         self.alerts.is_empty()
     }
 
-    /// The labels of the alert at `i`, in the order of the file.
+    /// The label set of the alert at `i`, in the order of the file.
     pub fn get(&self, i: usize) -> &LabelSet
         requires alert { i < length self.now }
         ensures alert { slice_get self.now i ≡ Some result.now }

@@ -6,9 +6,9 @@ ghost use Rattle.am_universe.specs.declared.place.Place.TheVariants as places;
 ghost use Rattle.am_universe.specs.LabelSet.{with_value};
 ghost use Rattle.am_json.specs.Reading.{Gives, IsRefusalAt, accept};
 ghost use Rattle.am_list_files.specs.AlertsFile.{FileSaysAlerts};
-ghost use Rattle.am_list_files.specs.AlertsFaults.{IsFirstFaultOfAlertsFile};
-ghost use Rattle.am_list_files.specs.AlertsReading.{read_next_alert_label, read_alert_labels};
-ghost use Rattle.am_list_files.specs.AlertsReading.{read_alert, read_alerts, read_alerts_file};
+ghost use Rattle.am_list_files.specs.AlertsForm.{IsFirstFaultOfAlertsFile};
+ghost use Rattle.am_list_files.specs.AlertsForm.{next_label_form, alert_labels_form};
+ghost use Rattle.am_list_files.specs.AlertsForm.{alert_form, alerts_form, alerts_file_form};
 
 use crate::alert::Alerts;
 use crate::limits::{MAX_ALERT_LABELS, MAX_ALERTS};
@@ -21,19 +21,18 @@ use am_universe::{Fault, LabelSet, Place};
 use serde_json::Value;
 use std::alloc::Global;
 
-/// The alerts that the bytes of an export say, as `amtool alert query -o json` writes it. The value
-/// `null` says that there are none.
+/// Reads an export of alerts, as `amtool alert query -o json` writes it; `null` has no alerts.
 ///
-/// The first fault is the one answered, at the place `Alerts` and at the pointer of the part at
-/// fault. A field that is `null` counts as absent, and fields that the form does not name are not
-/// read, the status among them. A label with the empty value counts as missing.
+/// A field that is `null` is absent. Other fields than `labels` are ignored, the status among them.
+/// A label with the empty value counts as missing. Fails with the first fault of the file, at the
+/// place `Alerts`, with the pointer to the part at fault:
 /// - `Limit`: more than `MAX_FILE_BYTES` bytes, [`MAX_ALERTS`] alerts or [`MAX_ALERT_LABELS`]
 ///   labels of an alert;
 /// - `NotJson`: the bytes have no JSON value;
 /// - `Shape`: a value is not of its kind, or a required field is absent;
 /// - `Empty`: a label's name is the empty text.
 ///
-/// `Memory`, at the place `Memory` and the empty pointer, comes wherever memory ran out.
+/// If memory runs out, the fault is `Memory`, at the place `Memory`, with the empty pointer.
 pub fn read_alerts(alloc: Global, bytes: &[u8]) -> Result<Alerts, Fault>
     ensures says { IfOk result (λ alerts. FileSaysAlerts bytes.now alerts) }
     ensures first { IfErr result (IsRefusalAt places.Alerts (IsFirstFaultOfAlertsFile bytes.now)) }
@@ -44,33 +43,33 @@ pub fn read_alerts(alloc: Global, bytes: &[u8]) -> Result<Alerts, Fault>
     }
 }
 
-#[tactic(auto, using(am_json::proofs::Readings::steps), unfolding(crate::specs::AlertsReading::read_alerts_file))]
+#[tactic(auto, using(am_json::proofs::Readings::steps), unfolding(crate::specs::AlertsForm::alerts_file_form))]
 fn read_alerts_file(alloc: Global, bytes: &[u8]) -> Result<Alerts, ReadError>
-    ensures { Gives (λ alerts. alerts) result (read_alerts_file bytes.now) }
+    ensures { Gives (λ alerts. alerts) result (alerts_file_form bytes.now) }
 {
     let value = read_json(alloc, bytes)?;
     read_alerts_value(alloc, &value)
 }
 
 fn read_alerts_value(alloc: Global, value: &Value) -> Result<Alerts, ReadError>
-    ensures { Gives (λ alerts. alerts) result (read_alerts (view value.now)) }
+    ensures { Gives (λ alerts. alerts) result (alerts_form (view value.now)) }
 {
     let alerts = read_items_or_null(alloc, value, MAX_ALERTS, |item| read_alert(alloc, item))?;
     Ok(Alerts { alerts })
 }
 
-#[tactic(auto, using(am_json::proofs::Readings::steps), unfolding(crate::specs::AlertsReading::read_alert))]
+#[tactic(auto, using(am_json::proofs::Readings::steps), unfolding(crate::specs::AlertsForm::alert_form))]
 fn read_alert(alloc: Global, value: &Value) -> Result<LabelSet, ReadError>
-    ensures { Gives (λ s. s) result (read_alert (view value.now)) }
+    ensures { Gives (λ s. s) result (alert_form (view value.now)) }
 {
     as_object(alloc, value)?;
     let labels = required_field(alloc, value, "labels")?;
     within_field(alloc, "labels", read_alert_labels(alloc, labels))
 }
 
-#[tactic(auto, using(am_json::proofs::Readings::steps, am_json::proofs::Values::members_long), unfolding(crate::specs::AlertsReading::read_alert_labels))]
+#[tactic(auto, using(am_json::proofs::Readings::steps, am_json::proofs::Values::members_long), unfolding(crate::specs::AlertsForm::alert_labels_form))]
 fn read_alert_labels(alloc: Global, value: &Value) -> Result<LabelSet, ReadError>
-    ensures { Gives (λ s. s) result (read_alert_labels (view value.now)) }
+    ensures { Gives (λ s. s) result (alert_labels_form (view value.now)) }
 {
     let members = as_object(alloc, value)?;
     check_count(alloc, MAX_ALERT_LABELS, members.len())?;
@@ -80,21 +79,21 @@ fn read_alert_labels(alloc: Global, value: &Value) -> Result<LabelSet, ReadError
     })
 }
 
-/// The labels with that of a name and a text behind others.
-#[tactic(auto, using(am_json::proofs::Readings::steps), unfolding(crate::specs::AlertsReading::read_next_alert_label))]
+/// Reads a label, and adds it to those before it.
+#[tactic(auto, using(am_json::proofs::Readings::steps), unfolding(crate::specs::AlertsForm::next_label_form))]
 fn read_next_alert_label(
     alloc: Global,
     before: LabelSet,
     name: &str,
     value: &Value,
 ) -> Result<LabelSet, ReadError>
-    ensures { Gives (λ s. s) result (read_next_alert_label before (name.now, view value.now)) }
+    ensures { Gives (λ s. s) result (next_label_form before (name.now, view value.now)) }
 {
     let text = within_field(alloc, name, read_named_text(alloc, name, value))?;
     with_label(alloc, before, name, text)
 }
 
-/// The labels with this one put in. It fails only where memory ran out.
+/// Adds a label. Fails only if memory runs out.
 fn with_label(
     alloc: Global,
     before: LabelSet,

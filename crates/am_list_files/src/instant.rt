@@ -1,4 +1,4 @@
-//! Instants, as texts say them.
+//! Reading instants.
 
 ghost use Rattle.std.specs.Prelude.{◌≡◌, Some, None, IfOk, IfErr};
 ghost use Rattle.am_universe.specs.declared.kind.Kind.TheVariants as kinds;
@@ -8,11 +8,12 @@ use am_universe::Kind;
 use jiff::Timestamp;
 use std::alloc::Global;
 
-/// The instant that a text says (RFC 3339, section 5.6): a date, a time and `Z` or an offset, as
-/// `2024-05-01T10:00:00Z`. What `jiff`'s `Timestamp` reads counts: a second 60 is the second 59, a
-/// fraction has at most nine digits, and brackets behind, with a zone, mean nothing.
+/// Reads an instant (RFC 3339, section 5.6): a date, a time, and `Z` or an offset.
 ///
-/// `BadTime` exactly where it reads no instant. It takes no memory today, so `Memory` never comes.
+/// An example is `2024-05-01T10:00:00Z`. Every text is accepted that `jiff` reads as a `Timestamp`:
+/// a second 60 is the second 59, a fraction has at most nine digits, and a zone in brackets at the
+/// end is ignored. Fails with `BadTime` exactly if `jiff` reads no instant. Takes no memory today,
+/// so `Memory` never comes.
 pub fn parse_instant(_alloc: Global, text: &str) -> Result<Timestamp, Kind>
     ensures read { IfOk result (λ t. instant_of text.now ≡ Some t.nanosecond) }
     ensures refused { IfErr result (λ kind.

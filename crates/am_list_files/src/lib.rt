@@ -1,13 +1,15 @@
-//! The files that are lists of records, read from their bytes, and what their parts say.
+//! Readers of universe files, silences and alerts, and of the parts that other files share with
+//! them.
 //!
 //! [`read_universe`] reads a universe file, [`read_silences`] an export of silences, and
-//! [`read_alerts`] one of alerts. Each answers what the file says, or its first fault: why the
-//! file is refused and, by a JSON Pointer (RFC 6901), at which part. docs/FORMATS.md has the form
-//! of each file, and the order of its faults. [`read_universe_with_texts`] gives the texts of the
-//! impossible lists too. [`parse_instant`] reads an instant.
+//! [`read_alerts`] an export of alerts. Each returns what the file says, or fails with its first
+//! fault: why the file is refused and, by a JSON Pointer (RFC 6901), at which part.
+//! docs/REFERENCE.md has the form of each file, and the order of its faults.
+//! [`read_universe_with_texts`] also returns the texts of the impossible lists. [`parse_instant`]
+//! reads an instant.
 //!
-//! The name and the pattern of a matcher are refused for the same in any file, so readers of
-//! other files ask [`label_name_fault`], [`new_matcher`] and [`read_named_text`] too.
+//! The name and the pattern of a matcher are refused for the same reasons in any file. So readers
+//! of other files also call [`label_name_fault`], [`new_matcher`] and [`read_named_text`].
 #![tactic(auto)]
 
 // How much there may be.

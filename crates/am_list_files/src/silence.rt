@@ -9,8 +9,9 @@ use jiff::Timestamp;
 use std::alloc::Global;
 use std::marker::Model;
 
-/// A silence: it hides the alerts that all its matchers match, from one instant on and up to
-/// another.
+/// A silence: while it is active, it hides the alerts that match all its matchers.
+///
+/// It is active from one instant on, that instant included, until another, that one excluded.
 #[derive(Drop)]
 pub struct Silence {
     pub(crate) matchers: Matchers,
@@ -38,14 +39,14 @@ impl Silence {
         &self.matchers
     }
 
-    /// The instant from which on it is active.
+    /// The instant from which it is active (`startsAt`).
     pub fn starts(&self) -> Timestamp
         ensures starts { result.nanosecond ≡ self.now.starts }
     {
         self.starts
     }
 
-    /// The instant from which on it is active no longer.
+    /// The instant from which it is no longer active (`endsAt`).
     pub fn ends(&self) -> Timestamp
         ensures ends { result.nanosecond ≡ self.now.ends }
     {
@@ -72,7 +73,7 @@ impl Model for Silences {
 }
 
 impl Silences {
-    /// No silences. It keeps the allocator.
+    /// A list of no silences. It keeps the allocator.
     pub fn none(alloc: Global) -> Silences
         ensures no_silence { result ≡ [] }
     {
@@ -89,7 +90,7 @@ impl Silences {
         self.silences.len()
     }
 
-    /// Whether there is none.
+    /// Whether there are none.
     pub fn is_empty(&self) -> bool
         ensures empty { result ≡ (length self.now == 0) }
     {

@@ -9,22 +9,20 @@ ghost use Rattle.am_universe.specs.declared.place.Place.TheVariants as places;
 ghost use Rattle.am_json.specs.declared.read_error.ReadError.TheVariants as errors;
 ghost use Rattle.am_universe.specs.Universe.{label_fault};
 ghost use Rattle.am_universe.specs.UniverseView.{label_of, texts_of};
-ghost use Rattle.am_json.specs.Pointer.{to_item};
-ghost use Rattle.am_json.specs.Reading.{Gives, IsRefusalAt, reading_within, read_items};
-ghost use Rattle.am_json.specs.Json.{field};
-ghost use Rattle.am_json.specs.Places.{items_in_field};
-ghost use Rattle.am_list_files.specs.UniverseFile.{FileSaysUniverse, read_value, read_next_value};
-ghost use Rattle.am_list_files.specs.UniverseFile.{read_values, read_next_label, read_labels};
-ghost use Rattle.am_list_files.specs.UniverseFile.{read_all_labels, read_impossible};
-ghost use Rattle.am_list_files.specs.UniverseFile.{read_all_lists, read_universe};
-ghost use Rattle.am_list_files.specs.UniverseFile.{read_universe_file, AreTextsOfLists};
+ghost use Rattle.am_json.specs.Reading.{Gives, IsRefusalAt, read_items};
+ghost use Rattle.am_json.specs.Json.{field, items_in_field};
+ghost use Rattle.am_list_files.specs.UniverseFile.{FileSaysUniverse, AreTextsOfLists};
 ghost use Rattle.am_list_files.specs.UniverseFile.{FileHasImpossibleTexts};
-ghost use Rattle.am_list_files.specs.MatcherTexts.{read_matcher_text};
-ghost use Rattle.am_list_files.specs.UniverseFaults.{UniverseFileRefusedFor};
+ghost use Rattle.am_list_files.specs.UniverseForm.{UniverseFileRefusedFor, value_form};
+ghost use Rattle.am_list_files.specs.UniverseForm.{next_value_form, values_form, next_label_form};
+ghost use Rattle.am_list_files.specs.UniverseForm.{labels_form, all_labels_form, impossible_form};
+ghost use Rattle.am_list_files.specs.UniverseForm.{all_lists_form, universe_form};
+ghost use Rattle.am_list_files.specs.UniverseForm.{universe_file_form};
+ghost use Rattle.am_list_files.specs.MatcherTexts.{matcher_text_form};
 
 use am_json::{
-    ReadError, as_text, check_count, check_only_fields, field, read_json, read_optional_array,
-    refuse_for, required_items, required_text, within_field, within_item,
+    ReadError, as_text, check_count, check_only_fields, field, or_refused, read_json,
+    read_optional_array, refuse_for, required_items, required_text, within_field, within_item,
 };
 use am_labels::limits::MAX_IMPOSSIBLE;
 use am_labels::{Matchers, Space, parse_matchers};
@@ -33,27 +31,25 @@ use am_universe::{Fault, Kind, Place, Universe};
 use serde_json::Value;
 use std::alloc::{AllocError, Global};
 
-/// The space that the bytes of a universe file say: its labels and values, and the lists of
-/// matchers that are impossible, each in their order.
+/// Reads a universe file: its labels, their values, and the impossible lists of matchers.
 ///
-/// The first fault is the one answered, at the place `Universe` and at the pointer of the part at
-/// fault. A field that is `null` counts as absent.
+/// All are in the order of the file. A field that is `null` is absent. The JSON value of the whole
+/// file is in memory until the call returns. Fails with the first fault of the file, at the place
+/// `Universe`, with the pointer to the part at fault:
 /// - `Limit`: more than `MAX_FILE_BYTES` bytes, [`MAX_LABELS`] labels, `MAX_VALUES` values of a
 ///   label, [`MAX_IMPOSSIBLE`] lists or `MAX_MATCHERS` matchers of a list;
 /// - `NotJson`: the bytes have no JSON value;
-/// - `Shape`: a value is not of its kind, a required field is absent, or a name is no label name;
+/// - `Shape`: a value is not of its kind, a required field is absent, or a name is not a label
+///   name;
 /// - `UnknownField`: there is a field that the form does not have;
-/// - `Empty`: a name or a value is the empty text, or a label has no value;
-/// - `Duplicate`: a name is that of an earlier label, or a value an earlier one of its label;
-/// - `BadMatcher`: a text spells no list of matchers;
+/// - `Empty`: a name or a value is the empty text, or a label has no values;
+/// - `Duplicate`: an earlier label has the same name, or an earlier value of the label is the same;
+/// - `BadMatcher`: a text does not spell a list of matchers;
 /// - `PatternProfile`: a pattern is outside the profile;
-/// - `Pattern`: the engine refuses a pattern of the profile, as it does where its grammar does not
-///   read it, and may do where it is too large. Such a refusal may come before the first fault that
-///   the file has by itself, and not after it.
+/// - `Pattern`: the engine refuses a pattern of the profile. It refuses each that its grammar does
+///   not read. It may also refuse one that is too large, if no other fault comes before it.
 ///
-/// `Memory`, at the place `Memory` and the empty pointer, comes wherever memory ran out.
-///
-/// The JSON value of the whole file is in memory until the space is answered.
+/// If memory runs out, the fault is `Memory`, at the place `Memory`, with the empty pointer.
 pub fn read_universe(alloc: Global, bytes: &[u8]) -> Result<Space, Fault>
     ensures says { IfOk result (λ s. FileSaysUniverse bytes.now s) }
     ensures first { IfErr result (IsRefusalAt places.Universe (UniverseFileRefusedFor bytes.now)) }
@@ -62,8 +58,11 @@ pub fn read_universe(alloc: Global, bytes: &[u8]) -> Result<Space, Fault>
     Ok(space)
 }
 
-/// The space that the bytes of a universe file say, as [`read_universe`] has it and with the same
-/// faults, and the texts of its impossible lists, in their order, as they stand in the file.
+/// Reads a universe file as [`read_universe`] does, and also returns the texts of its impossible
+/// lists.
+///
+/// The texts are in the order of the file, word for word. The faults are those of
+/// [`read_universe`].
 pub fn read_universe_with_texts(alloc: Global, bytes: &[u8]) -> Result<(Space, Vec<String>), Fault>
     ensures says { IfOk result (λ s. FileSaysUniverse bytes.now s.0) }
     ensures texts { IfOk result (λ s.
@@ -78,9 +77,9 @@ pub fn read_universe_with_texts(alloc: Global, bytes: &[u8]) -> Result<(Space, V
     }
 }
 
-#[tactic(auto, using(am_json::proofs::Readings::steps), unfolding(crate::specs::UniverseFile::read_universe_file))]
+#[tactic(auto, using(am_json::proofs::Readings::steps), unfolding(crate::specs::UniverseForm::universe_file_form))]
 fn read_universe_file(alloc: Global, bytes: &[u8]) -> Result<(Space, Vec<String>), ReadError>
-    ensures space { Gives (λ s. s.0) result (read_universe_file bytes.now) }
+    ensures space { Gives (λ s. s.0) result (universe_file_form bytes.now) }
     ensures texts { IfOk result (λ s.
         FileHasImpossibleTexts bytes.now (map string_bytes s.1.items)) }
 {
@@ -90,9 +89,9 @@ fn read_universe_file(alloc: Global, bytes: &[u8]) -> Result<(Space, Vec<String>
     Ok((space, texts))
 }
 
-#[tactic(auto, using(am_json::proofs::Readings::steps), unfolding(crate::specs::UniverseFile::read_universe))]
+#[tactic(auto, using(am_json::proofs::Readings::steps), unfolding(crate::specs::UniverseForm::universe_form))]
 fn read_universe_object(alloc: Global, value: &Value) -> Result<Space, ReadError>
-    ensures { Gives (λ s. s) result (read_universe (view value.now)) }
+    ensures { Gives (λ s. s) result (universe_form (view value.now)) }
 {
     check_only_fields(alloc, value, &["labels", "impossible"])?;
     let universe = read_all_labels(alloc, value)?;
@@ -102,17 +101,17 @@ fn read_universe_object(alloc: Global, value: &Value) -> Result<Space, ReadError
 
 // ---- The labels.
 
-#[tactic(auto, using(am_json::proofs::Readings::steps), unfolding(crate::specs::UniverseFile::read_all_labels))]
+#[tactic(auto, using(am_json::proofs::Readings::steps), unfolding(crate::specs::UniverseForm::all_labels_form))]
 fn read_all_labels(alloc: Global, value: &Value) -> Result<Universe, ReadError>
-    ensures { Gives (λ u. u) result (read_all_labels (view value.now)) }
+    ensures { Gives (λ u. u) result (all_labels_form (view value.now)) }
 {
     let items = required_items(alloc, value, "labels")?;
     within_field(alloc, "labels", read_labels(alloc, items))
 }
 
-#[tactic(auto, unfolding(crate::specs::UniverseFile::read_labels))]
+#[tactic(auto, unfolding(crate::specs::UniverseForm::labels_form))]
 fn read_labels(alloc: Global, items: &[Value]) -> Result<Universe, ReadError>
-    ensures { Gives (λ u. u) result (read_labels (map view items.now)) }
+    ensures { Gives (λ u. u) result (labels_form (map view items.now)) }
 {
     check_count(alloc, MAX_LABELS, items.len())?;
     read_each_label(alloc, items)
@@ -120,17 +119,18 @@ fn read_labels(alloc: Global, items: &[Value]) -> Result<Universe, ReadError>
 
 fn read_each_label(alloc: Global, items: &[Value]) -> Result<Universe, ReadError>
     requires { length items.now ≤ MAX_LABELS }
-    ensures { Gives (λ u. u) result (read_items read_next_label [] (map view items.now)) }
+    ensures { Gives (λ u. u) result (read_items next_label_form [] (map view items.now)) }
 {
     let mut universe = Universe::empty(alloc);
     for item in items {
-        let label = read_label_item(alloc, &universe, item)?;
-        add(&mut universe, label)?;
+        let found = read_next_label(alloc, &universe, item);
+        let next = within_item(alloc, universe.len(), found)?;
+        add(&mut universe, next)?;
     }
     Ok(universe)
 }
 
-/// Adds a label that has no fault. It fails only where memory ran out.
+/// Adds a label that has no fault. Fails only if memory runs out.
 fn add(universe: &mut Universe, label: (String, Vec<Option<String>>)) -> Result<(), ReadError>
     requires { label_fault universe.old (label_of label.0 label.1) ≡ None }
     ensures ok { OnOk result (universe.new ≡ universe.old ++ label_of label.0 label.1 ∷ []) }
@@ -146,33 +146,15 @@ fn add(universe: &mut Universe, label: (String, Vec<Option<String>>)) -> Result<
     }
 }
 
-/// The item whose position is the number of labels so far.
-#[tactic(auto, using(am_json::proofs::Readings::steps))]
-fn read_label_item(
-    alloc: Global,
-    universe: &Universe,
-    item: &Value,
-) -> Result<(String, Vec<Option<String>>), ReadError>
-    ensures { Gives (λ label. label_of label.0 label.1) result
-        (reading_within (to_item (length universe.now))
-        (read_next_label universe.now (view item.now))) }
-{
-    within_item(
-        alloc,
-        universe.len(),
-        read_next_label(alloc, universe, item),
-    )
-}
-
-/// A label behind those of the universe: its name and its values.
-#[tactic(auto, using(am_json::proofs::Readings::steps), unfolding(crate::specs::UniverseFile::read_next_label))]
+/// Reads the name and the values of a label that follows those of the universe.
+#[tactic(auto, using(am_json::proofs::Readings::steps), unfolding(crate::specs::UniverseForm::next_label_form))]
 fn read_next_label(
     alloc: Global,
     universe: &Universe,
     value: &Value,
 ) -> Result<(String, Vec<Option<String>>), ReadError>
     ensures { Gives (λ label. label_of label.0 label.1) result
-        (read_next_label universe.now (view value.now)) }
+        (next_label_form universe.now (view value.now)) }
 {
     check_only_fields(alloc, value, &["name", "values"])?;
     let name = required_text(alloc, value, "name")?;
@@ -182,9 +164,9 @@ fn read_next_label(
     Ok((String::from_str(alloc, name)?, values))
 }
 
-#[tactic(auto, unfolding(crate::specs::UniverseFile::read_values))]
+#[tactic(auto, unfolding(crate::specs::UniverseForm::values_form))]
 fn read_values(alloc: Global, items: &[Value]) -> Result<Vec<Option<String>>, ReadError>
-    ensures { Gives (λ values. texts_of values.items) result (read_values (map view items.now)) }
+    ensures { Gives (λ values. texts_of values.items) result (values_form (map view items.now)) }
 {
     refuse_for(alloc, Universe::count_fault(items.len()))?;
     read_each_value(alloc, items)
@@ -192,47 +174,35 @@ fn read_values(alloc: Global, items: &[Value]) -> Result<Vec<Option<String>>, Re
 
 fn read_each_value(alloc: Global, items: &[Value]) -> Result<Vec<Option<String>>, ReadError>
     ensures { Gives (λ values. texts_of values.items) result
-        (read_items read_next_value [] (map view items.now)) }
+        (read_items next_value_form [] (map view items.now)) }
 {
     let mut values = Vec::new(alloc);
     for item in items {
-        let value = read_value_item(alloc, values.as_slice(), item)?;
-        values.push(value)?;
+        let found = read_next_value(alloc, values.as_slice(), item);
+        let next = within_item(alloc, values.len(), found)?;
+        values.push(next)?;
     }
     Ok(values)
 }
 
-/// The item whose position is the number of values so far.
-fn read_value_item(
-    alloc: Global,
-    before: &[Option<String>],
-    item: &Value,
-) -> Result<Option<String>, ReadError>
-    ensures { Gives (option_map string_bytes) result
-        (reading_within (to_item (length (texts_of before.now)))
-        (read_next_value (texts_of before.now) (view item.now))) }
-{
-    within_item(alloc, before.len(), read_next_value(alloc, before, item))
-}
-
-/// A value behind those before it.
-#[tactic(auto, unfolding(crate::specs::UniverseFile::read_next_value))]
+/// Reads a value that follows those before it.
+#[tactic(auto, unfolding(crate::specs::UniverseForm::next_value_form))]
 fn read_next_value(
     alloc: Global,
     before: &[Option<String>],
     value: &Value,
 ) -> Result<Option<String>, ReadError>
     ensures { Gives (option_map string_bytes) result
-        (read_next_value (texts_of before.now) (view value.now)) }
+        (next_value_form (texts_of before.now) (view value.now)) }
 {
     let value = read_value(alloc, value)?;
     refuse_for(alloc, Universe::value_fault(before, value))?;
     Ok(owned(alloc, value)?)
 }
 
-/// A text, or `None` for `null`.
+/// Reads a text, or `None` for `null`.
 fn read_value(alloc: Global, value: &Value) -> Result<Option<&str>, ReadError>
-    ensures { Gives (option_map (λ text. text.now)) result (read_value (view value.now)) }
+    ensures { Gives (option_map (λ text. text.now)) result (value_form (view value.now)) }
 {
     if value.is_null() {
         return Ok(None);
@@ -254,7 +224,7 @@ fn owned(alloc: Global, value: Option<&str>) -> Result<Option<String>, AllocErro
 // ---- The lists that are impossible.
 
 fn read_all_lists(alloc: Global, value: &Value) -> Result<Vec<Matchers>, ReadError>
-    ensures reading { Gives (λ lists. lists.items) result (read_all_lists (view value.now)) }
+    ensures reading { Gives (λ lists. lists.items) result (all_lists_form (view value.now)) }
     ensures few { IfOk result (λ lists. length lists.items ≤ MAX_IMPOSSIBLE) }
 {
     read_optional_array(alloc, value, "impossible", MAX_IMPOSSIBLE, |item| {
@@ -262,22 +232,19 @@ fn read_all_lists(alloc: Global, value: &Value) -> Result<Vec<Matchers>, ReadErr
     })
 }
 
-#[tactic(auto, unfolding(crate::specs::UniverseFile::read_impossible))]
+#[tactic(auto, unfolding(crate::specs::UniverseForm::impossible_form))]
 fn read_impossible(alloc: Global, value: &Value) -> Result<Matchers, ReadError>
-    ensures { Gives (λ ms. ms) result (read_impossible (view value.now)) }
+    ensures { Gives (λ ms. ms) result (impossible_form (view value.now)) }
 {
     let text = as_text(alloc, value)?;
     read_matcher_text(alloc, text)
 }
 
-/// The list of matchers that a text spells. All that is wrong with it stands at the text.
+/// Reads the list of matchers that a text spells. All its faults are at the text.
 fn read_matcher_text(alloc: Global, text: &str) -> Result<Matchers, ReadError>
-    ensures { Gives (λ ms. ms) result (read_matcher_text [] [] text.now) }
+    ensures { Gives (λ ms. ms) result (matcher_text_form [] [] text.now) }
 {
-    match parse_matchers(alloc, text) {
-        Ok(list) => Ok(list),
-        Err(kind) => Err(ReadError::refused(alloc, kind)),
-    }
+    or_refused(alloc, parse_matchers(alloc, text))
 }
 
 /// The texts among the items of `impossible`. In a value that says a space each item is a text.

@@ -9,7 +9,7 @@ use Rattle.am_json.specs.Reading.{read_items, Gives, IsReadingWithin}
 use Rattle.am_config.specs.RouteView.{view_step, route_view, names_of}
 use Rattle.am_config.specs.ConfigView.{fields_view}
 use Rattle.am_config.specs.ConfigFile.{RouteTree, routes_count, routes_of, route_count}
-use Rattle.am_config.specs.ConfigReading.{read_next_child}
+use Rattle.am_config.specs.ConfigForm.{next_child_form}
 use Rattle.am_json.proofs.Readings.{leads-refl, within_gives, within_if_ok}
 use Rattle.am_json.proofs.Items.{item_goes_on, item_ends, items_done}
 use Rattle.am_config.proofs.Routing.{too_deep, fields_fail, children_fail, children_give, are_read}
@@ -22,19 +22,19 @@ read_route-returns-then-levels-eq0-clause-reads t c =
     too_deep (names_of c.args.names.now) c.args.levels c.args.parent c.args.before
     (view c.args.value.now) c.refused.result c.if-levels-eq0.true c.refused.ensures.refusal
 
-pub read_route-returns-in_err-fields-clause-reads :
-    goal.read_route-returns-in_err-fields-clause-reads
-read_route-returns-in_err-fields-clause-reads t c =
+pub read_route-returns-in_err-settings-clause-reads :
+    goal.read_route-returns-in_err-settings-clause-reads
+read_route-returns-in_err-settings-clause-reads t c =
     let p = err_from_is_err_and c.from_residual.result c.from_residual.ensures.1 in
     rw (p.1, p.2) (fields_fail (names_of c.args.names.now) c.args.levels c.args.parent c.args.before
-    (view c.args.value.now) c.in_err-fields.field-0.0 c.if-levels-eq0.false
-    c.in_err-fields.ensures)
+    (view c.args.value.now) c.in_err-settings.field-0.0 c.if-levels-eq0.false
+    c.in_err-settings.ensures)
 
 pub read_route-read_routes-requires : goal.read_route-read_routes-requires
 read_route-read_routes-requires t c = (
   omega (arith, c.decreases, c.if-levels-eq0.false),
   (are_read (names_of c.args.names.now) c.args.parent c.args.before (view c.args.value.now)
-      (fields_view c.in_ok-fields.fields) c.in_ok-fields.ensures).room,
+      (fields_view c.in_ok-settings.field-0) c.in_ok-settings.ensures).room,
 )
 
 pub read_route-returns-in_err-routes-clause-reads :
@@ -42,29 +42,29 @@ pub read_route-returns-in_err-routes-clause-reads :
 read_route-returns-in_err-routes-clause-reads t c =
     let p = err_from_is_err_and c.from_residual-in_err-routes.result
     c.from_residual-in_err-routes.ensures.1 in
-    let m = read_items (read_next_child (names_of c.args.names.now) (c.args.levels - 1)
-    c.in_ok-fields.fields.receiver (c.args.before + 1)) []
-    (map view c.in_ok-fields.fields.items.now) in
+    let fields = fields_view c.in_ok-settings.field-0 in
+    let m = read_items (next_child_form (names_of c.args.names.now) (c.args.levels - 1)
+    fields.settings.receiver (c.args.before + 1)) [] fields.items in
     let g = within_gives (λ rs. map route_view rs.0.items) (to_field (codes "routes"))
-    c.read_routes.result c.within_field.result m c.read_routes.ensures.reads
-    c.within_field.ensures.within in
+    c.read_routes.result c.within_field.result m
+    (rw c.receiver-receiver.ensures at c.read_routes.ensures.reads) c.within_field.ensures.within in
     rw (p.1, p.2) (children_fail (names_of c.args.names.now) c.args.levels c.args.parent
-    c.args.before (view c.args.value.now) (fields_view c.in_ok-fields.fields)
-    c.in_err-routes.field-0.0 c.if-levels-eq0.false c.in_ok-fields.ensures
+    c.args.before (view c.args.value.now) fields
+    c.in_err-routes.field-0.0 c.if-levels-eq0.false c.in_ok-settings.ensures
     (rw c.in_err-routes.was at g))
 
 pub read_route-returns-clause-reads : goal.read_route-returns-clause-reads
 read_route-returns-clause-reads t c =
-    let m = read_items (read_next_child (names_of c.args.names.now) (c.args.levels - 1)
-    c.in_ok-fields.fields.receiver (c.args.before + 1)) []
-    (map view c.in_ok-fields.fields.items.now) in
+    let fields = fields_view c.in_ok-settings.field-0 in
+    let m = read_items (next_child_form (names_of c.args.names.now) (c.args.levels - 1)
+    fields.settings.receiver (c.args.before + 1)) [] fields.items in
     let g = within_gives (λ rs. map route_view rs.0.items) (to_field (codes "routes"))
-    c.read_routes.result c.within_field.result m c.read_routes.ensures.reads
-    c.within_field.ensures.within in
+    c.read_routes.result c.within_field.result m
+    (rw c.receiver-receiver.ensures at c.read_routes.ensures.reads) c.within_field.ensures.within in
     rw (fold-roll-Route RouteTree view_step _)
     (children_give (names_of c.args.names.now) c.args.levels c.args.parent c.args.before
-    (view c.args.value.now) (fields_view c.in_ok-fields.fields)
-    (map route_view c.in_ok-routes.routes.items) c.if-levels-eq0.false c.in_ok-fields.ensures
+    (view c.args.value.now) fields
+    (map route_view c.in_ok-routes.routes.items) c.if-levels-eq0.false c.in_ok-settings.ensures
     (rw c.in_ok-routes.was at g))
 
 pub read_route-returns-clause-number : goal.read_route-returns-clause-number
@@ -78,7 +78,7 @@ read_route-returns-clause-number t c =
 pub read_routes-loop-item-init : goal.read_routes-loop-item-init
 read_routes-loop-item-init t c = rw c.new-routes.ensures.items (record {
   leads = leads-refl (read_items
-      (read_next_child (names_of c.args.names.now) c.args.levels c.args.receiver c.args.before) []
+      (next_child_form (names_of c.args.names.now) c.args.levels c.args.receiver c.args.before) []
       (map view c.args.items.now));
   counted = omega arith;
   few = c.requires;
@@ -87,13 +87,13 @@ read_routes-loop-item-init t c = rw c.new-routes.ensures.items (record {
 pub read_routes-read_route-found-requires : goal.read_routes-read_route-found-requires
 read_routes-read_route-found-requires t c = (omega (arith, c.decreases), c.loop-item.invariant.few)
 
-pub read_routes-returns-in_err-route-clause-reads :
-    goal.read_routes-returns-in_err-route-clause-reads
-read_routes-returns-in_err-route-clause-reads t c =
+pub read_routes-returns-in_err-next-clause-reads :
+    goal.read_routes-returns-in_err-next-clause-reads
+read_routes-returns-in_err-next-clause-reads t c =
     let l = c.loop-item in
     let p = err_from_is_err_and c.from_residual.result c.from_residual.ensures.1 in
     let read =
-    read_next_child (names_of c.args.names.now) c.args.levels c.args.receiver c.args.before in
+    next_child_form (names_of c.args.names.now) c.args.levels c.args.receiver c.args.before in
     let so_far = map route_view l.routes.items in
     let one : Gives (λ r. route_view r.0) c.read_route-found.result
     (read so_far (view c.item-item.result)) = rw (← l.invariant.counted)
@@ -104,17 +104,17 @@ read_routes-returns-in_err-route-clause-reads t c =
     c.within_item.result = rw part at c.within_item.ensures.within in
     let g = within_gives (λ r. route_view r.0) (to_item (length so_far)) c.read_route-found.result
     c.within_item.result (read so_far (view c.item-item.result)) one seen in
-    rw (p.1, p.2) (item_ends view read c.in_err-route.field-0.0 so_far c.args.items.now l.item-index
-    c.item-item.result _ c.loop-item-test.true c.item-item.is (rw c.in_err-route.was at g)
+    rw (p.1, p.2) (item_ends view read c.in_err-next.field-0.0 so_far c.args.items.now l.item-index
+    c.item-item.result _ c.loop-item-test.true c.item-item.is (rw c.in_err-next.was at g)
     l.invariant.leads)
 
 pub read_routes-loop-item-preserved : goal.read_routes-loop-item-preserved
 read_routes-loop-item-preserved t c =
     let l = c.loop-item in
     let read =
-    read_next_child (names_of c.args.names.now) c.args.levels c.args.receiver c.args.before in
+    next_child_form (names_of c.args.names.now) c.args.levels c.args.receiver c.args.before in
     let so_far = map route_view l.routes.items in
-    let tree = route_view c.in_ok-route.route in
+    let tree = route_view c.in_ok-next.next in
     let one : Gives (λ r. route_view r.0) c.read_route-found.result
     (read so_far (view c.item-item.result)) = rw (← l.invariant.counted)
     c.read_route-found.ensures.reads in
@@ -127,12 +127,12 @@ read_routes-loop-item-preserved t c =
     let n = within_if_ok (to_item (length so_far)) c.read_route-found.result c.within_item.result
     (λ r. (r.1 ≡ l.after + route_count (route_view r.0)) × (r.1 ≤ MAX_ROUTES))
     c.read_route-found.ensures.number seen in
-    let m = rw c.in_ok-route.was at n in
+    let m = rw c.in_ok-next.was at n in
     let e : map route_view c.push.new.self.items ≡ so_far ++ tree ∷ [] =
-    rw c.in_ok-push.ensures.items (map_push route_view l.routes.items c.in_ok-route.route) in
+    rw c.in_ok-push.ensures.items (map_push route_view l.routes.items c.in_ok-next.next) in
     record {
       leads = rw e (item_goes_on view read so_far c.args.items.now l.item-index c.item-item.result
-          tree _ c.loop-item-test.true c.item-item.is (rw c.in_ok-route.was at g)
+          tree _ c.loop-item-test.true c.item-item.is (rw c.in_ok-next.was at g)
           l.invariant.leads);
       counted = rw e (omega (arith, m.0, l.invariant.counted, count_push so_far tree));
       few = m.1;
@@ -140,7 +140,7 @@ read_routes-loop-item-preserved t c =
 
 pub read_routes-returns-clause-reads : goal.read_routes-returns-clause-reads
 read_routes-returns-clause-reads t c =
-    items_done view (read_next_child (names_of c.args.names.now) c.args.levels c.args.receiver
+    items_done view (next_child_form (names_of c.args.names.now) c.args.levels c.args.receiver
     c.args.before) (map route_view c.loop-item.routes.items) c.args.items.now
     c.loop-item.item-index _ c.loop-item-test.false c.loop-item.invariant.leads
 

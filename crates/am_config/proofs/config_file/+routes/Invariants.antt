@@ -4,16 +4,16 @@ use Rattle.am_config.specs.declared.limits.TheConstants.{MAX_ROUTES}
 use Rattle.am_json.specs.Reading.{read_items}
 use Rattle.am_config.specs.RouteView.{route_view, names_of}
 use Rattle.am_config.specs.ConfigFile.{routes_count, routes_of}
-use Rattle.am_config.specs.ConfigReading.{read_next_child}
+use Rattle.am_config.specs.ConfigForm.{next_child_form}
 use Rattle.am_json.proofs.Readings.{Leads}
 use Rattle.am_config.proofs.config_file.+routes.Given as goal
 
 -- what is left behind the children so far leads the reading of all, and they are counted
 abbrev pub invariant-read_routes-loop-item : goal.invariant-read_routes-loop-item
 invariant-read_routes-loop-item l = record {
-  leads : Leads (read_items (read_next_child (names_of l.names) l.levels l.receiver l.before)
+  leads : Leads (read_items (next_child_form (names_of l.names) l.levels l.receiver l.before)
       (map route_view l.routes.items) (map view (drop l.item-index l.items)))
-      (read_items (read_next_child (names_of l.names) l.levels l.receiver l.before) []
+      (read_items (next_child_form (names_of l.names) l.levels l.receiver l.before) []
       (map view l.items));
   counted : l.after ≡ l.before + routes_count (routes_of (map route_view l.routes.items));
   few : l.after ≤ MAX_ROUTES;

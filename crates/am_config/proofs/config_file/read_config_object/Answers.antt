@@ -2,7 +2,7 @@ use Rattle.std.proofs.Common.{None, codes}
 use Rattle.serde_json.specs.View.{view}
 use Rattle.am_config.specs.declared.limits.TheConstants.{MAX_LEVELS}
 use Rattle.am_json.specs.Pointer.{to_field}
-use Rattle.am_config.specs.ConfigReading.{read_route}
+use Rattle.am_config.specs.ConfigForm.{route_form}
 use Rattle.am_config.specs.RouteView.{route_view, names_of}
 use Rattle.am_json.proofs.Readings.{within_ok, within_gives}
 use Rattle.am_config.proofs.Sound.{config_sound}
@@ -14,10 +14,10 @@ invariant_of-result c =
     let d = view c.in_ok-root.root.now in
     let read = rw c.deref.ensures.value at c.read_root.ensures in
     let g = within_gives route_view (to_field (codes "route")) c.read_root.result
-    c.within_field.result (read_route names MAX_LEVELS None 0 d) read c.within_field.ensures.within in
+    c.within_field.result (route_form names MAX_LEVELS None 0 d) read c.within_field.ensures.within in
     let h = rw c.in_ok-root-2.was at g in
     record {
       sound = config_sound names d (route_view c.in_ok-root-2.root) c.in_ok-rules.rules.items
-          (within_ok (to_field (codes "route")) ((read_route names MAX_LEVELS None 0 d).result)
+          (within_ok (to_field (codes "route")) ((route_form names MAX_LEVELS None 0 d).result)
           (route_view c.in_ok-root-2.root) h);
     }

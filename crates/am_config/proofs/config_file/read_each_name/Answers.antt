@@ -9,8 +9,8 @@ use Rattle.am_json.proofs.Readings.{within_gives}
 use Rattle.am_json.proofs.Items.{item_goes_on, item_ends, items_done}
 use Rattle.am_config.proofs.config_file.read_each_name.Goals as goal
 
-pub returns-in_err-name : goal.returns-in_err-name
-returns-in_err-name g c = record {
+pub returns-in_err-next : goal.returns-in_err-next
+returns-in_err-next g c = record {
   reading = λ reading gives.
       let l = c.loop-item in
       let p = err_from_is_err_and c.from_residual.result c.from_residual.ensures.1 in
@@ -21,8 +21,8 @@ returns-in_err-name g c = record {
       rw c.as_slice.ensures.value at (gives _ _ c.read-found.result c.read-found.ensures) in
       let fails =
       within_gives string_bytes (to_item (length before)) c.read-found.result _
-      (reading before (view c.item-item.result)) found (rw part at c.in_err-name.ensures.within) in
-      rw (p.1, p.2) (item_ends view reading c.in_err-name.field-0.0 before c.args.items.now
+      (reading before (view c.item-item.result)) found (rw part at c.in_err-next.ensures.within) in
+      rw (p.1, p.2) (item_ends view reading c.in_err-next.field-0.0 before c.args.items.now
       l.item-index c.item-item.result _ c.loop-item-test.true c.item-item.is fails
       (l.invariant reading gives));
 }
@@ -30,7 +30,7 @@ returns-in_err-name g c = record {
 pub loop-item-preserved : goal.loop-item-preserved
 loop-item-preserved g c = λ reading gives.
     let l = c.loop-item in
-    let name = c.in_ok-name.name in
+    let name = c.in_ok-next.next in
     let before = names_of l.names.items in
     let part : c.len.result ≡ length before =
     omega (arith, c.len.ensures, l.names.ok.0, length-map l.names.items string_bytes) in
@@ -38,7 +38,7 @@ loop-item-preserved g c = λ reading gives.
     rw c.as_slice.ensures.value at (gives _ _ c.read-found.result c.read-found.ensures) in
     let next =
     within_gives string_bytes (to_item (length before)) c.read-found.result _
-    (reading before (view c.item-item.result)) found (rw part at c.in_ok-name.ensures.within) in
+    (reading before (view c.item-item.result)) found (rw part at c.in_ok-next.ensures.within) in
     let e : names_of c.push.new.self.items ≡ before ++ string_bytes name ∷ [] =
     rw c.in_ok-push.ensures.items (map_push _ l.names.items name) in
     rw e (item_goes_on view reading before c.args.items.now l.item-index c.item-item.result

@@ -1,10 +1,11 @@
-use Rattle.std.proofs.Common.{◌≡◌, ℕ, List, [], ◌∷◌, length, ◌==◌, Bool, true, false, cond, Some, None}
+use Rattle.std.proofs.Common.{◌≡◌, ℕ, List, [], ◌∷◌, length, ◌==◌, Bool, true, false, cond, Some}
+use Rattle.std.proofs.Common.{None}
 use Rattle.std.proofs.Common.{is_some, position, refl, sym, ◌∙◌}
 use Rattle.am_universe.specs.Text.{same_text}
 use Rattle.am_universe.specs.declared.kind.Kind.TheVariants as kinds
 use Rattle.am_json.specs.Json.{is_one_of}
 use Rattle.am_config.specs.RouteView.{names_of}
-use Rattle.am_config.specs.ConfigFaults.{receiver_name_fault}
+use Rattle.am_config.specs.ConfigForm.{receiver_name_fault}
 use Rattle.am_config.proofs.Positions.{position_any}
 use Rattle.am_config.proofs.config_file.receiver_name_fault.Goals as goal
 

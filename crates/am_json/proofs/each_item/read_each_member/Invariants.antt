@@ -12,5 +12,5 @@ invariant-loop-name g l =
     (reading : g.row.T.Denot → (List ℕ × Data) → Reading g.row.T.Denot)
     → ((before : _) (name : _) (value : _) (found : _) → goal.F-post g l.read before name value found
     → Gives (λ x. x) found (reading before (name.now, view value.now)))
-    → Leads (read_each reading l.found (member_list (members_view l.name-iterator)))
+    → Leads (read_each reading l.all (member_list (members_view l.name-iterator)))
     (read_each reading l.fn.first (member_list (members_view l.members.entries)))

@@ -1,5 +1,5 @@
-use Rattle.am_list_files.proofs.SilencesFaultLemmas.{silences_file_read, silences_file_refused}
+use Rattle.am_list_files.proofs.SilencesLaws.{silences_file_laws}
 use Rattle.am_list_files.proofs.laws.silence_files_are_read.Goals as goal
 
 pub returns : goal.returns
-returns c = record { read = silences_file_read; refused = silences_file_refused }
+returns c = record { read = silences_file_laws.exact; refused = silences_file_laws.refused }

@@ -1,9 +1,5 @@
-use Rattle.am_list_files.proofs.UniverseFaultLemmas.{universe_laws}
+use Rattle.am_list_files.proofs.UniverseLaws.{universe_laws}
 use Rattle.am_list_files.proofs.laws.universes_are_read.Goals as goal
 
 pub returns : goal.returns
-returns c = record {
-  read = universe_laws.value;
-  sound = universe_laws.sound;
-  refused = universe_laws.refused;
-}
+returns c = record { read = universe_laws.exact; sound = universe_laws.sound; refused = universe_laws.refused }

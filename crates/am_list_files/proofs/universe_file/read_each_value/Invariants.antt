@@ -2,12 +2,12 @@ use Rattle.std.proofs.Common.{[], map, drop}
 use Rattle.serde_json.specs.View.{view}
 use Rattle.am_universe.specs.UniverseView.{texts_of}
 use Rattle.am_json.specs.Reading.{read_items}
-use Rattle.am_list_files.specs.UniverseFile.{read_next_value}
+use Rattle.am_list_files.specs.UniverseForm.{next_value_form}
 use Rattle.am_json.proofs.Readings.{Leads}
 use Rattle.am_list_files.proofs.universe_file.read_each_value.Given as goal
 
 -- what is left behind the values so far leads the reading of all
 abbrev pub invariant-loop-item : goal.invariant-loop-item
 invariant-loop-item l =
-    Leads (read_items read_next_value (texts_of l.values.items)
-    (map view (drop l.item-index l.items))) (read_items read_next_value [] (map view l.items))
+    Leads (read_items next_value_form (texts_of l.values.items)
+    (map view (drop l.item-index l.items))) (read_items next_value_form [] (map view l.items))

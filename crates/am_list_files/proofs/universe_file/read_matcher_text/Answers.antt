@@ -1,13 +1,14 @@
 use Rattle.std.proofs.Common.{[]}
-use Rattle.am_list_files.proofs.MatcherTexts.{text_fails_here, text_gives}
+use Rattle.am_list_files.specs.MatcherTexts.{matcher_text_form}
+use Rattle.am_json.proofs.Readings.{found_gives}
+use Rattle.am_list_files.proofs.MatcherTexts.{text_refused_here, text_gives}
 use Rattle.am_list_files.proofs.universe_file.read_matcher_text.Goals as goal
 
-pub returns-in-Ok : goal.returns-in-Ok
-returns-in-Ok c =
-    text_gives [] [] c.args.text.now c.in-Ok.list c.in-Ok.ensures.spelled c.in-Ok.ensures.at_most
-    c.in-Ok.ensures.valid_patterns
-
-pub returns-in-Err : goal.returns-in-Err
-returns-in-Err c =
-    text_fails_here c.args.text.now c.in-Err.kind c.refused.result c.in-Err.ensures.refused
-    c.refused.ensures.refusal c.refused.ensures.memory
+pub returns : goal.returns
+returns c =
+    let text = c.args.text.now in
+    found_gives (λ ms. ms) c.parse_matchers.result c.or_refused.result (matcher_text_form [] [] text)
+    c.or_refused.ensures.seen (λ list is. let spelled = rw is at c.parse_matchers.ensures in
+    text_gives [] [] text list spelled.spelled spelled.at_most spelled.valid_patterns)
+    (λ kind is. let told = rw is at c.parse_matchers.ensures in
+    text_refused_here text kind told.refused)

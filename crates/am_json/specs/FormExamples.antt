@@ -1,0 +1,48 @@
+-- JSON values that are written as they are seen, and worked examples of what forms make of values.
+use Rattle.std.specs.Prelude.{ℕ, List, [], ◌∷◌, Some, true, codes, ⊤}
+use Rattle.serde_json.specs.Data.{Data, null, boolean, string, array, object, Items, no_items, item}
+use Rattle.serde_json.specs.Data.{Members, no_members, member}
+use Rattle.am_universe.specs.declared.kind.Kind.{Kind}
+use Rattle.am_universe.specs.declared.kind.Kind.TheVariants as kinds
+use Rattle.am_json.specs.Objections.{Objection, a_fault, a_pattern}
+use Rattle.am_json.specs.Pointer.{Refusal}
+use Rattle.am_json.specs.Reading.{Reading, ◌>>=◌, refuse_for}
+
+-- An object with these members, and an array with these items.
+abbrev pub members_of : List (List ℕ × Data) → Members
+members_of [] = no_members
+members_of (pair ∷ pairs) = member pair.0 pair.1 (members_of pairs)
+
+abbrev pub object_of : List (List ℕ × Data) → Data
+object_of pairs = object (members_of pairs)
+
+abbrev pub items_from : List Data → Items
+items_from [] = no_items
+items_from (d ∷ ds) = item d (items_from ds)
+
+abbrev pub array_of : List Data → Data
+array_of ds = array (items_from ds)
+
+-- A refusal of this kind at this pointer.
+abbrev pub refused_at : Kind → List ℕ → Refusal
+refused_at kind pointer = record { kind = kind; pointer = pointer }
+
+-- `{"z": true, "y": null, "b": true}`, whose fields that are not `null` are `b` and `z`, in the
+-- order of their bytes.
+abbrev pub three_fields : Data
+three_fields = object_of
+    ((codes "z", boolean true) ∷ (codes "y", null) ∷ (codes "b", boolean true) ∷ [])
+
+-- `["db", true, null]`
+abbrev pub three_items : List Data
+three_items = string (codes "db") ∷ boolean true ∷ null ∷ []
+
+-- Two checks, one after the other, both of which are at fault.
+abbrev pub two_checks : Reading ⊤
+two_checks = refuse_for (Some kinds.Empty) >>= λ _. refuse_for (Some kinds.Limit)
+
+-- A pattern, a fault behind it, and a pattern behind that.
+abbrev pub three_objections : List Objection
+three_objections =
+    a_pattern (codes "/a") ∷ a_fault (refused_at kinds.Limit (codes "/b")) ∷ a_pattern (codes "/c")
+    ∷ []
