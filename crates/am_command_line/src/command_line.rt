@@ -17,22 +17,22 @@ pub struct CommandLine<'a> {
     pub files: InputFiles<'a, &'a str>,
 }
 
-/// What is asked for.
+/// What a command line asks for. In a request about every alert, `universe` says that a universe
+/// file is given, whose impossible lists count, and `ascii` that only alerts of printable ASCII
+/// count.
 #[derive(Drop)]
 pub enum Request<'a> {
-    /// What is wrong with a configuration and with silences, for every alert: with what the
-    /// universe file calls impossible, if there is one; and for alerts of printable ASCII alone.
+    /// What is wrong with a configuration and with silences, for every alert.
     Lint {
         universe: bool,
         ascii: bool,
     },
-    /// Which alerts go to other receivers under a new configuration than under an old one; with
-    /// the same options.
+    /// Which alerts go to other receivers under a new configuration than under an old one.
     Compare {
         universe: bool,
         ascii: bool,
     },
-    /// Each list of receivers that some alert goes to; with the same options.
+    /// Each list of receivers to which some alert goes.
     Outcomes {
         universe: bool,
         ascii: bool,
@@ -44,21 +44,22 @@ pub enum Request<'a> {
         limit: Option<NonZeroU64>,
         steps: Option<Steps>,
     },
-    /// Which routes no label set of a universe ends at.
+    /// At which routes no label set of a universe ends.
     Dead,
-    /// Which receivers no label set of a universe goes to.
+    /// To which receivers no label set of a universe goes.
     Receivers,
-    /// Why a label set goes where it goes: one word is its text, and each of several a matcher.
+    /// Why a label set goes where it goes. One word is its text; each of several words is one
+    /// matcher.
     Explain {
         set: Vec<&'a str>,
     },
-    /// The alerts of an export that a question is true of, or all of them.
+    /// The alerts of an export of which a question is true, or all of them.
     Alerts {
         question: Option<&'a str>,
     },
-    /// A universe that stands for every alert: beside the labels of the universe file; of the
-    /// routes alone; for alerts of printable ASCII alone; and also where it cannot be proved of a
-    /// label. The matchers of questions count too.
+    /// A universe that stands for every alert. If `from`, it keeps the labels of a universe file;
+    /// if `routes`, only the matchers of routes, questions and impossible lists count; if `open`,
+    /// it is made even if some label is unproved.
     Universe {
         from: bool,
         routes: bool,
@@ -66,7 +67,7 @@ pub enum Request<'a> {
         open: bool,
         questions: Vec<&'a str>,
     },
-    /// What a universe lacks to stand for every alert, or for those of printable ASCII.
+    /// What a universe lacks to stand for every alert, for the same matchers.
     CheckUniverse {
         routes: bool,
         ascii: bool,
@@ -74,8 +75,8 @@ pub enum Request<'a> {
     },
 }
 
-/// The input files, and the time that is asked about, as far as they are given. `F` is what stands
-/// for a file: its path, or its bytes, once it is read.
+/// The input files and the instant, each of which is optional. `F` is the path of a file, or its
+/// bytes once it is read.
 #[derive(Drop)]
 pub struct InputFiles<'a, F> {
     pub universe: Option<F>,
@@ -87,11 +88,11 @@ pub struct InputFiles<'a, F> {
     pub at: Option<&'a str>,
 }
 
-/// The most that `--limit` and `--steps` take.
+/// The greatest number that `--limit` and `--steps` take.
 const MAX_COUNT: u64 = 4294967295;
 
-/// Reads a command line, its first word the program's name. An `Err` has the text to show: of a
-/// usage fault, of help or of the version.
+/// Reads a command line, whose first word is the program's name. The error has the text to show: a
+/// usage fault, help or the version. Its kind is `OutOfMemory` if memory ran out.
 pub fn parse_command_line<'a>(
     alloc: Global,
     words: &'a [String],
@@ -209,7 +210,7 @@ fn universe_request<'a>(
     })
 }
 
-/// The files that a command names, and the time, as far as it has such options.
+/// The files that a command names and the instant, as far as it has such options.
 fn files_of<'a>(matches: &ArgMatches<'a>) -> InputFiles<'a, &'a str> {
     InputFiles {
         universe: matches.get_str("universe").or(matches.get_str("from")),
@@ -288,20 +289,20 @@ fn ask_command<'a>(alloc: Global) -> Result<Command<'a>, AllocError> {
         .long("limit")
         .value_name("N")
         .value_parser(ValueParser::unsigned(1, MAX_COUNT))
-        .help("Write at most N label sets, 1 to 4294967295, and a token if there are more");
+        .help("Print at most N label sets, 1 to 4294967295, and a token if there are more");
     let steps = Arg::new(alloc, "steps")
         .long("steps")
         .value_name("N")
         .value_parser(ValueParser::unsigned(MIN_STEPS, MAX_COUNT))
-        .help("Stop the search after N steps, 65 to 4294967295, with a token to go on");
+        .help("Stop the search after N steps, 65 to 4294967295, with a token to continue");
     let after = Arg::new(alloc, "after")
         .long("after")
         .value_name("TOKEN")
-        .help("Go on after the page of the same inputs that ended with this token");
+        .help("Continue after the page of the same inputs that ended with this token");
     let question = Arg::new(alloc, "question")
         .value_name("QUESTION")
         .required(true)
-        .help("The question, as receiver db-pager or {team=\"db\"}");
+        .help("The question, such as receiver db-pager or {team=\"db\"}");
     Command::new(alloc, "ask")
         .about(ASK_ABOUT)
         .after_help(ASK_HELP)
@@ -335,7 +336,7 @@ fn explain_command<'a>(alloc: Global) -> Result<Command<'a>, AllocError> {
         .required(true)
         .num_args(1..)
         .action(ArgAction::Append)
-        .help("The label set, as team=db,severity=warning or team=db severity=warning");
+        .help("The label set, such as team=db,severity=warning or team=db severity=warning");
     Command::new(alloc, "explain")
         .about(EXPLAIN_ABOUT)
         .after_help(EXPLAIN_HELP)
@@ -348,7 +349,7 @@ fn explain_command<'a>(alloc: Global) -> Result<Command<'a>, AllocError> {
 
 fn alerts_command<'a>(alloc: Global) -> Result<Command<'a>, AllocError> {
     let question = Arg::new(alloc, "question").value_name("QUESTION").help(
-        "The question, as receiver db-pager or silenced; any if there is none",
+        "The question, such as receiver db-pager or silenced; without one, any",
     );
     Command::new(alloc, "alerts")
         .about(ALERTS_ABOUT)
@@ -364,7 +365,7 @@ fn universe_command<'a>(alloc: Global) -> Result<Command<'a>, AllocError> {
     let check = Arg::new(alloc, "universe")
         .long("check")
         .value_name("UNIVERSE")
-        .help("Say what this universe lacks, a JSON file, and make none");
+        .help("Say what this universe, a JSON file, lacks, and make none");
     let from = Arg::new(alloc, "from")
         .long("from")
         .value_name("UNIVERSE")
@@ -373,17 +374,17 @@ fn universe_command<'a>(alloc: Global) -> Result<Command<'a>, AllocError> {
     let routes = Arg::new(alloc, "routes")
         .long("routes")
         .action(ArgAction::SetTrue)
-        .help("Let the matchers of routes count alone");
+        .help("Count only the matchers of routes");
     let open = Arg::new(alloc, "open")
         .long("open")
         .action(ArgAction::SetTrue)
         .conflicts_with("universe")?
-        .help("Write the universe also where it cannot be proved of a label");
+        .help("Print the universe even if a label is unproved");
     let question = Arg::new(alloc, "question")
         .long("question")
         .value_name("QUESTION")
         .action(ArgAction::Append)
-        .help("Let the matchers of this question count too; may be given several times");
+        .help("Count the matchers of this question too; may be repeated");
     Command::new(alloc, "universe")
         .about(UNIVERSE_ABOUT)
         .after_help(UNIVERSE_HELP)
@@ -411,7 +412,7 @@ fn impossible_arg<'a>(alloc: Global) -> Arg<'a> {
     Arg::new(alloc, "universe")
         .long("universe")
         .value_name("FILE")
-        .help("A universe, a JSON file that says which label sets never occur")
+        .help("A universe, a JSON file, that says which label sets never occur")
 }
 
 fn config_arg<'a>(alloc: Global) -> Arg<'a> {
@@ -425,26 +426,26 @@ fn ascii_arg<'a>(alloc: Global) -> Arg<'a> {
     Arg::new(alloc, "ascii")
         .long("ascii")
         .action(ArgAction::SetTrue)
-        .help("Let alerts with values of printable ASCII count alone")
+        .help("Count only alerts whose values are printable ASCII")
 }
 
 fn silences_arg<'a>(alloc: Global) -> Arg<'a> {
     Arg::new(alloc, "silences")
         .long("silences")
         .value_name("FILE")
-        .help("The silences, as amtool silence query -o json writes them")
+        .help("The silences, as exported by amtool silence query -o json")
 }
 
 fn alerts_arg<'a>(alloc: Global) -> Arg<'a> {
     Arg::new(alloc, "alerts")
         .long("alerts")
         .value_name("FILE")
-        .help("The firing alerts, as amtool alert query -a -s -i -u -o json writes them")
+        .help("The firing alerts, as exported by amtool alert query -a -s -i -u -o json")
 }
 
 fn at_arg<'a>(alloc: Global) -> Arg<'a> {
     Arg::new(alloc, "at")
         .long("at")
         .value_name("TIME")
-        .help("The time that is asked about, as 2024-05-01T10:00:00Z")
+        .help("The time to ask about, such as 2024-05-01T10:00:00Z")
 }

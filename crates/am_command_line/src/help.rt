@@ -1,10 +1,15 @@
 //! What help says of the program and of each command.
 
-pub(crate) const ABOUT: &str =
-    "Decides where Alertmanager routes alerts, and what silences or inhibits them";
+pub(crate) const ABOUT: &str = "\
+Shows where Alertmanager routes alerts, and what silences or inhibits them
+
+Begin with your own alertmanager.yml:
+
+  yq -o=json . alertmanager.yml > alertmanager.json  # Debian's yq: yq . alertmanager.yml
+  amcover lint --config alertmanager.json";
 
 pub(crate) const EXAMPLE: &str = "\
-Example:
+Examples:
 
   amcover lint --config alertmanager.json
   amcover compare --old old.json --new alertmanager.json
@@ -16,25 +21,18 @@ Example:
   amcover dead --universe u.json --config alertmanager.json
   amcover receivers --universe u.json --config alertmanager.json
 
-`amcover ask --help` and so on say what each command reads and writes.";
+Each command has help on what it reads and prints, for example `amcover lint --help`.";
 
-pub(crate) const LINT_ABOUT: &str = "Write what is wrong with a configuration, and why";
+pub(crate) const LINT_ABOUT: &str = "Say what is wrong with a configuration, and why";
 
 pub(crate) const LINT_HELP: &str = "\
-The configuration is JSON; an alertmanager.yml becomes JSON by
+Convert your alertmanager.yml to JSON, and check it:
 
-  yq -o=json . alertmanager.yml > alertmanager.json
-
-or, with the yq that Debian has, by
-
-  yq . alertmanager.yml > alertmanager.json
-
-Example:
-
+  yq -o=json . alertmanager.yml > alertmanager.json  # Debian's yq: yq . alertmanager.yml
   amcover lint --config alertmanager.json
 
-writes a line for each finding and each note, on routes, receivers and inhibition rules in
-this order, and last how many there are. The lines are for example
+This prints a line for each finding and each note: first on routes, then on receivers, then
+on inhibition rules. The last line counts them. For example:
 
   /2 hands on: \"db-mail\" {team=\"db\"}: taken by /2/0 {env=\"prod\"}, /2/1 {env!=\"prod\"}
   /3/2 dead: \"web-chat\" {env!=\"prod\"}: taken by /1 {env!=\"prod\"}
@@ -42,253 +40,237 @@ this order, and last how many there are. The lines are for example
   rule 1 idle: no alert matches source {severity=\"critical\",severity=\"high\"}
   # 3 findings, 1 note
 
-/ is the top-level route, /3 its fourth child, and /3/2 the third child of that. Behind the
-path of a route stands what is said of it, then its receiver, its matchers, and why:
+A path names a route, and counts from 0: / is the top-level route, /3 is its fourth child,
+and /3/2 is the third child of /3. After the path come the kind of finding or note, the
+receiver of the route, its matchers, and the reason. The kinds are:
 
   dead       a finding: no alert enters the route, whatever its labels are
-  unusual    a note: no ordinary alert enters the route, and some other alert does; the
-             label set of one of these is shown
+  unusual    a note: no ordinary alert enters the route, but some other alert does. The
+             line shows the label set of such an alert
   hands on   a note: ordinary alerts enter the route, and its children take all of them
 
-An alert is ordinary where its values have no other characters than printable ASCII, from
-the blank to ~. So one with a line feed, which . does not match, is not.
+An alert is ordinary if its values consist of printable ASCII, from the space to ~. So an
+alert with a line feed in a value, which . does not match, is not ordinary.
 
-The reason names routes. Together they are enough, and none of them can be left out:
-without it some alert would enter the route, or would end there.
+The reason names routes. Together they are enough, and each of them is needed: without it,
+the reason would not hold. For an unusual route, and for one that hands on, the reason speaks
+only of ordinary alerts.
 
-  excluded by ROUTES    no alert matches all of these; they are on the way to the route,
-                        at the end of which it stands itself
-  taken by ROUTES       each alert for a dead or an unusual route matches one of these
-                        first: siblings before it or before a route above it, without
-                        continue; for a route that hands on they are its children
-  no alert is possible  the universe file calls all of them impossible
+  excluded by ROUTES    no alert matches all of these. They are the route itself, or routes
+                        above it
+  taken by ROUTES       each alert that could enter the dead or unusual route matches one
+                        of these first. They are siblings of the route, or of a route above
+                        it; they come earlier, and have no continue. If a route hands on,
+                        they are its children
+  no alert is possible  the universe file calls all these alerts impossible
 
-A receiver is unmatched, a finding, where no alert goes to it; and unusual, a note, where
-some alert does, and no ordinary one. Behind that stand the routes that have the receiver,
-each with what is said of it, or that there is none.
+A receiver is unmatched, a finding, if no alert goes to it. It is unusual, a note, if some
+alert does, but no ordinary one. The line names the routes that have the receiver, each with
+its kind, or says that there are none.
 
-A rule, with its position in inhibit_rules from 0, is idle, a finding, where no alert, whatever
-fires, inhibits another by it. The reason is one of these; the matchers that it names are
-enough, and none of them can be left out:
+A rule is idle, a finding, if no alert inhibits another by it, whatever fires. Its number is
+its position in inhibit_rules, from 0. The reason is one of these. The matchers that it
+names are enough, and each of them is needed:
 
   no alert matches source MATCHERS, or target MATCHERS
   source MATCHERS and target MATCHERS exclude each other through equal
-             no two alerts that have the same values for the labels in equal are such that
-             one matches the first and the other the second
+             if one alert matches the first and another the second, they differ in a label
+             of equal
   each two alerts that match source and target match both sides
              and such alerts do not inhibit each other
 
-The usual mistake is a source of critical alerts, a target of warnings, and equal with
-severity.
+The usual mistake is a source of critical alerts, a target of warnings, and severity in equal.
 
-With silences there are lines on those that are not over at the time of --at, by their
-position in the file, from 0; with alerts there are notes on what none of these has:
+With --silences and --at, lint also checks the silences, except those that are over at that
+time. Their numbers are positions in the file, from 0. With --alerts, notes say what no alert
+of that file matches or has:
 
   amcover lint --config alertmanager.json --silences silences.json \\
     --at \"$(date -u +%FT%TZ)\" --alerts alerts.json
 
   silence 3 idle: no alert matches {team=\"db\",team=\"web\"}
-             a finding: it hides no alert there can be
+             a finding: it can hide no alert
   silence 4 all: every alert matches {team=~\"(?s).*\"}
-             a finding: it hides every alert there can be
+             a finding: it hides every alert
   silence 5 unused: no alert of the file matches {team=\"ops\"}
              a note: it is active, and hides none of the alerts of the file
   /2/0 unseen: no alert has severity=\"critcal\", some have \"critical\"
              a note: a matcher of a route, a rule or a silence has = and a value that no
-             alert of the file has, though some alert has the label. The most similar
-             value that one has is shown where at most two characters are to be changed
+             alert of the file has, though some alert has the label. The line shows the
+             most similar value of an alert, if at most two characters need to change
 
-Every alert counts, whatever its labels are. What never occurs is said by a universe file,
-as never.json:
+lint speaks of every alert that there can be, whatever its labels are. If some alerts never
+occur, say so in a universe file, such as never.json:
 
   {\"labels\": [], \"impossible\": [\"team=web,severity=critical\"]}
 
   amcover lint --config alertmanager.json --universe never.json
 
-Such a file may declare labels too. It is refused where one of these lacks a value that
-the matchers of the routes tell apart from the others:
+The file may declare labels too. Then each needs a value for every case that the matchers of
+the routes tell apart. If one lacks such a value, lint refuses the file:
 
   amcover: universe: /labels/0: incomplete
 
 amcover universe --from never.json --config alertmanager.json adds what a file lacks.
 
-With --ascii ordinary alerts count alone, and a route that is unusual without it is dead.
-Patterns with \\b are read then too, for which a configuration is refused as unproved
-without it.
+With --ascii, only ordinary alerts count. A route that is unusual without --ascii is then
+dead. If a pattern has \\b, use --ascii: without it, lint refuses the configuration as
+unproved.
 
-Time intervals make no difference, and what is said of routes and receivers is the same
-whatever is silenced or inhibited.
+lint ignores time intervals. Silences and inhibition do not change what it says of routes and
+receivers.
 
 Exit status: 0 done without a finding, 1 refused input, 2 usage, 3 out of memory, 4 the
 output failed, 5 done with a finding.";
 
-pub(crate) const COMPARE_ABOUT: &str = "Write which alerts a change sends to other receivers";
+pub(crate) const COMPARE_ABOUT: &str = "Say which alerts a change sends to other receivers";
 
 pub(crate) const COMPARE_HELP: &str = "\
-The configurations are JSON; an alertmanager.yml becomes JSON by
+In a merge request, compare your alertmanager.yml with that of the main branch:
 
-  yq -o=json . alertmanager.yml > alertmanager.json
-
-or, with the yq that Debian has, by
-
-  yq . alertmanager.yml > alertmanager.json
-
-Example:
-
+  git show origin/main:alertmanager.yml > old.yml
+  yq -o=json . old.yml > old.json                    # Debian's yq: yq . old.yml
+  yq -o=json . alertmanager.yml > alertmanager.json  # Debian's yq: yq . alertmanager.yml
   amcover compare --old old.json --new alertmanager.json
 
-writes a line for each change, and last how many there are. The lines are for example
+The exit status is 0 if the merge sends no alert elsewhere, and 5 if it does. With any other
+status there is no answer.
+
+The output has a line for each change, and the last line counts them. For example:
 
   \"db-mail\" -> \"web-pager\" {team=\"web\",severity=\"info\"}
   \"web-pager\" -> \"web-pager\",\"incident-log\" {team=\"web\",severity=\"critical\"}
   # 2 changes
 
-Before the arrow stand the receivers that an alert goes to by the old configuration, and
-behind it those by the new one, in the order of the routes at which it ends. A receiver
-stands twice where the alert ends at two routes that have it. Behind them stands the first
-label set of such an alert. All alerts that go from the same receivers to the same other
+Before the arrow are the receivers of an alert under the old configuration, and after it
+those under the new one. They are in the order of the routes at which the alert ends. A
+receiver appears twice if the alert ends at two routes that have it. The line ends with the
+first label set of such an alert. All alerts that go from the same receivers to the same other
 ones share a line, however many they are.
 
-Every alert counts, whatever its labels are: one that goes from some receivers to others
-has a line. So where there is no line each alert goes to the same receivers as before, in
-the same order, however the routes are written. Receivers are the same where they have the
-same name. What a receiver does with an alert is not looked at, and neither are grouping,
-silences, inhibition and time intervals.
+Every alert counts, whatever its labels are. If it goes to other receivers than before, it has
+a line. So if there is no line, each alert goes to the same receivers as before, in the same
+order, however the routes are written. Receivers with the same name are the same. compare
+ignores what a receiver does with an alert, and also grouping, silences, inhibition and time
+intervals.
 
-In a pipeline of a merge request
-
-  git show origin/main:alertmanager.json > old.json
-  amcover compare --old old.json --new alertmanager.json
-
-ends with status 0 where the merge sends no alert elsewhere, and with 5 where it does. Any
-other status says that it is not known.
-
-What never occurs is said by a universe file, as never.json:
+If some alerts never occur, say so in a universe file, such as never.json:
 
   {\"labels\": [], \"impossible\": [\"team=web,severity=critical\"]}
 
   amcover compare --old old.json --new alertmanager.json --universe never.json
 
-Such a file may declare labels too. It is refused where one of these lacks a value that
-the matchers of the routes of both files tell apart from the others:
+The file may declare labels too. Then each needs a value for every case that the matchers of
+the routes of both files tell apart. If one lacks such a value, compare refuses the file:
 
   amcover: universe: /labels/0: incomplete
 
-With --ascii alerts count alone whose values have no other characters than printable
-ASCII, from the blank to ~. So an alert with a line feed, which . does not match, does not
-count. Patterns with \\b are read then too, for which a configuration is refused as
-unproved without it.
+With --ascii, only alerts count whose values consist of printable ASCII, from the space to ~.
+So an alert does not count if a value has a line feed, which . does not match. If a pattern
+has \\b, use --ascii: without it, compare refuses the configuration as unproved.
 
-A fault names the file that it is in as old or new:
+A refusal names the file at fault as old or new:
 
   amcover: old: /route/receiver: undefined-receiver
 
 Exit status: 0 done without a change, 1 refused input, 2 usage, 3 out of memory, 4 the
 output failed, 5 done with a change.";
 
-pub(crate) const OUTCOMES_ABOUT: &str = "Write each list of receivers that some alert goes to";
+pub(crate) const OUTCOMES_ABOUT: &str = "Show each list of receivers that some alert goes to";
 
 pub(crate) const OUTCOMES_HELP: &str = "\
-The configuration is JSON; an alertmanager.yml becomes JSON by
+Convert your alertmanager.yml to JSON, and list where alerts go:
 
-  yq -o=json . alertmanager.yml > alertmanager.json
-
-or, with the yq that Debian has, by
-
-  yq . alertmanager.yml > alertmanager.json
-
-Example:
-
+  yq -o=json . alertmanager.yml > alertmanager.json  # Debian's yq: yq . alertmanager.yml
   amcover outcomes --config alertmanager.json
 
-writes a line for each list of receivers that some alert goes to, and then `# end`. The
-lines are for example
+This prints a line for each list of receivers that some alert goes to, and then `# end`. For
+example:
 
   \"default\" {}
   \"db-mail\" {team=\"db\"}
   \"db-pager\",\"incident-log\" {team=\"db\",severity=\"critical\"}
   # end
 
-The receivers stand in the order of the routes at which an alert ends, and one stands
-twice where it ends at two routes that have it. Behind them stands the first label set of
-such an alert. Every alert counts: whatever its labels are, its receivers are one of these
-lists.
+The receivers are in the order of the routes at which an alert ends. A receiver appears twice
+if the alert ends at two routes that have it. The line ends with the first label set of such
+an alert. Every alert counts: whatever its labels are, its receivers are one of these lists.
 
-Keep the text beside the configuration, and a review shows which lists come and go:
+Keep the output beside the configuration. A review then shows which lists come and go:
 
   amcover outcomes --config alertmanager.json > outcomes.txt
 
-What becomes of each alert, `amcover compare` says.
+To see which alerts go elsewhere, use `amcover compare`.
 
-What never occurs is said by a universe file, as never.json:
+If some alerts never occur, say so in a universe file, such as never.json:
 
   {\"labels\": [], \"impossible\": [\"team=web,severity=critical\"]}
 
   amcover outcomes --config alertmanager.json --universe never.json
 
-Such a file may declare labels too. It is refused where one of these lacks a value that
-the matchers of the routes tell apart from the others:
+The file may declare labels too. Then each needs a value for every case that the matchers of
+the routes tell apart. If one lacks such a value, outcomes refuses the file:
 
   amcover: universe: /labels/0: incomplete
 
 amcover universe --from never.json --config alertmanager.json adds what a file lacks.
 
-With --ascii alerts count alone whose values have no other characters than printable
-ASCII, from the blank to ~. So an alert with a line feed, which . does not match, does not
-count. Patterns with \\b are read then too, for which a configuration is refused as
-unproved without it.
+With --ascii, only alerts count whose values consist of printable ASCII, from the space to ~.
+So an alert does not count if a value has a line feed, which . does not match. If a pattern
+has \\b, use --ascii: without it, outcomes refuses the configuration as unproved.
 
-Silences, inhibition and time intervals make no difference.
+outcomes ignores silences, inhibition and time intervals.
 
 Exit status: 0 done, 1 refused input, 2 usage, 3 out of memory, 4 the output failed.";
 
-pub(crate) const ASK_ABOUT: &str = "Write every label set of a universe that satisfies a question";
+pub(crate) const ASK_ABOUT: &str = "List the label sets of a universe for which a question is true";
 
 pub(crate) const ASK_HELP: &str = "\
-The universe is a JSON file that declares labels and the values each may have; null
-stands for a label that is missing:
+Convert your alertmanager.yml to JSON, make a universe for it, and ask:
+
+  yq -o=json . alertmanager.yml > alertmanager.json  # Debian's yq: yq . alertmanager.yml
+  amcover universe --config alertmanager.json > u.json
+  amcover ask --universe u.json --config alertmanager.json 'receiver db-pager'
+
+This prints the label sets of the alerts that go to the receiver db-pager.
+
+The universe is a JSON file. It declares labels, and the values that each may have. null
+stands for a missing label:
 
   {\"labels\": [
     {\"name\": \"team\", \"values\": [\"db\", \"web\", null]},
     {\"name\": \"severity\", \"values\": [\"critical\", \"warning\"]}
   ]}
 
-It may say which label sets never occur, by lists of matchers beside the labels. A label
-set that matches one of them is left out:
+Beside the labels, it may have lists of matchers that say which label sets never occur. ask
+leaves out a label set that matches all matchers of one of these lists:
 
   \"impossible\": [\"team=web,severity=critical\"]
 
-Each label set of it is taken for the labels of an alert, which the configuration of
---config routes. The configuration is JSON; an alertmanager.yml becomes JSON by
+A label set has one of the values of each label. It stands for an alert with these labels,
+and the configuration of --config says where this alert goes. Without --config there is one
+route, /, and its receiver is called none. If ask refuses a file, it names the file and, as a
+JSON Pointer, the part at fault.
 
-  yq -o=json . alertmanager.yml > alertmanager.json
-
-or, with the yq that Debian has, by
-
-  yq . alertmanager.yml > alertmanager.json
-
-Without --config there is one route, /, and its receiver is called none. A fault in a
-file names the file and, by a JSON Pointer, the part at fault.
-
-The silences of --silences are a file that amtool writes:
+amtool exports the file of --silences:
 
   amtool --alertmanager.url=http://localhost:9093 \\
     silence query -o json > silences.json
 
-They need --at, the time that is asked about: a silence hides alerts from its start on
-and until its end. The time has a date and Z or an offset from UTC, as in
+Silences need --at, the time that you ask about: a silence hides alerts from its start on,
+and until its end. The time has a date, and Z or an offset from UTC, as in
 2024-05-01T10:00:00Z and 2024-05-01T12:00:00+02:00. Now is
 
   --at \"$(date -u +%FT%TZ)\"
 
-The alerts of --alerts are those that fire. amtool writes them; without -a -s -i -u it
-leaves out those that are silenced or inhibited, which inhibit others all the same:
+amtool exports the file of --alerts too: the alerts that fire. Without -a -s -i -u it leaves
+out the silenced and the inhibited ones, which still inhibit others:
 
   amtool --alertmanager.url=http://localhost:9093 \\
     alert query -a -s -i -u -o json > alerts.json
 
 Every alert of that file counts as firing, whatever --at says. Without --silences no alert
-is silenced, and without --alerts none is inhibited.
+is silenced, and without --alerts none is inhibited. ask ignores time intervals.
 
 A question is one of these:
 
@@ -315,52 +297,48 @@ A question is one of these:
   (Q)              the question Q, as one part of another
                      not (ends /2 or ends /3)
 
-`not` binds closest, then `and`, then `or`. In a shell, put the question between
-single quotes.
+`not` binds closest, then `and`, then `or`. In a shell, put the question between single
+quotes.
 
-A PATH is the place of a route: / is the top-level route, /2 its third child, /2/0 the
-first child of that. A NAME may stand in quotes, and has to where it has whitespace, a
-quote, a parenthesis or a { in it: receiver \"on call\".
+A PATH names a route, and counts from 0: / is the top-level route, /2 is its third child, and
+/2/0 is the first child of /2. A NAME may be in quotes. It needs quotes if it has whitespace,
+a quote, a parenthesis or a { in it: receiver \"on call\".
 
-The matchers are in the classic syntax of Alertmanager, with =, !=, =~ and !~. A pattern
-has to match the whole value. A missing label counts as the empty value.
+The matchers are in the classic syntax of Alertmanager, with =, !=, =~ and !~. A pattern must
+match the whole value. A missing label counts as the empty value.
 
-Examples:
+ask prints a line for each label set for which the question is true, and then `# end`. The
+lines are in declared order, in which the first label counts most. With the universe above as
+u.json:
 
   amcover ask --universe u.json '{team=\"db\"}'
-
-writes one line for each label set of which the question is true, in declared order,
-and then `# end`:
 
   {team=\"db\",severity=\"critical\"}
   {team=\"db\",severity=\"warning\"}
   # end
 
-  amcover ask --universe u.json --config alertmanager.json 'receiver db-pager'
-
-writes the label sets of the alerts that go to the receiver db-pager.
+This prints the label sets that go to db-pager and that a silence hides now:
 
   amcover ask --universe u.json --config alertmanager.json \\
     --silences silences.json --at \"$(date -u +%FT%TZ)\" \\
     'silenced and receiver db-pager'
 
-writes those of them that a silence hides now.
+And this prints those that go to db-pager and that no firing alert inhibits:
 
   amcover ask --universe u.json --config alertmanager.json --alerts alerts.json \\
     'receiver db-pager and not inhibited'
 
-writes those that no firing alert inhibits.
+With --limit 1, ask prints only the first answer. If there are more, the last line has a
+token:
 
   amcover ask --universe u.json --limit 1 '{team=\"db\"}'
-
-writes the first answer alone. Where there are more, the last line has a token:
 
   {team=\"db\",severity=\"critical\"}
   # next t2:05333def3ae3b054572609919ffa7605:0.0
 
-The same command with --after and that token goes on after it; without --limit it writes
-all that is left. The 32 digits stand for the bytes of the files, the time and the
-question: where one of them has changed, the token is refused.
+To continue, run the same command with --after and that token. Without --limit it prints all
+that is left. The 32 digits stand for the bytes of the files, the time and the question. If
+one of them has changed, ask refuses the token.
 
   amcover ask --universe u.json --limit 1 \\
     --after t2:05333def3ae3b054572609919ffa7605:0.0 '{team=\"db\"}'
@@ -368,49 +346,41 @@ question: where one of them has changed, the token is refused.
   {team=\"db\",severity=\"warning\"}
   # end
 
-A search may take long before it finds an answer, or sees that none is left. --steps stops
-it: a step is one look at the values of the first labels, which says that all label sets
-with these values are answers, that none is, or that more labels have to be looked at.
+A search may take long to find an answer, or to see that none is left. --steps stops it. A
+step looks once at the values of the first labels. It shows that all label sets with these
+values are answers, that none is, or that the search must look at more labels. For example,
+switches.json has seven labels a to g, each with the values 0 and 1:
 
   amcover ask --universe switches.json --steps 65 '{g=\"0\"}'
 
-over seven labels a to g, each with the values 0 and 1, writes 16 label sets, and then
+This prints 16 label sets, and then
 
   # stopped s2:f8767580b17370ba6de9d23d71956bec:0.1
 
-Up to there the answer is complete. The same command with --after and that token goes on:
+The answer is complete up to there. To continue, run the same command with --after and that
+token:
 
   amcover ask --universe switches.json --steps 65 \\
     --after s2:f8767580b17370ba6de9d23d71956bec:0.1 '{g=\"0\"}'
 
-A page may stop without a line, and still have answers behind it: go on until `# end`.
-With --steps 1000000 a page ends after a million steps at most.
+The output of one run is a page. It may stop before its first line although more answers
+follow: continue until `# end`. With --steps 1000000 a page ends after at most a million
+steps.
 
 Exit status: 0 done, 1 refused input, 2 usage, 3 out of memory, 4 the output failed.";
 
 pub(crate) const DEAD_ABOUT: &str =
-    "Write which routes are dead: no label set of a universe ends there";
+    "Say which routes are dead: no label set of a universe ends there";
 
 pub(crate) const DEAD_HELP: &str = "\
-The universe is a JSON file that declares labels and the values each may have, as
-`amcover ask --help` shows. The configuration is JSON; an alertmanager.yml becomes JSON by
+Convert your alertmanager.yml to JSON, make a universe for its routes, and check them:
 
-  yq -o=json . alertmanager.yml > alertmanager.json
-
-or, with the yq that Debian has, by
-
-  yq . alertmanager.yml > alertmanager.json
-
-Each label set of the universe is taken for the labels of an alert. It ends at a route
-where that route handles the alert, and none below it does. Silences, inhibition and time
-intervals make no difference.
-
-Example:
-
+  yq -o=json . alertmanager.yml > alertmanager.json  # Debian's yq: yq . alertmanager.yml
+  amcover universe --routes --config alertmanager.json > u.json
   amcover dead --universe u.json --config alertmanager.json
 
-writes a line for each route, a route before those below it, and then `# end`. The lines
-are for example
+This prints a line for each route, a route before those below it, and then `# end`. For
+example:
 
   / live {team=\"web\",severity=\"critical\"}
   /0 dead entered
@@ -418,244 +388,231 @@ are for example
   /1 dead never-entered
   # end
 
-/ is the top-level route, /0 its first child, and /0/0 the first child of that. Behind the
-path stands what becomes of the route:
+A path names a route, and counts from 0: / is the top-level route, /0 is its first child, and
+/0/0 is the first child of /0. After the path comes one of these:
 
-  live SET             the label set SET ends there, the first of the universe that does
-  dead entered         none ends there, but some end below it: its children take every
-                       alert that comes to it
-  dead never-entered   none ends there or below it. For example, routes before it take all
-                       that it matches and have no continue; its matchers and those of its
+  live SET             the label set SET ends there. It is the first of the universe that does
+  dead entered         none ends there, but some end below it: its children take every alert
+                       that enters it
+  dead never-entered   none ends there or below it. For example, earlier routes without
+                       continue take all that it matches; or its matchers and those of its
                        parent are never true together; or they ask for a value that the
                        universe does not declare
 
-A route is dead for this universe alone: an alert with other labels or values may end
-there, unless the universe stands for every alert. `amcover universe` makes such a one, and
-`amcover universe --check` says what another lacks. Labels that no route asks about cost no
-time, and many label sets are no harm. Those that never occur keep a route alive, unless
-the universe calls them impossible.
+The universe is a JSON file that declares labels and the values that each may have, as
+`amcover ask --help` shows. Each of its label sets stands for the labels of an alert. A label
+set ends at a route if that route handles the alert, and none below it does. dead ignores
+silences, inhibition and time intervals.
+
+A route is dead for this universe alone. An alert with other labels or values may end there,
+unless the universe stands for every alert. `amcover universe` makes such a universe, and
+`amcover universe --check` says what another one lacks. `amcover lint` needs no universe.
+
+Labels that no route asks about cost no time, and neither do many label sets. A label set that
+never occurs may keep a route live, unless the universe calls it impossible.
 
 Exit status: 0 done, with dead routes or without, 1 refused input, 2 usage, 3 out of
 memory, 4 the output failed.";
 
 pub(crate) const RECEIVERS_ABOUT: &str =
-    "Write which receivers are unmatched: no label set of a universe goes there";
+    "Say which receivers are unmatched: no label set of a universe goes there";
 
 pub(crate) const RECEIVERS_HELP: &str = "\
-The universe is a JSON file that declares labels and the values each may have, as
-`amcover ask --help` shows. The configuration is JSON; an alertmanager.yml becomes JSON by
+Convert your alertmanager.yml to JSON, make a universe for its routes, and check the receivers:
 
-  yq -o=json . alertmanager.yml > alertmanager.json
-
-or, with the yq that Debian has, by
-
-  yq . alertmanager.yml > alertmanager.json
-
-Each label set of the universe is taken for the labels of an alert. It goes to the
-receiver of each route that handles the alert where none below it does. A route that names
-no receiver has that of its parent. Silences, inhibition and time intervals make no
-difference.
-
-Example:
-
+  yq -o=json . alertmanager.yml > alertmanager.json  # Debian's yq: yq . alertmanager.yml
+  amcover universe --routes --config alertmanager.json > u.json
   amcover receivers --universe u.json --config alertmanager.json
 
-writes a line for each receiver, in the order of the configuration, and then `# end`. The
-lines are for example
+This prints a line for each receiver, in the order of the configuration, and then `# end`.
+For example:
 
   \"db-pager\" live {team=\"db\",severity=\"critical\"}
   \"db-mail\" unmatched
   # end
 
 The label set is the first of the universe that goes to db-pager. None goes to db-mail: no
-route has that receiver, or each that has it is dead, as `amcover dead` shows.
+route has that receiver, or each route that has it is dead, as `amcover dead` shows.
 
-A receiver is unmatched for this universe alone: an alert with other labels or values may
-go there, unless the universe stands for every alert, as one of `amcover universe` does.
+The universe is a JSON file that declares labels and the values that each may have, as
+`amcover ask --help` shows. Each of its label sets stands for the labels of an alert. The alert
+goes to the receiver of each route that handles it, if no route below that one does. A route
+that names no receiver has that of its parent. receivers ignores silences, inhibition and time
+intervals.
+
+A receiver is unmatched for this universe alone. An alert with other labels or values may go
+there, unless the universe stands for every alert, as one of `amcover universe` does.
+`amcover lint` needs no universe.
 
 Exit status: 0 done, with unmatched receivers or without, 1 refused input, 2 usage, 3 out
 of memory, 4 the output failed.";
 
-pub(crate) const EXPLAIN_ABOUT: &str = "Write why a label set goes where it goes";
+pub(crate) const EXPLAIN_ABOUT: &str = "Say where an alert goes, and what hides it";
 
 pub(crate) const EXPLAIN_HELP: &str = "\
-The label set is that of one alert: matchers in the classic syntax of Alertmanager, each
-with =. One word is a list of them, as team=db,severity=warning. Of several words each is
-one matcher, as amtool config routes test takes them: team=db severity=warning. The label
-set need not be in any universe.
+Convert your alertmanager.yml to JSON, and ask about the labels of one alert:
 
-The configuration is JSON; an alertmanager.yml becomes JSON by
+  yq -o=json . alertmanager.yml > alertmanager.json  # Debian's yq: yq . alertmanager.yml
+  amcover explain --config alertmanager.json 'team=db,severity=warning'
 
-  yq -o=json . alertmanager.yml > alertmanager.json
+Write the labels as one word, a list of matchers: team=db,severity=warning. Or write each as
+a word of its own, as in amtool config routes test: team=db severity=warning. They are in the
+classic syntax of Alertmanager, each with =. The alert need not fire.
 
-or, with the yq that Debian has, by
-
-  yq . alertmanager.yml > alertmanager.json
-
-The silences of --silences and the alerts of --alerts are files that amtool writes:
+amtool exports the files of --silences and --alerts:
 
   amtool --alertmanager.url=http://localhost:9093 \\
     silence query -o json > silences.json
   amtool --alertmanager.url=http://localhost:9093 \\
     alert query -a -s -i -u -o json > alerts.json
 
-Silences need --at, the time that is asked about, as 2024-05-01T10:00:00Z. The alerts are
-those that fire, whatever --at says. Without -a -s -i -u amtool leaves out those that are
-silenced or inhibited, which inhibit others all the same.
-
-Example:
+Without -a -s -i -u amtool leaves out the silenced and the inhibited alerts, which still
+inhibit others. Every alert of the file counts as firing, whatever --at says. Silences need
+--at, the time that you ask about, such as 2024-05-01T10:00:00Z, or now:
 
   amcover explain --config alertmanager.json --silences silences.json \\
     --alerts alerts.json --at \"$(date -u +%FT%TZ)\" 'team=db,severity=warning'
 
-writes the label set, and then for example
+This prints the label set, and then the reasons, for example
 
   {severity=\"warning\",team=\"db\"}
   end /0 \"dba\"
   silenced 0
   inhibited 1 4
 
-The route /0 handles the alert, and its receiver is dba. The first silence of the file
-hides it, and by the second rule the fifth alert inhibits it: positions count from 0.
-There is a line for each such route, silence, and rule with an alert. Without a line
-silenced or inhibited no silence and no alert of these files hides it. A file that is left
-out hides nothing, and time intervals are not looked at.
+The route /0 handles the alert, and its receiver is dba. The first silence of the file hides
+the alert. By the second rule, the fifth alert inhibits it: positions count from 0. There is
+a line for each such route, for each such silence, and for each such rule with an alert. If
+there is no line silenced or inhibited, no silence and no alert of these files hides the
+alert. If you leave out a file, it hides nothing. explain ignores time intervals, which may
+mute the alert too.
 
 Exit status: 0 done, 1 refused input, 2 usage, 3 out of memory, 4 the output failed.";
 
-pub(crate) const ALERTS_ABOUT: &str = "Write the firing alerts of which a question is true";
+pub(crate) const ALERTS_ABOUT: &str = "List the firing alerts for which a question is true";
 
 pub(crate) const ALERTS_HELP: &str = "\
-The configuration is JSON; an alertmanager.yml becomes JSON by
+Convert your alertmanager.yml to JSON, export the alerts that fire, and ask:
 
-  yq -o=json . alertmanager.yml > alertmanager.json
-
-or, with the yq that Debian has, by
-
-  yq . alertmanager.yml > alertmanager.json
-
-The alerts of --alerts and the silences of --silences are files that amtool writes:
-
+  yq -o=json . alertmanager.yml > alertmanager.json  # Debian's yq: yq . alertmanager.yml
   amtool --alertmanager.url=http://localhost:9093 \\
     alert query -a -s -i -u -o json > alerts.json
+  amcover alerts --config alertmanager.json --alerts alerts.json 'receiver db-pager'
+
+Every alert of the file counts as firing. Without -a -s -i -u amtool leaves out the silenced
+and the inhibited ones, which still inhibit others. amtool exports the file of --silences too:
+
   amtool --alertmanager.url=http://localhost:9093 \\
     silence query -o json > silences.json
 
-Every alert of the file counts as firing. Without -a -s -i -u amtool leaves out those that
-are silenced or inhibited. Silences need --at, the time that is asked about, as
-2024-05-01T10:00:00Z. Now is
+Silences need --at, the time that you ask about, such as 2024-05-01T10:00:00Z. Now is
 
   --at \"$(date -u +%FT%TZ)\"
 
 Without --silences no alert is silenced.
 
-The question is one of `amcover ask --help`, and `any`, which is true of every alert, if
-there is none.
-
-Examples:
+alerts prints a line for each alert of the file for which the question is true, in the order
+of the file, and then `# end`. `amcover ask --help` lists the questions. Without a question,
+alerts asks `any`, which is true of every alert. For example,
 
   amcover alerts --config alertmanager.json --alerts alerts.json \\
     --silences silences.json --at \"$(date -u +%FT%TZ)\" 'enters /0'
 
-writes a line for each of these alerts of which the question is true, in the order of the
-file, and then `# end`. The lines are for example
+may print
 
   0 {alertname=\"PostgresDown\",team=\"db\"} -> \"db-pager\",\"incident-log\" silenced \"5a41\"
   3 {alertname=\"Slow\",team=\"db\"} -> \"db-mail\" inhibited 1/0
   # end
 
 The first alert of the file goes to two receivers, in the order of the routes that handle
-it, and the silence with the identifier 5a41 hides it. The fourth one is inhibited, by the
-second rule, while the first alert fires: positions count from 0. A silence of which the
-file has no identifier is told by its position. Without silenced or inhibited in a line no
-silence and no alert of these files hides the alert.
+it. The silence with the identifier 5a41 hides it. The first alert inhibits the fourth one by
+the second rule: positions count from 0. If a silence has no identifier in its file, its
+position stands for it. If a line does not say silenced or inhibited, no silence and no alert
+of these files hides the alert.
+
+This prints the alerts of web-pager that no silence and no other alert hides now:
 
   amcover alerts --config alertmanager.json --alerts alerts.json \\
     --silences silences.json --at \"$(date -u +%FT%TZ)\" \\
     'receiver web-pager and not silenced and not inhibited'
 
-writes the alerts of which web-pager is told now. With the question `silenced` and a file
-with one silence alone it writes what that silence hides. Time intervals are not looked at.
+With the question `silenced or inhibited` it prints the alerts that are hidden, and with
+`silenced` and a file with only one silence what that silence hides. alerts ignores time
+intervals, which may mute alerts too.
 
 Exit status: 0 done, 1 refused input, 2 usage, 3 out of memory, 4 the output failed.";
 
 pub(crate) const UNIVERSE_ABOUT: &str =
-    "Write a universe that stands for every alert, or what one lacks";
+    "Make a universe that stands for every alert, or say what one lacks";
 
 pub(crate) const UNIVERSE_HELP: &str = "\
-The configuration is JSON; an alertmanager.yml becomes JSON by
+Convert your alertmanager.yml to JSON, and make a universe for it:
 
-  yq -o=json . alertmanager.yml > alertmanager.json
-
-or, with the yq that Debian has, by
-
-  yq . alertmanager.yml > alertmanager.json
-
-Example:
-
+  yq -o=json . alertmanager.yml > alertmanager.json  # Debian's yq: yq . alertmanager.yml
   amcover universe --config alertmanager.json > u.json
 
-writes a universe file, with one label a line, for example
+This prints a universe file with a line for each label, for example
 
   {\"labels\": [
     {\"name\": \"team\", \"values\": [null, \"db\", \"web\"]},
     {\"name\": \"severity\", \"values\": [null, \"critical\", \"other\"]}
   ]}
 
-Each label that a matcher asks of has one value for each class of texts that its matchers
-cannot tell apart; null stands for a label that is missing. So whatever labels an alert
-has, some label set of this universe ends at the same routes. What `amcover dead` calls
-dead over it, no alert can be reaching.
+null stands for a missing label. A class is all values of a label that the matchers cannot
+tell apart. Each label that a matcher asks about has one value of each class. So whatever
+labels an alert has, some label set of this universe ends at the same routes. If
+`amcover dead` calls a route dead over this universe, no alert can end there.
 
-The matchers are those of the routes and of the inhibition rules. Those of --silences count
-too, whatever the time, and with --alerts what `equal` asks where one of these alerts
-fires. The files are those that amtool writes:
+The matchers are those of the routes and of the inhibition rules. With --silences, those of
+the silences count too, whatever the time. With --alerts, the labels in `equal` count, with
+the values of each alert that matches the source of the rule. amtool exports these files:
 
   amtool --alertmanager.url=http://localhost:9093 \\
     silence query -o json > silences.json
   amtool --alertmanager.url=http://localhost:9093 \\
     alert query -a -s -i -u -o json > alerts.json
 
-With --alerts a class without a text that a matcher names has, of its values, the one that
-most of these alerts have. For `amcover dead` and `amcover receivers` --routes is enough:
-it leaves out all but the matchers of routes, and the universe is smaller.
+If no matcher names a value of a class, --alerts decides which one stands for it: the one that
+most of these alerts have. For `amcover dead` and `amcover receivers`, --routes is enough: it
+counts only the matchers of routes, and the universe is smaller.
 
-The matchers in the braces of a question of `amcover ask` count with --question, which may
-be given several times:
+With --question, the matchers in the braces of a question of `amcover ask` count too. You
+may repeat it:
 
   amcover universe --config alertmanager.json --question '{team=\"db\"}' > u.json
 
-Where a question has no answer over such a universe, it is true of no alert.
+If a question has no answer over such a universe, it is true of no alert.
 
-To say what never occurs, write it to a universe file, never.json, and let the program
-write the rest:
+If some alerts never occur, say so in a universe file, such as never.json:
 
   {\"labels\": [], \"impossible\": [\"team=web,severity=critical\"]}
 
+With --from, the universe keeps the labels of that file, their values and its impossible
+lists, in their order. To these amcover adds what the file lacks:
+
   amcover universe --from never.json --config alertmanager.json > u.json
 
-keeps the labels of that file, their values and its impossible lists, in their order, and
-adds what it lacks.
+A value may have any character, even a line feed, which . does not match. So a route after
+one with team=~\".*\" is live. With --ascii, only alerts count whose values consist of printable
+ASCII, from the space to ~. The universe is then smaller, and is made faster. Use --ascii with
+--check too, which then says that the universe lacks nothing.
 
-A value may have any character, also a line feed, which . does not match: so a route behind
-team=~\".*\" is live. With --ascii alerts count alone whose values have printable ASCII,
-from the blank to ~, and no other alert. The universe is smaller then, it is made faster,
-and the same --ascii with --check says that it lacks nothing.
-
-Of some patterns it cannot be found which texts they tell apart, as of those with \\b,
-unless --ascii is given. And some names no universe can declare, as a:b. Then nothing is
-written, and the fault says which route, rule, silence, question or list it is:
+For some patterns, amcover cannot find which values they tell apart: for those with \\b, for
+example, unless --ascii is given. And no universe can declare some names, such as a:b. Then
+amcover prints no universe, and says which route, rule, silence, question or list asks:
 
   amcover: config: /route/routes/0: unproved
 
-With --open a universe is written all the same. Such a label has the values that were
-found, if any, and classes may be missing, so nothing is promised of that universe.
+With --open, amcover makes a universe all the same. Such a label then has the values that were
+found, if any. Classes may be missing, so nothing is promised of that universe.
+
+With --check, amcover makes no universe, and says what one lacks:
 
   amcover universe --check u.json --config alertmanager.json
 
-writes how a universe stands: a line for each of its labels, and then for each other label
-that a matcher asks of; how many label sets there are; and `# complete` or `# incomplete`.
-The lines are for example
+This prints a line for each label of the universe, and then for each other label that a
+matcher asks about. Then come the number of label sets, and `# complete` or `# incomplete`.
+For example:
 
   team complete 3
   severity lacks absent
@@ -664,17 +621,17 @@ The lines are for example
   30 label sets
   # incomplete
 
-Behind the name stands
+After the name comes one of these:
 
-  complete N           there is a value of each of the N classes
-  lacks VALUE          no value is alike to this one; absent is a missing label
-  unasked              no matcher asks of it: it multiplies the label sets, and is no harm
+  complete N           each of the N classes has a value
+  lacks VALUE          no value is in the class of this one; absent is a missing label
+  unasked              no matcher asks about it. It multiplies the label sets, and does no harm
   undeclarable         no universe can declare the name, and absence alone is not enough
-  unproved POINTER     it could not be found which texts the matchers tell apart
+  unproved POINTER     amcover could not find which values the matchers tell apart
 
-and with --alerts `unseen` where none of these alerts has the label. The matchers of
-the universe's impossible lists count too; what a list of one label alone takes away is
-not missing.
+With --alerts, `unseen` follows if none of these alerts has the label. The matchers of the
+impossible lists of the universe count too. A label may lack a value that an impossible list
+of this label alone rules out.
 
 Exit status: 0 done, complete or not, 1 refused input, 2 usage, 3 out of memory, 4 the
 output failed.";

@@ -1,8 +1,8 @@
 //! The command line of `amcover`: its commands and options, their help texts, and what a line asks
 //! for.
 //!
-//! [`parse_command_line`] reads the words of a command line as a [`CommandLine`]. It stands on
-//! `clap` alone, so it is proved beside the crates that answer a request, and not behind them.
+//! [`parse_command_line`] reads the words of a command line as a [`CommandLine`]. The crate needs
+//! `clap` alone, so it is proved beside the crates that answer a request, and not after them.
 #![tactic(auto)]
 
 mod command_line;

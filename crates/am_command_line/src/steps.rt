@@ -1,11 +1,11 @@
 ghost use Rattle.std.specs.Prelude.{◌≡◌, ◌<◌, ◌≤◌, MatchOption};
 ghost use Rattle.am_command_line.specs.declared.steps.TheConstants.{MIN_STEPS};
 
-/// The fewest steps of a budget: one more than a universe may have labels. With so many a page
-/// comes past the first choice of its start, so pages in a row come to an end.
+/// The fewest steps of a budget: one more than a universe may have labels. With that many, a page
+/// gets past the first choice of its start, so pages in a row come to an end.
 pub const MIN_STEPS: u64 = 65;
 
-/// A budget of steps: how many prefixes of choices a page may judge, at least [`MIN_STEPS`].
+/// A budget of steps: the most prefixes of choices that a page may judge, at least [`MIN_STEPS`].
 #[derive(Clone, Copy)]
 pub struct Steps {
     count: u64,
@@ -15,7 +15,7 @@ pub struct Steps {
 impl Steps {
     ghost use Rattle.am_command_line.specs.StepsView.{step_count};
 
-    /// So many steps; `None` where they are fewer than [`MIN_STEPS`].
+    /// Makes a budget of `count` steps, or returns `None` for fewer than [`MIN_STEPS`].
     pub fn new(count: u64) -> Option<Steps>
         ensures { MatchOption result (count < MIN_STEPS) (λ steps. step_count steps ≡ count) }
     {
@@ -25,7 +25,7 @@ impl Steps {
         Some(Steps { count })
     }
 
-    /// How many they are.
+    /// Returns the number of steps, at least [`MIN_STEPS`].
     pub fn get(self) -> u64
         ensures count { result ≡ step_count self }
         ensures enough { MIN_STEPS ≤ result }

@@ -1,0 +1,51 @@
+# Completion of amcover for bash. tools/manpage makes this file from the help.
+
+_amcover() {
+    local word=${COMP_WORDS[COMP_CWORD]} before=${COMP_WORDS[COMP_CWORD - 1]}
+    local given=" ${COMP_WORDS[*]:1:COMP_CWORD - 1} " options="" it
+    COMPREPLY=()
+    # bash takes --config=FILE for three words.
+    if [[ $word == = ]]; then
+        word=
+    elif [[ $before == = ]]; then
+        before=${COMP_WORDS[COMP_CWORD - 2]}
+    fi
+    case $before in
+    --alerts | --check | --config | --from | --new | --old | --silences | --universe)
+        compopt -o filenames -o default 2> /dev/null
+        while IFS= read -r it; do
+            COMPREPLY+=("$it")
+        done < <(compgen -f -- "$word")
+        return
+        ;;
+    --after | --at | --limit | --question | --steps)
+        return
+        ;;
+    esac
+    if ((COMP_CWORD == 1)); then
+        options="lint compare outcomes ask dead receivers explain alerts universe --help --version"
+    else
+        case ${COMP_WORDS[1]} in
+        lint) options="--config --silences --alerts --at --universe --ascii --help" ;;
+        compare) options="--old --new --universe --ascii --help" ;;
+        outcomes) options="--config --universe --ascii --help" ;;
+        ask) options="--universe --config --silences --alerts --at --limit --steps --after --help" ;;
+        dead) options="--universe --config --help" ;;
+        receivers) options="--universe --config --help" ;;
+        explain) options="--config --silences --alerts --at --help" ;;
+        alerts) options="--config --alerts --silences --at --help" ;;
+        universe) options="--check --from --config --question --routes --ascii --silences --alerts --open --help" ;;
+        esac
+    fi
+    for it in $options; do
+        # An option that stands there already is offered again only if it may be repeated.
+        if [[ " --question " != *" $it "* && $given == *" $it "* ]]; then
+            continue
+        fi
+        if [[ $it == "$word"* ]]; then
+            COMPREPLY+=("$it")
+        fi
+    done
+}
+
+complete -F _amcover amcover
