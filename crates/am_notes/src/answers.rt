@@ -20,8 +20,8 @@ use std::alloc::{AllocError, Global};
 const GROUPS: &str = "the alerts file has groups, each of which is read as one alert; \
     export it with amtool alert query -a -s -i -u -o json";
 
-/// The notes of a call that is done, each a line, with its line feed. There may be none. An `Err`
-/// only where memory was refused.
+/// Returns the notes of a call that is done: none or more lines, each with its line feed. Fails
+/// only if memory runs out.
 pub fn notes_of_answer(alloc: Global, call: &Call<'_>) -> Result<String, AllocError>
     ensures lines { IfOk result (λ text. AreNoteLines (string_bytes text)) }
 {

@@ -1,14 +1,16 @@
 use am_command_line::Request;
 use am_eval::Files;
 
-/// A request, with the bytes of its files.
+/// A request, and the bytes of its files.
 #[derive(Drop)]
 pub struct Call<'a> {
     pub request: &'a Request<'a>,
-    /// The universe file. Without one there are no bytes.
+    /// The universe file. It is empty if there is none.
     pub universe: &'a [u8],
-    /// The configuration files that are compared. Without one there are no bytes.
+    /// The old configuration file. It is empty if there is none.
     pub old: &'a [u8],
+    /// The new configuration file. It is empty if there is none.
     pub new: &'a [u8],
+    /// The other files, and the instant.
     pub files: Files<'a>,
 }

@@ -1,10 +1,10 @@
 //! Notes for a person at a terminal: what the answer of a command does not say by itself, and what
 //! to type after a refusal.
 //!
-//! A note is one line that begins with `note: `. [`notes_of_answer`] gives those of a [`Call`] that
-//! is done, and [`notes_of_refusal`] those of one that was refused. Both are functions of the
-//! inputs alone, and read these again, by the readers that the commands have. Nothing rests on
-//! notes: no contract says which there are, and cases show it.
+//! A note is one line that begins with `note: `. [`notes_of_answer`] gives the notes of a [`Call`]
+//! that is done, and [`notes_of_refusal`] those of one that was refused. Both are functions of the
+//! inputs alone, and read these again, as the commands do. Nothing depends on notes: no contract
+//! says which there are, and cases test it.
 #![tactic(auto)]
 
 // What notes are about.

@@ -1,4 +1,4 @@
-//! What a file looks like.
+//! The kind of file that a JSON value looks like.
 
 use am_universe::Place;
 use serde_json::Value;
@@ -10,9 +10,9 @@ pub(crate) enum Likeness {
     Config,
     Silences,
     Alerts,
-    /// Alerts in groups, as an alert of each of which a reader takes the labels of the group.
+    /// Groups of alerts. A reader takes each group for one alert, with the labels of the group.
     Groups,
-    /// What an HTTP API answers, with the records in a field of it.
+    /// The answer of an HTTP API, which has the records in a field.
     ApiAnswer,
 }
 

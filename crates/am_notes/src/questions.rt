@@ -46,7 +46,7 @@ fn add_unless(
     notes.add_str(alloc, note)
 }
 
-/// Whether a question asks of routes, and so of all that these ask of.
+/// Whether a question asks about routes, and so about all that these ask about.
 pub(crate) fn asks_of_routes(question: &Question) -> bool {
     match question {
         Question::Receiver(_) | Question::Route(_, _) => true,

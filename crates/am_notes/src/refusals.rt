@@ -9,8 +9,8 @@ use crate::remedies::add_remedy;
 use am_universe::Fault;
 use std::alloc::{AllocError, Global};
 
-/// The notes behind a refusal, each a line, with its line feed: at most one, and there may be none.
-/// A call that read no file is none. An `Err` only where memory was refused.
+/// Returns the notes of a call that was refused: at most one line, with its line feed. `call` is
+/// `None` if a file could not be read. Fails only if memory runs out.
 pub fn notes_of_refusal(
     alloc: Global,
     call: Option<&Call<'_>>,

@@ -126,6 +126,10 @@ fn has_quoted_name_at(alloc: Global, call: &Call<'_>, fault: &Fault) -> Result<b
         | Request::Alerts {
             question: Some(text),
         } if fault.place == Place::Question => Ok(has_quoted_name(text)),
+        Request::Universe { questions, .. } | Request::CheckUniverse { questions, .. }
+            if fault.place == Place::Question => {
+            Ok(questions.iter().any(|text| has_quoted_name(text)))
+        }
         Request::Explain { set } if fault.place == Place::Set => {
             Ok(set.iter().any(|word| has_quoted_name(word)))
         }
@@ -191,16 +195,26 @@ fn remedy(call: &Call<'_>, kind: Kind, place: Place) -> Option<&'static str> {
 
 /// Where a question is not of the grammar.
 fn question_remedy(request: &Request<'_>) -> &'static str {
-    match request {
+    let is_without_braces = match request {
         Request::Ask { question: text, .. }
         | Request::Alerts {
             question: Some(text),
-        } if text.contains('=') && !text.contains('{') => {
-            "matchers stand in braces, as in {team=\"db\"}"
+        } => is_without_braces(text),
+        Request::Universe { questions, .. } | Request::CheckUniverse { questions, .. } => {
+            questions.iter().any(|text| is_without_braces(text))
         }
-        _ => "amcover ask --help lists the forms; a name with a blank stands in quotes: \
-            receiver \"on call\"",
+        _ => false,
+    };
+    if is_without_braces {
+        return "matchers stand in braces, as in {team=\"db\"}";
     }
+    "amcover ask --help lists the forms; a name with a blank stands in quotes: \
+    receiver \"on call\""
+}
+
+/// Whether a question looks as if its matchers stand without braces.
+fn is_without_braces(question: &str) -> bool {
+    question.contains('=') && !question.contains('{')
 }
 
 /// Where a universe file lacks a value. What one lacks for two configurations together no command

@@ -1,4 +1,4 @@
-//! The sentences of notes that name a label, a value or a file. Each stands here once.
+//! The sentences of notes that name a label, a value or a file, each in one place.
 
 use am_report_texts::push_quoted;
 use std::alloc::{AllocError, Global};
@@ -6,7 +6,7 @@ use std::alloc::{AllocError, Global};
 /// How a person sees what a universe leaves out.
 const CHECK: &str = "see amcover universe --routes --check UNIVERSE --config FILE";
 
-/// A question asks of a label that no label set of the universe has.
+/// A question asks about a label that no label set of the universe has.
 pub(crate) fn undeclared_label(alloc: Global, name: &str) -> Result<String, AllocError> {
     format!(in alloc;
         "the universe does not declare {name}: it counts as missing in every label set"

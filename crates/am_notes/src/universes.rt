@@ -25,7 +25,7 @@ pub(crate) fn add_incomplete(
     Ok(())
 }
 
-/// How a universe stands at each label that routes ask of.
+/// How a universe stands at each label that routes ask about.
 fn states_by_routes(
     alloc: Global,
     space: &Space,
