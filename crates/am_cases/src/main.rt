@@ -1,5 +1,5 @@
-//! `am_cases`: runs the files of cases of the folder that it is started in, and says which cases
-//! are wrong. `docs/TESTING.md` says how such a file is written.
+//! `am_cases`: runs the files of cases in the folder in which it is started, and says which cases
+//! are wrong. `CASES.md` says how such a file is written.
 #![tactic(auto)]
 
 // What tables call, and what command lines run.

@@ -1,4 +1,4 @@
-//! What tables call.
+//! The calls of tables.
 
 use am_case_commands::CommandCall;
 use am_case_files::{Problem, Tally, Writer};
