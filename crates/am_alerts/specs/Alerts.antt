@@ -18,6 +18,10 @@ asked_text asked = unwrap_or asked (codes "any")
 -- The world is accepted, the text is read as the question about its configuration, and what is
 -- written is a line for each alert of the file that the question is true of, in their order: with
 -- its receivers, the silences that hide it, and the rules and alerts that inhibit it.
+-- Source: own choice.
+-- Example: where the file has the one alert `{team="db"}`, nothing hides it, and the top-level
+-- route stands alone and has the receiver `a`, the text is the lines `0 {team="db"} -> "a"` and
+-- `# end`.
 pub record ReportsAlerts (files : Files) (asked : Option (List ℕ)) (text : List ℕ) : Type 0 where
   pub world : World
   pub question : Question

@@ -1,4 +1,4 @@
-//! What becomes of an alert.
+//! The fate of an alert.
 
 ghost use Rattle.std.specs.Prelude.{IfOk};
 ghost use Rattle.am_alerts.specs.Fates.{IsFate};
@@ -8,7 +8,7 @@ use am_eval::{World, ends, inhibited_by, receivers_of, silenced_by};
 use am_universe::LabelSet;
 use std::alloc::{AllocError, Global};
 
-/// What becomes of an alert.
+/// The fate of an alert.
 #[derive(Drop)]
 pub(crate) struct Fate {
     /// The routes that handle it.
@@ -21,7 +21,7 @@ pub(crate) struct Fate {
     pub inhibitors: Vec<(usize, usize)>,
 }
 
-/// Finds what becomes of an alert with these labels. An `Err` only where memory ran out.
+/// Finds the fate of an alert with these labels. Fails only if memory runs out.
 pub(crate) fn fate_of(alloc: Global, world: &World, set: &LabelSet) -> Result<Fate, AllocError>
     ensures fate { IfOk result (IsFate world.now set.now) }
 {

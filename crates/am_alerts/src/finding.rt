@@ -1,4 +1,4 @@
-//! Finding the alerts that a question is true of.
+//! The search for the alerts of which a question is true.
 
 ghost use Rattle.std.specs.Prelude.{◌≡◌, ◌<◌, ◌++◌, [], map, length, IfOk, OnOk, slice_get};
 ghost use Rattle.am_eval.specs.QuestionView.{question_view};
@@ -11,7 +11,7 @@ use am_eval::{Question, World};
 use am_universe::LabelSet;
 use std::alloc::{AllocError, Global};
 
-/// An alert that a question is true of, and what becomes of it.
+/// An alert of which a question is true, and its fate.
 #[derive(Drop)]
 pub(crate) struct Found<'w> {
     /// Its position in the file.
@@ -26,8 +26,8 @@ pub(crate) struct Found<'w> {
     pub inhibitors: Vec<(usize, usize)>,
 }
 
-/// The alerts of a world that a question is true of, in their order. An `Err` only where memory was
-/// refused.
+/// Finds the alerts of a world of which a question is true, in their order. Fails only if memory
+/// runs out.
 pub(crate) fn find_asked<'w>(
     alloc: Global,
     world: &'w World,

@@ -1,4 +1,4 @@
-//! What holds of the lines of alerts, by their definitions alone.
+//! Facts about the definitions alone: each is the contract of a function with an empty body.
 
 ghost use Rattle.std.specs.Prelude.{◌≡◌, ◌↔◌, ℕ, List, Option, Some, map, slice_get, Contains};
 ghost use Rattle.std.specs.Prelude.{IsTrue};
@@ -11,8 +11,8 @@ ghost use Rattle.am_eval.specs.Question.{Question, satisfies};
 ghost use Rattle.am_alerts.specs.AlertLines.{asked_alerts};
 ghost use Rattle.am_alerts.specs.Alerts.{ReportsAlerts};
 
-/// The alerts that lines are written of are exactly those of the file that satisfy the question, in
-/// the order of the file, each once.
+/// The alerts that have a line are exactly those of the file that satisfy the question, in the
+/// order of the file and each once.
 pub fn asked_alerts_are_those_that_satisfy()
     ensures exactly { (w : World) (q : Question) (i : ℕ) (s : LabelMap)
         → (Contains (asked_alerts w q) (i, s)
@@ -21,7 +21,7 @@ pub fn asked_alerts_are_those_that_satisfy()
         → IsStrictlySortedBy nat_cmp (map (λ alert. alert.0) (asked_alerts w q)) }
 {}
 
-/// What `alerts` writes is one text for the same inputs.
+/// The same inputs fix what `alerts` writes.
 pub fn the_lines_of_alerts_are_one_text()
     ensures one { (files : Files) (asked : Option (List ℕ)) (text other : List ℕ)
         → ReportsAlerts files asked text → ReportsAlerts files asked other → text ≡ other }

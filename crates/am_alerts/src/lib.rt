@@ -1,8 +1,8 @@
-//! The alerts of an export that a question is true of: the command `alerts`, as a function over
-//! bytes and a [`Sink`](am_universe::Sink).
+//! The command `alerts`, as a function over bytes and a [`Sink`](am_universe::Sink).
 //!
-//! [`alerts`] writes a line for each of them, with the receivers to which it goes, the silences
-//! that hide it, by their identifiers, and the inhibition rules and firing alerts that inhibit it.
+//! [`alerts`] writes a line for each alert of an export of which a question is true. The line has
+//! the receivers to which the alert goes, the silences that hide it, by their identifiers, and the
+//! inhibition rules and firing alerts that inhibit it.
 #![tactic(auto)]
 
 // What becomes of an alert, and whether a question is true of it.

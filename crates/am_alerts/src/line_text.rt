@@ -1,4 +1,4 @@
-//! The lines of alerts, as they are written.
+//! The lines of alerts.
 #![tactic(auto, using(crate::proofs::ListedSteps::listed_steps))]
 
 ghost use Rattle.std.specs.Prelude.{◌≡◌, ◌++◌, ◌==◌, [], List, ℕ, codes, decimal, slice_get};
@@ -15,8 +15,8 @@ use crate::silence_ids::SilenceIds;
 use am_config::Config;
 use am_universe::{Kind, Sink, put_all, put_str, write_map, write_text};
 
-/// Writes the lines of alerts, and what closes them. The only `Err` is `Kind::Write`, after a part
-/// of that from its front. No memory is taken.
+/// Writes the lines of alerts, and then `# end`. Fails only with `Kind::Write`; then the sink has
+/// taken a proper prefix of that. Takes no memory.
 pub(crate) fn write_lines<W: Sink>(
     config: &Config,
     ids: &SilenceIds,
@@ -65,7 +65,7 @@ fn write_receivers<W: Sink>(config: &Config, receivers: &[usize], out: &mut W) -
     Ok(())
 }
 
-/// Writes what silences are called, if there are any.
+/// Writes the names of silences, if there are any.
 fn write_silencers<W: Sink>(ids: &SilenceIds, silencers: &[usize], out: &mut W) -> Result<(), Kind>
     ensures { Writes W.taken W.failures out.old out.new
         (listed (codes " silenced ") (silence_text ids.now) silencers.now) result }
@@ -89,8 +89,8 @@ fn write_inhibitors<W: Sink>(inhibitors: &[(usize, usize)], out: &mut W) -> Resu
     Ok(())
 }
 
-/// Writes what stands in front of the thing at a position of a list: this text in front of the
-/// first, and a comma in front of each other.
+/// Writes the separator before the item at a position of a list: `front` before the first, and a
+/// comma before each other one.
 fn write_gap<W: Sink>(front: &str, i: usize, out: &mut W) -> Result<(), Kind>
     ensures { Writes W.taken W.failures out.old out.new
         (if i == 0 then front.now else codes ",") result }
@@ -98,7 +98,7 @@ fn write_gap<W: Sink>(front: &str, i: usize, out: &mut W) -> Result<(), Kind>
     put_str(out, if i == 0 { front } else { "," })
 }
 
-/// The name of the receiver at a position, and the empty text where none is declared there.
+/// The name of the receiver at a position, or the empty text if none is declared there.
 fn receiver_name(config: &Config, receiver: usize) -> &str
     ensures { result.now ≡ unwrap_or (slice_get (config_view config.now).receivers receiver) [] }
 {
@@ -109,7 +109,7 @@ fn receiver_name(config: &Config, receiver: usize) -> &str
     }
 }
 
-/// Writes what the silence at a position is called.
+/// Writes the identifier of the silence at a position, or the position if it has none.
 fn write_silence<W: Sink>(ids: &SilenceIds, silence: usize, out: &mut W) -> Result<(), Kind>
     ensures { Writes W.taken W.failures out.old out.new (silence_text ids.now silence) result }
 {

@@ -16,25 +16,31 @@ use am_questions::parse_question;
 use am_universe::{Fault, Place, Sink, answer_of_write};
 use std::alloc::Global;
 
-/// Writes the alerts of an export that a question is true of, in their order, and then `# end`: for
-/// each its position, its labels, the receivers to which it goes, the silences that hide it, and
-/// the inhibition rules and firing alerts that inhibit it. A silence is told by its identifier, as
-/// the file has it, or else by its position. Without a question all alerts are written.
+/// Writes the alerts of an export of which a question is true, in the order of the file, and then
+/// `# end`. Without a question it writes all alerts.
 ///
-/// `files` has the configuration file, the file of silences, the file of alerts and the instant
-/// that is asked about, as far as there are such. All input is read and all answers are found
+/// Each line has the position of the alert in the file, from 0, its labels, the receivers to which
+/// it goes, the silences that hide it, and the inhibition rules and firing alerts that inhibit it.
+/// A silence is named by its `id` if the file has one, and else by its position. Rules and firing
+/// alerts are named by their positions. `files` has the configuration, the silences, the firing
+/// alerts and the instant, each of which is optional. All input is read and all results are found
 /// before the first byte is written.
 ///
-/// The first fault is the one answered: those of the files and the instant, as `explain` has them;
-/// of the question, as `parse_question` has it, at `Question` and with no pointer; `Write`.
-/// `Memory` comes wherever memory ran out. After any but `Write` the sink is as it was.
+/// Fails with the first of these faults:
+///
+/// - at `Config`, `Silences`, `Alerts` or `Instant`, those of `read_world`;
+/// - at `Question`, with no pointer, those of `parse_question`;
+/// - `Write`.
+///
+/// `Memory` may come at any point. After any fault but `Write` the sink is unchanged; after `Write`
+/// it has taken a prefix of the lines.
 pub fn alerts<W: Sink>(
     alloc: Global,
     files: &Files<'_>,
     question: Option<&str>,
     out: &mut W,
 ) -> Result<(), Fault>
-    // What is written is exactly the alerts that the question is true of, each with exactly its
+    // Exactly the alerts of which the question is true are written, each with exactly its
     // receivers, its silences, and the rules and alerts that inhibit it.
     ensures kept { IsKept (alerts_promise files.now (option_copied question.entry))
         W.taken W.failures out.old out.new result }
@@ -51,8 +57,8 @@ pub fn alerts<W: Sink>(
     answer_of_write(alloc, written)
 }
 
-/// The question that a text asks about a configuration, as `parse_question` reads it, and `any`
-/// where there is no text. Its faults stand at `Question`.
+/// Reads the question that a text asks about a configuration, as `parse_question` does. Without a
+/// text it is `any`. Its faults are at `Question`.
 fn read_question(alloc: Global, asked: Option<&str>, config: &Config) -> Result<Question, Fault>
     ensures reads { IfOk result (λ question. ReadsQuestion (config_view config.now)
         (asked_text (option_copied asked.entry)) (question_view question)) }
@@ -66,7 +72,7 @@ fn read_question(alloc: Global, asked: Option<&str>, config: &Config) -> Result<
     }
 }
 
-/// The text of a question.
+/// The text of the question.
 fn asked_text<'a>(asked: Option<&'a str>) -> &'a str
     ensures { result.now ≡ asked_text (option_copied asked.entry) }
 {

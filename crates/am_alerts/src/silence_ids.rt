@@ -1,4 +1,4 @@
-//! The identifiers of silences, as their file has them.
+//! The identifiers of the silences of a file.
 
 ghost use Rattle.std.specs.Prelude.{◌≡◌, IfOk, option_copied, option_map};
 ghost use Rattle.serde_json.specs.View.{view};
@@ -29,8 +29,8 @@ impl Model for SilenceIds {
 }
 
 impl SilenceIds {
-    /// The identifiers that the bytes of a file give; without a file there are none, nor where the
-    /// bytes have no JSON value. An `Err` only where memory was refused.
+    /// Reads the identifiers from the bytes of a file. There are none without a file, or if the
+    /// bytes are not JSON. Fails only if memory runs out.
     pub(crate) fn read(alloc: Global, file: Option<&[u8]>) -> Result<SilenceIds, AllocError>
         ensures ids { IfOk result (λ ids. ids ≡ ids_of_file (option_copied file.entry)) }
     {
@@ -81,7 +81,7 @@ fn id_at(value: &Value, position: usize) -> Option<&str>
     }
 }
 
-/// The text of the field `id`, if that is a text.
+/// The text of the field `id`, if that field is a text.
 fn id_of(item: &Value) -> Option<&str>
     ensures { option_map (λ id. id.now) result ≡ id_of (view item.now) }
 {

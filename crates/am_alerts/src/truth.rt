@@ -14,8 +14,8 @@ use am_eval::{Property, Question, Reach, World};
 use am_universe::LabelSet;
 use std::alloc::{AllocError, Global};
 
-/// Whether a question is true of an alert with these labels, of which this becomes in the world. An
-/// `Err` only where memory was refused.
+/// Whether a question is true of an alert with these labels and this fate. Fails only if memory
+/// runs out.
 pub(crate) fn satisfies(
     alloc: Global,
     world: &World,
@@ -46,7 +46,7 @@ pub(crate) fn satisfies(
     }
 }
 
-/// Whether an alert of which this becomes has a property.
+/// Whether an alert with this fate has a property.
 fn has_property(fate: &Fate, property: Property) -> bool
     ensures { (w : World) (s : LabelMap) → IsFate w s fate.now
         → result ≡ has_property w property s }

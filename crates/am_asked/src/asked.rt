@@ -20,9 +20,9 @@ use am_labels::Matchers;
 use am_list_files::Silences;
 use std::alloc::{AllocError, Global};
 
-/// The labels that the routes of a configuration ask of, then those that questions ask of, and then
-/// those that impossible lists ask of, in the order in which they are first asked of, each with all
-/// of these matchers on it, equal ones once. An `Err` only where memory was refused.
+/// Gathers the labels that routes ask about, then those that questions ask about, and then those
+/// that impossible lists ask about. They are in the order in which they are first asked about. Each
+/// has all of these matchers on it, equal ones once. Fails only if memory runs out.
 pub fn asked_by_routes<'m>(
     alloc: Global,
     config: &'m Config,
@@ -45,10 +45,10 @@ pub fn asked_by_routes<'m>(
     Ok(gathering.into_labels())
 }
 
-/// The labels that the routes of an old configuration ask of, then those that the routes of a new
-/// one ask of, and then those that impossible lists ask of, in the order in which they are first
-/// asked of, each with all of these matchers on it, equal ones once. An `Err` only where memory was
-/// refused.
+/// Gathers the labels that the routes of an old configuration ask about, then those that the routes
+/// of a new one ask about, and then those that impossible lists ask about. They are in the order in
+/// which they are first asked about. Each has all of these matchers on it, equal ones once. Fails
+/// only if memory runs out.
 pub fn asked_by_both<'m>(
     alloc: Global,
     old: &'m Config,
@@ -71,11 +71,12 @@ pub fn asked_by_both<'m>(
     Ok(gathering.into_labels())
 }
 
-/// The labels that matchers of a world ask of: those of its routes, of its rules, of `equal`, which
-/// are handed in, and of its silences, whatever the instant; then those that questions ask of; and
-/// then those that impossible lists ask of. Each has all of these matchers on it, equal ones once,
-/// and they are in the order in which they are first asked of. An `Err` only where memory was
-/// refused.
+/// Gathers the labels that the matchers of a world ask about, then those that questions ask about,
+/// and then those that impossible lists ask about. The matchers of a world are those of its routes,
+/// of its rules, of `equal`, which must be those of
+/// [`equal_matchers_of`](crate::equal_matchers_of), and of its silences at whatever instant. The
+/// labels are in the order in which they are first asked about. Each has all of these matchers on
+/// it, equal ones once. Fails only if memory runs out.
 pub fn asked_in_world<'m>(
     alloc: Global,
     world: &'m World,

@@ -1,4 +1,4 @@
-//! What `equal` of inhibition rules asks, as matchers.
+//! The matchers for which `equal` of inhibition rules stands.
 
 // The module of words stands on this type, so its own words come from where they stand.
 ghost use Rattle.std.specs.Prelude.{◌≡◌, ◌≢◌, ◌++◌, ◌∷◌, [], Contains, IfOk, OnOk};
@@ -14,7 +14,7 @@ use am_labels::{Matcher, Op};
 use std::alloc::{AllocError, Global};
 use std::marker::Model;
 
-/// A matcher that `equal` of an inhibition rule stands for: that a label has the value that it has
+/// A matcher for which `equal` of an inhibition rule stands: that a label has the value that it has
 /// in a firing alert.
 #[derive(Drop)]
 pub struct EqualMatcher {
@@ -33,7 +33,7 @@ impl Model for EqualMatcher {
 }
 
 impl EqualMatcher {
-    /// The rule that it is of.
+    /// The rule.
     pub(crate) fn origin(&self) -> Origin
         ensures { result ≡ self.now.0 }
     {
@@ -48,9 +48,9 @@ impl EqualMatcher {
     }
 }
 
-/// What `equal` of the rules of a world asks, as matchers: for each rule, each firing alert that
-/// its source side matches, and each name in `equal` that is not the empty text, that the label has
-/// the value that it has in that alert. An `Err` only where memory was refused.
+/// Returns the matchers for which `equal` of the rules of a world stands. There is one for each
+/// rule, each firing alert that its source side matches, and each name in `equal` that is not
+/// empty: that the label has the value that it has in the alert. Fails only if memory runs out.
 pub fn equal_matchers_of(alloc: Global, world: &World) -> Result<Vec<EqualMatcher>, AllocError>
     ensures matchers { IfOk result (λ made. made.items ≡ placed_in_equal world.now) }
 {

@@ -1,4 +1,4 @@
-//! Going over matchers, each with the place where it stands.
+//! Visiting matchers, each with its origin.
 
 ghost use Rattle.std.specs.Prelude.{◌≡◌, fold, OnOk};
 ghost use Rattle.am_labels.specs.Matcher.{Condition};
@@ -13,12 +13,12 @@ use am_config::{Config, Rule};
 use am_labels::{Matcher, Matchers};
 use std::alloc::{AllocError, Global};
 
-/// What looks at matchers one after another.
+/// Takes matchers one after another.
 pub trait Visitor<'m> {
-    /// What a matcher makes of it, which stands somewhere.
+    /// The visitor after a matcher with this origin.
     ghost after: { Self → Origin × Condition → Self };
 
-    /// Looks at a matcher. An `Err` only where memory was refused.
+    /// Takes a matcher with this origin. Fails only if memory runs out.
     fn visit(&mut self, origin: &Origin, matcher: &'m Matcher) -> Result<(), AllocError>
         ensures visit { OnOk result (self.new ≡ after self.old (origin.now, matcher.now)) };
 }
@@ -31,8 +31,8 @@ impl<'m> Visitor<'m> for Gathering<'m> {
     }
 }
 
-/// Goes over the matchers of a list, which all stand at one place. An `Err` only where memory was
-/// refused.
+/// Visits the matchers of a list in their order, all with the same origin. Fails only if memory
+/// runs out.
 pub fn visit_matchers<'m, V: Visitor<'m>>(
     visitor: &mut V,
     origin: &Origin,
@@ -47,7 +47,8 @@ pub fn visit_matchers<'m, V: Visitor<'m>>(
     Ok(())
 }
 
-/// Goes over the matchers of all routes of a configuration. An `Err` only where memory was refused.
+/// Visits the matchers of all routes of a configuration, in preorder. Fails only if memory runs
+/// out.
 pub fn visit_routes<'m, V: Visitor<'m>>(
     alloc: Global,
     visitor: &mut V,
@@ -64,8 +65,8 @@ pub fn visit_routes<'m, V: Visitor<'m>>(
     Ok(())
 }
 
-/// Goes over the matchers of both sides of inhibition rules. An `Err` only where memory was
-/// refused.
+/// Visits the matchers of inhibition rules, for each rule those of the source side first. Fails
+/// only if memory runs out.
 pub fn visit_rules<'m, V: Visitor<'m>>(visitor: &mut V, rules: &'m [Rule]) -> Result<(), AllocError>
     ensures visit { OnOk result (visitor.new
         ≡ fold V.after visitor.old (placed_in_rules rules.now)) }
@@ -77,7 +78,7 @@ pub fn visit_rules<'m, V: Visitor<'m>>(visitor: &mut V, rules: &'m [Rule]) -> Re
     Ok(())
 }
 
-/// Goes over the matchers of impossible lists. An `Err` only where memory was refused.
+/// Visits the matchers of impossible lists, list by list. Fails only if memory runs out.
 pub fn visit_lists<'m, V: Visitor<'m>>(
     visitor: &mut V,
     lists: &'m [Matchers],

@@ -1,5 +1,4 @@
-//! Reports over worlds that no one typed: whether `dead` and `receivers` tell of them what holds,
-//! line by line.
+//! Reports over generated worlds: whether what `dead` and `receivers` say is so, line by line.
 
 use crate::reports::{Report, write_report};
 use am_case_files::{Problem, read_number, split_at_first, utf8};
@@ -51,8 +50,9 @@ impl Counts {
 
 // ---- Small worlds, over which whole choices are looked at one by one.
 
-/// What the reports of the worlds of some seeds tell. The text is the first seed, a blank, and how
-/// many there are; and ` impossible` behind it, where some label sets are to be impossible.
+/// Checks the reports of the generated worlds of some seeds, and returns what they say. The text is
+/// the first seed, a blank, and the number of seeds. ` impossible` after it makes some label sets
+/// impossible.
 pub fn of_reports(alloc: Global, text: &[u8]) -> Result<Vec<u8>, Problem> {
     let (text, has_impossible) = split_impossible(text);
     let (seed, count) = read_seeds(alloc, text)?;
@@ -165,8 +165,8 @@ struct Handled {
     ends: Vec<Path>,
 }
 
-/// What the reports of a large world tell. The text is a seed, how many labels there are, and how
-/// many values each has, with blanks between.
+/// Checks the reports of a large generated world, and returns what they say. The text is a seed,
+/// the number of labels, and the number of values of each, separated by blanks.
 pub fn of_large(alloc: Global, text: &[u8]) -> Result<Vec<u8>, Problem> {
     let Some((seed, sizes)) = split_at_first(text, b" ") else {
         return Err(Problem::about(alloc, "a seed, labels and values are wanted", text));

@@ -1,5 +1,5 @@
 //! Fates: where an alert ends, and what silences and inhibits it. Whatever labels an alert has,
-//! some label set of the universe that is made of a world's files has the same fate there.
+//! some label set of the universe that is made for a world's files has the same fate.
 
 use crate::universes::{Universes, form, write_universes};
 use am_case_files::{Problem, split_at_first};
@@ -20,7 +20,8 @@ const NAMES: [&str; 6] = ["l0", "l1", "l2", "l3", "x", "y"];
 /// Every second value is one of these.
 const VALUES: [&str; 4] = ["v0", "v1", "v2", ""];
 
-/// How many worlds were looked at, those of a seed and of the ones after it.
+/// Checks the fates of alerts in the generated worlds of some seeds, and returns the number of
+/// worlds. The text is the first seed, a blank, and the number of seeds.
 pub fn of_fates(alloc: Global, text: &[u8]) -> Result<Vec<u8>, Problem> {
     let (seed, count) = read_seeds(alloc, text)?;
     for i in 0..count {

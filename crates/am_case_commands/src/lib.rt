@@ -1,10 +1,9 @@
-//! What cases call of the commands: answers and their pages, reports, explanations, alerts,
+//! The calls of cases to the commands: answers and their pages, reports, explanations, alerts and
 //! universes.
 //!
 //! [`CommandCall`] is a call that a table names, and what it gives is a text. Some calls look at
-//! worlds that no one typed: whether the reports tell of them what holds, whether the universes
-//! that are made stand for every alert, and whether the outcomes that are found are those of all
-//! choices.
+//! generated worlds. They check that what the reports say is so, that the universes that are made
+//! stand for every alert, and that the outcomes that are found are those of all choices.
 #![tactic(auto)]
 
 // What the commands write.

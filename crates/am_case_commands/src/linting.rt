@@ -1,4 +1,4 @@
-//! What is wrong with a configuration, with its silences and with what its matchers name.
+//! The command `lint` over the files of a case.
 
 use am_case_files::{Problem, split_at_last, utf8};
 use am_case_runner::Over;
@@ -10,16 +10,16 @@ use std::alloc::Global;
 /// What a table of `lint` asks for.
 #[derive(Clone, Copy)]
 pub struct Linting {
-    /// Which file its texts are.
+    /// Which file the texts of the table are.
     pub text: Linted,
-    /// Alerts of printable ASCII count alone.
+    /// Whether only alerts whose values are printable ASCII count.
     pub ascii: bool,
 }
 
 /// Which file a text is.
 #[derive(Clone, Copy)]
 pub enum Linted {
-    /// The configuration; or the universe, where the line names a configuration.
+    /// The configuration, or the universe if the line names a configuration.
     Config,
     /// The silences.
     Silences,
@@ -27,9 +27,9 @@ pub enum Linted {
     Alerts,
 }
 
-/// Writes what is wrong with a configuration. The text is one of the files, and behind it stands an
-/// instant, if one is given; the others are those of the line. There is no universe file where the
-/// line names none.
+/// Writes what is wrong with a configuration. The text is one of the files, and may end with ` at `
+/// and an instant. The line names the other files. Without a universe in the line there is no
+/// universe file.
 pub fn write_lint<W: Sink>(
     alloc: Global,
     asked: Linting,

@@ -1,4 +1,4 @@
-//! Outcomes: what is found of worlds that no one typed, beside all of their choices one by one.
+//! Outcomes of generated worlds, compared with those of all choices one by one.
 
 use am_case_files::Problem;
 use am_case_runner::Over;
@@ -13,7 +13,8 @@ use am_outcomes::{changes_text, find_outcomes, outcomes_text};
 use am_universe::Out;
 use std::alloc::{AllocError, Global};
 
-/// How many worlds were looked at, those of a seed and of the ones after it.
+/// Checks the outcomes of the generated worlds of some seeds, and returns the number of worlds. The
+/// text is the first seed, a blank, and the number of seeds.
 pub fn of_outcomes(alloc: Global, text: &[u8]) -> Result<Vec<u8>, Problem> {
     let (seed, count) = read_seeds(alloc, text)?;
     for i in 0..count {

@@ -1,5 +1,5 @@
-//! Pages of answers: what `ask` writes, and whether the pages that follow one another come to the
-//! one page without a limit and without a budget.
+//! Pages of answers: what `ask` writes, and whether pages in a row have the lines of the one page
+//! without a limit and without a budget.
 
 use am_case_files::{Problem, Tally, split_at_last, utf8};
 use am_case_runner::Over;
@@ -55,9 +55,9 @@ struct Part {
     stopped: bool,
 }
 
-/// Asks for the answers of a line page by page: with each limit up to one more than there are, with
-/// each budget up to the first that is enough for all, and with the least budget and each of the
-/// first limits together. Each of these is a case of the line.
+/// Asks for the answers of a line page by page: with each limit up to one more than there are
+/// answers, with each budget up to the first that is enough for all, and with the least budget and
+/// each of the first limits together. Each of these counts as a case of the line.
 pub fn count_pages(
     alloc: Global,
     over: Over<'_>,

@@ -1,5 +1,5 @@
-//! Reports: what becomes of each route, or of each receiver; to which receivers alerts go, and what
-//! changes there from one configuration to another.
+//! Reports: which label sets reach each route or receiver; to which receivers alerts go, and what
+//! changes from one configuration to another.
 
 use am_case_runner::Over;
 use am_commands::{dead, receivers};
@@ -7,20 +7,21 @@ use am_reports::{CompareInputs, ReportInputs, compare, outcomes};
 use am_universe::{Fault, Sink};
 use std::alloc::Global;
 
-/// What a report tells of.
+/// A report.
 #[derive(Clone, Copy)]
 pub enum Report {
     Routes,
     Receivers,
-    /// To which receivers alerts go, all of them or those of printable ASCII alone.
+    /// To which receivers alerts go: all alerts, or those of printable ASCII.
     Outcomes { ascii: bool },
-    /// What changes there from the configuration that the line names.
+    /// What changes from the configuration that the line names: for all alerts, or those of
+    /// printable ASCII.
     Compare { ascii: bool },
 }
 
-/// Writes a report. The text is a configuration file, or a universe file where the line names a
-/// configuration; of `compare` it is the new configuration file, and the line names the old one. A
-/// report on every alert has no universe file where the line names none.
+/// Writes a report. The text is a configuration file, or a universe file if the line names a
+/// configuration. For `compare` it is the new configuration file, and the line names the old one. A
+/// report on every alert has no universe file if the line names none.
 pub fn write_report<W: Sink>(
     alloc: Global,
     report: Report,

@@ -1,4 +1,4 @@
-//! Universes that stand for every alert: those that are made, and what others lack, as a text.
+//! Universes that stand for every alert: those that are made, and what others lack.
 
 use am_case_files::Problem;
 use am_case_runner::Over;
@@ -9,16 +9,16 @@ use am_universe::{Fault, Out, Sink};
 use am_universe_command::{UniverseForm, UniverseInputs, check_universe, universe};
 use std::alloc::Global;
 
-/// What a table asks of universes.
+/// What a table asks about universes.
 #[derive(Clone, Copy)]
 pub enum Universes {
-    /// The one that is made of the files, in this form.
+    /// The universe that is made for the files, in this form.
     Made(UniverseForm),
-    /// What one lacks for the files, as one of this form.
+    /// What a universe lacks for the files, checked for this form.
     Checked(UniverseForm),
 }
 
-/// The form of a universe for the matchers of routes alone, or for all.
+/// Returns the form of a universe for the matchers of routes alone, or for all.
 pub fn form(routes: bool) -> UniverseForm {
     UniverseForm {
         routes,
@@ -27,7 +27,7 @@ pub fn form(routes: bool) -> UniverseForm {
     }
 }
 
-/// That form, over ASCII alone.
+/// Returns the same form over ASCII.
 pub fn ascii(form: UniverseForm) -> UniverseForm {
     UniverseForm {
         alphabet: Alphabet::Ascii,
@@ -35,13 +35,13 @@ pub fn ascii(form: UniverseForm) -> UniverseForm {
     }
 }
 
-/// That form, also where a label is unproved.
+/// Returns the same form, open for unproved labels.
 pub fn open(form: UniverseForm) -> UniverseForm {
     UniverseForm { open: true, ..form }
 }
 
-/// Writes what is asked. The text is a configuration file, or the universe that is checked, where
-/// the line names a configuration.
+/// Writes what is asked. The text is a configuration file, or the universe that is checked if the
+/// line names a configuration.
 pub fn write_universes<W: Sink>(
     alloc: Global,
     asked: Universes,
@@ -75,8 +75,8 @@ pub fn write_universes<W: Sink>(
     }
 }
 
-/// What is written, its lines with a blank between. A universe that was made has to
-/// lack nothing for the same files, unless it may be open.
+/// Returns what is asked, with blanks between its lines. Fails if a universe that was made lacks
+/// something for the same files, unless it may be open.
 pub fn of_universes(
     alloc: Global,
     asked: Universes,

@@ -6,25 +6,26 @@ use std::alloc::{AllocError, Global};
 /// What stands in a token of a case, in the place of `2:`, the digits and `:`.
 const OWN: &[u8] = b"2:H:";
 
-/// A text with these digits for each `H` of a token.
+/// Returns a text with these digits in place of `H` in each token. Fails only if memory runs out.
 pub fn with_digits(alloc: Global, text: &[u8], digits: &str) -> Result<Vec<u8>, AllocError> {
     let digits = format!(in alloc; "2:{digits}:")?;
     replaced(alloc, text, OWN, digits.as_bytes())
 }
 
-/// A text with `H` for these digits of a token.
+/// Returns a text with `H` in place of these digits in each token. Fails only if memory runs out.
 pub fn without_digits(alloc: Global, text: &[u8], digits: &str) -> Result<Vec<u8>, AllocError> {
     let digits = format!(in alloc; "2:{digits}:")?;
     replaced(alloc, text, digits.as_bytes(), OWN)
 }
 
-/// A token of the old form, which has no digits, for one that has these.
+/// Returns a token in the old form, which has no digits, from one with these digits. Fails only if
+/// memory runs out.
 pub fn old_token(alloc: Global, token: &[u8], digits: &str) -> Result<Vec<u8>, AllocError> {
     let digits = format!(in alloc; "2:{digits}:")?;
     replaced(alloc, token, digits.as_bytes(), b"1:")
 }
 
-/// Whether `H` stands in a token of the text.
+/// Whether a text has a token with `H`.
 pub fn has_own_token(text: &[u8]) -> bool {
     split_at_first(text, OWN).is_some()
 }

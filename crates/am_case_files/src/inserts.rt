@@ -1,4 +1,4 @@
-//! Texts that one does not type: `«..»` stands for a named text, for copies, for bytes.
+//! Inserts: `«..»` stands for a named text, for copies of a text, or for bytes.
 
 use crate::lines::{number, split_at_first, split_at_last};
 use crate::problem::Problem;
@@ -11,14 +11,14 @@ const CLOSING: &[u8] = b"\xc2\xbb"; // »
 /// The most inserts of one text.
 const MOST: usize = 10_000;
 
-/// A text with a name: what an insert stands for, or a file.
+/// A text with a name: that of an insert, or of a file.
 #[derive(Drop)]
 pub struct Named {
     pub name: Vec<u8>,
     pub text: Vec<u8>,
 }
 
-/// The text that has the name; the last, where several have it.
+/// Returns the text with this name, or the last of several.
 pub fn text_named<'n>(texts: &'n [Named], name: &[u8]) -> Option<&'n [u8]> {
     for one in texts.iter().rev() {
         if one.name.as_slice() == name {
@@ -28,7 +28,8 @@ pub fn text_named<'n>(texts: &'n [Named], name: &[u8]) -> Option<&'n [u8]> {
     None
 }
 
-/// The text with what its inserts stand for, the innermost and the leftmost first.
+/// Returns a text with each insert replaced by what it stands for, the innermost and the leftmost
+/// first. Fails if an insert is wrong, or if there are too many.
 pub fn filled(alloc: Global, texts: &[Named], raw: &[u8]) -> Result<Vec<u8>, Problem> {
     let mut text = Vec::from_slice(alloc, raw)?;
     for _ in 0..MOST {

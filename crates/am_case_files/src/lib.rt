@@ -1,11 +1,11 @@
-//! What a file of cases is made of, and what its cases came to.
+//! The parts of a file of cases, and the outcome of its cases.
 //!
-//! [`items`] cuts a file into what begins at the left and the indented lines below it; [`filled`]
-//! puts what is named or copied in the place of its inserts; [`words`] cuts a command line as a
-//! shell does; and [`with_digits`] puts the digits of a fingerprint in the place of `H` in tokens.
-//! A [`Writer`] stops where it is told to. A [`Tally`] counts the cases of a file, and says of each
-//! wrong one which [`Problem`] it has. Nothing here calls `amcover`, so it is proved beside the
-//! crates that cases call.
+//! [`items`] cuts a file into lines that begin at the left and the indented lines below each.
+//! [`filled`] replaces inserts by what they name or copy. [`words`] cuts a command line as a shell
+//! does. [`with_digits`] replaces `H` in tokens by the digits of a fingerprint. A [`Writer`] stops
+//! where it is told to. A [`Tally`] counts the cases of a file, and says of each wrong one which
+//! [`Problem`] it has. Nothing here calls `amcover`, so it is proved beside the crates that cases
+//! call.
 #![tactic(auto)]
 
 // The text of a file.

@@ -1,4 +1,4 @@
-//! The lines of a file of cases: what begins at the left, and the indented lines below it.
+//! The lines of a file of cases: those that begin at the left, and the indented lines below each.
 
 use crate::problem::Problem;
 use std::alloc::Global;
@@ -10,14 +10,16 @@ pub struct Line<'a> {
     pub text: &'a [u8],
 }
 
-/// A line that begins at the left, and the indented lines below it, without their two blanks.
+/// A line that begins at the left, and the indented lines below it, without the two blanks before
+/// each.
 #[derive(Drop)]
 pub struct Item<'a> {
     pub head: Line<'a>,
     pub body: Vec<Line<'a>>,
 }
 
-/// The items of a file, without its comments and blank lines.
+/// Returns the items of a file, without its comments and blank lines. Fails if an indented line
+/// comes first.
 pub fn items(alloc: Global, file: &[u8]) -> Result<Vec<Item<'_>>, Problem> {
     let mut items = Vec::new(alloc);
     for (index, text) in file.split(|byte| *byte == b'\n').enumerate() {
@@ -44,7 +46,7 @@ fn add<'a>(alloc: Global, items: &mut Vec<Item<'a>>, line: Line<'a>) -> Result<(
     Ok(())
 }
 
-/// What stands before the last `mark` of a text, and behind it.
+/// Returns what is before the last `mark` in a text, and what is after it.
 pub fn split_at_last<'a>(text: &'a [u8], mark: &[u8]) -> Option<(&'a [u8], &'a [u8])> {
     for at in (0..text.len()).rev() {
         if let Some(behind) = text[at..].strip_prefix(mark) {
@@ -54,7 +56,7 @@ pub fn split_at_last<'a>(text: &'a [u8], mark: &[u8]) -> Option<(&'a [u8], &'a [
     None
 }
 
-/// What stands before the first `mark` of a text, and behind it.
+/// Returns what is before the first `mark` in a text, and what is after it.
 pub fn split_at_first<'a>(text: &'a [u8], mark: &[u8]) -> Option<(&'a [u8], &'a [u8])> {
     for at in 0..text.len() {
         if let Some(behind) = text[at..].strip_prefix(mark) {
@@ -64,7 +66,7 @@ pub fn split_at_first<'a>(text: &'a [u8], mark: &[u8]) -> Option<(&'a [u8], &'a 
     None
 }
 
-/// What has this name, of some values with their names.
+/// Returns the first of the values that has this name.
 pub fn value_named<T: Copy>(values: &[(&str, T)], name: &[u8]) -> Option<T> {
     for (known, value) in values {
         if known.as_bytes() == name {
@@ -74,18 +76,18 @@ pub fn value_named<T: Copy>(values: &[(&str, T)], name: &[u8]) -> Option<T> {
     None
 }
 
-/// The number that a text is in decimal.
+/// Returns the number that a text is, in decimal.
 pub fn number(text: &[u8]) -> Option<usize> {
     std::str::from_utf8(text).ok()?.parse::<usize>().ok()
 }
 
-/// The number that a text has to be; the words say that it is none.
+/// Reads a number in decimal. If it is none, the problem has these words.
 pub fn read_number(alloc: Global, text: &[u8], words: &str) -> Result<u64, Problem> {
     let number = utf8(alloc, text)?.parse::<u64>();
     number.map_err(|_| Problem::about(alloc, words, text))
 }
 
-/// A text that has to be UTF-8.
+/// Reads a text, which must be UTF-8.
 pub fn utf8(alloc: Global, text: &[u8]) -> Result<&str, Problem> {
     std::str::from_utf8(text).map_err(|_| Problem::about(alloc, "this has to be UTF-8", text))
 }

@@ -1,10 +1,10 @@
-//! Why a case is not right, or a file of cases not one.
+//! Why a case is wrong, or a file is no file of cases.
 
 use std::alloc::{AllocError, AllocFailed, Global};
 use std::io;
 use std::io::ErrorKind;
 
-/// Why a case is not right.
+/// Why a case is wrong.
 #[derive(Drop)]
 pub enum Problem {
     /// Memory ran out.
@@ -14,7 +14,7 @@ pub enum Problem {
 }
 
 impl Problem {
-    /// Words, or that memory ran out for them.
+    /// The problem with these words, or that memory ran out for them.
     pub fn of_words(words: Result<String, AllocError>) -> Problem {
         match words {
             Ok(words) => Problem::Said(words),
@@ -22,12 +22,12 @@ impl Problem {
         }
     }
 
-    /// These words.
+    /// The problem with these words.
     pub fn said(alloc: Global, words: &str) -> Problem {
         Problem::of_words(String::from_str(alloc, words))
     }
 
-    /// These words, unless the error is that memory ran out.
+    /// The problem with these words, or that memory ran out, if the error says so.
     pub fn of(alloc: Global, error: &io::Error, words: &str) -> Problem {
         if error.kind() == ErrorKind::OutOfMemory {
             return Problem::Memory;
@@ -35,12 +35,12 @@ impl Problem {
         Problem::said(alloc, words)
     }
 
-    /// These words, and the text that they are about.
+    /// The problem with these words, and the text that they are about.
     pub fn about(alloc: Global, words: &str, text: &[u8]) -> Problem {
         Problem::of_words(about(alloc, words, text))
     }
 
-    /// What was expected of a part, and what was found.
+    /// The problem that something else was found in a part than was expected.
     pub fn differs(alloc: Global, part: &str, expected: &[u8], found: &[u8]) -> Problem {
         Problem::of_words(differs(alloc, part, expected, found))
     }

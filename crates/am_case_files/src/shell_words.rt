@@ -54,7 +54,7 @@ impl Cutting {
     }
 }
 
-/// The words of a command line, with what their inserts stand for.
+/// Cuts a command line into words, with each insert replaced by what it stands for.
 pub fn words(alloc: Global, texts: &[Named], line: &[u8]) -> Result<Vec<String>, Problem> {
     let mut cutting = Cutting {
         words: Vec::new(alloc),

@@ -1,22 +1,23 @@
-//! What the cases of a file came to.
+//! The outcome of the cases of a file.
 
 use crate::problem::Problem;
 use std::alloc::{AllocError, Global};
 
-/// How many cases there were, and a line for each that was not right.
+/// The number of cases of a file, and a line for each wrong one.
 #[derive(Drop)]
 pub struct Tally {
     name: String,
-    /// The one line that is asked for; all of them where there is none.
+    /// The one line that is asked for, or `None` for all of them.
     only: Option<usize>,
     pub cases: usize,
     pub wrong: usize,
-    /// How many had no outcome because memory ran out.
+    /// How many cases had no outcome because memory ran out.
     pub starved: usize,
     pub report: String,
 }
 
 impl Tally {
+    /// Makes a tally without cases for the file of this name.
     pub fn new(alloc: Global, name: &str, only: Option<usize>) -> Result<Tally, AllocError> {
         Ok(Tally {
             name: String::from_str(alloc, name)?,
@@ -36,7 +37,7 @@ impl Tally {
         }
     }
 
-    /// What is wrong where there was no case.
+    /// Says what is wrong if there was no case.
     pub fn emptiness(&self) -> &'static str {
         match self.only {
             Some(_) => "no case begins at this line",
@@ -44,7 +45,7 @@ impl Tally {
         }
     }
 
-    /// Counts a case, and says what is wrong with it.
+    /// Counts a case, if it is asked for, and reports what is wrong with it.
     pub fn count(&mut self, number: usize, outcome: Result<(), Problem>) -> Result<(), AllocError> {
         if !self.is_asked_for(number) {
             return Ok(());
@@ -57,8 +58,8 @@ impl Tally {
         }
     }
 
-    /// Counts a line that is no right one. Memory that ran out there ends the file: what follows
-    /// would be read otherwise.
+    /// Counts a line that is wrong itself. If memory ran out there, it fails, since the lines that
+    /// follow would be read otherwise.
     pub fn note(&mut self, number: usize, problem: Problem) -> Result<(), Problem> {
         match problem {
             Problem::Memory => Err(Problem::Memory),
@@ -77,7 +78,7 @@ impl Tally {
         write!(self.report, "{name}:{number}: {words}\n")
     }
 
-    /// Counts a file that is none, or whose cases came to no end.
+    /// Counts a file that cannot be read as one of cases, or whose cases were not all run.
     pub fn fail(&mut self, problem: Problem) -> Result<(), AllocError> {
         match problem {
             Problem::Memory => self.count_starved(),
@@ -89,13 +90,13 @@ impl Tally {
         }
     }
 
-    /// Counts as wrong what was right, and as right what was wrong: in a file of mistakes each case
-    /// has to be wrong.
+    /// Counts right cases as wrong, and wrong ones as right: in a file of mistakes each case must
+    /// be wrong.
     pub fn turn(&mut self) {
         self.wrong = self.cases.saturating_sub(self.wrong);
     }
 
-    /// Ends the report with what the file came to.
+    /// Ends the report with a line that counts the cases.
     pub fn end_with(&mut self, count: usize, what: &str) -> Result<(), AllocError> {
         let name = self.name.as_str();
         let wrong = self.wrong;

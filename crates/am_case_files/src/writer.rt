@@ -4,7 +4,7 @@ use std::alloc::Global;
 use std::io;
 use std::io::{ErrorKind, Write};
 
-/// What a writer does at a call at which it stops.
+/// What a writer does in the call in which it stops.
 #[derive(Clone, Copy, Debug)]
 pub enum Stop {
     Fails,
@@ -14,17 +14,17 @@ pub enum Stop {
 /// How a writer behaves.
 #[derive(Clone, Copy)]
 pub struct Manner {
-    /// The most bytes that a call takes.
+    /// The most bytes that one call takes.
     pub step: usize,
-    /// The bytes that it takes until each call fails.
+    /// How many bytes it takes before every call fails.
     pub room: usize,
     pub flush_fails: bool,
-    /// The call, counted from 1, at which it stops, and how.
+    /// The call, counted from 1, in which it stops, and how.
     pub stop: Option<(usize, Stop)>,
 }
 
 impl Manner {
-    /// It takes everything.
+    /// A writer that takes everything.
     pub const WHOLE: Manner = Manner {
         step: usize::MAX,
         room: usize::MAX,
@@ -32,12 +32,12 @@ impl Manner {
         stop: None,
     };
 
-    /// The same, but a call takes at most so many bytes.
+    /// The same manner, but one call takes at most this many bytes.
     pub fn in_steps(self, step: usize) -> Manner {
         Manner { step, ..self }
     }
 
-    /// The same, but it stops at this call.
+    /// The same manner, but the writer stops in this call.
     pub fn stopped(self, call: usize, how: Stop) -> Manner {
         Manner {
             stop: Some((call, how)),
@@ -51,7 +51,7 @@ impl Manner {
 pub struct Writer {
     pub taken: Vec<u8>,
     pub calls: usize,
-    /// Whether memory ran out for what it was to keep.
+    /// Whether memory ran out for the bytes to keep.
     pub starved: bool,
     manner: Manner,
 }
@@ -66,7 +66,7 @@ impl Writer {
         }
     }
 
-    /// Whether it took a part of the text from its front, but not all of it.
+    /// Whether it has taken a proper prefix of a text.
     pub fn has_part_of(&self, text: &[u8]) -> bool {
         self.taken.len() < text.len() && text.starts_with(self.taken.as_slice())
     }

@@ -1,4 +1,4 @@
-//! Two judges of one question, compared.
+//! The comparison of two judges of one question.
 
 ghost use Rattle.std.specs.Prelude.{◌≡◌};
 ghost use Rattle.am_universe.specs.Universe.{sizes};
@@ -18,20 +18,21 @@ const MOST_PREFIXES: usize = 1_000;
 /// More choices than there are then.
 const MOST_CHOICES: usize = 1_000;
 
-/// What two judges that are alike came to.
+/// What the comparison of two judges counted.
 #[derive(Clone, Copy)]
 pub struct Alike {
     /// How many starts there are.
     pub starts: usize,
-    /// How many choices are given from all of them.
+    /// How many choices are given from all of them together.
     pub items: usize,
-    /// How many choices are true, and how many there are.
+    /// How many choices are true.
     pub answers: usize,
+    /// How many choices there are.
     pub choices: usize,
 }
 
-/// Compares what is given over two judges of a universe, one choice after the other, from every
-/// start: at each prefix, and after each whole choice.
+/// Compares what two judges of a universe give, choice by choice, from every start: at each prefix,
+/// and after each whole choice. Fails if they differ, or if there are too many prefixes.
 pub fn compare<J: Judge, K: Judge>(
     alloc: Global,
     universe: &Universe,
@@ -120,7 +121,7 @@ fn next_of<J: Judge>(answers: &mut Answers<'_, J>) -> Option<Choice> {
     answers.next()
 }
 
-/// What a judge says of a prefix.
+/// Returns what a judge says of a prefix.
 pub fn verdict_at<J: Judge>(
     alloc: Global,
     universe: &Universe,
@@ -135,8 +136,8 @@ pub fn verdict_at<J: Judge>(
     Ok(judge.judge(prefix))
 }
 
-/// What the completions of a prefix come to by a judge, one by one; `None` where they are too many
-/// to count.
+/// Returns the verdict of a prefix by what a judge says of each of its completions, or `None` if
+/// there are too many to count.
 pub fn counted_verdict<J: Judge>(
     alloc: Global,
     universe: &Universe,
@@ -158,7 +159,7 @@ pub fn counted_verdict<J: Judge>(
     Ok(Some(verdict_of_count(matched, count)))
 }
 
-/// Whether a verdict is the one that is wanted; the words say of what it is.
+/// Checks that a verdict is the wanted one. The words say what it is about.
 pub fn check_verdict(
     alloc: Global,
     words: &str,

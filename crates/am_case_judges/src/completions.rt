@@ -1,4 +1,4 @@
-//! The completions of a prefix, one after the other.
+//! The completions of a prefix, one by one.
 
 use am_search::Verdict;
 use am_universe::limits::MAX_POSITIONS;
@@ -7,7 +7,7 @@ use am_universe::{Choice, Position, Universe};
 /// The most completions that are counted.
 const MOST_COUNTED: usize = 100_000;
 
-/// How many completions a prefix has, unless there are more than are counted.
+/// Returns the number of completions of a prefix, or `None` if there are too many to count.
 pub fn count_completions(universe: &Universe, prefix: &Choice) -> Option<usize> {
     let mut count = 1_usize;
     for i in prefix.len()..universe.len() {
@@ -19,7 +19,8 @@ pub fn count_completions(universe: &Universe, prefix: &Choice) -> Option<usize> 
     Some(count)
 }
 
-/// The completion of a prefix that has this number: each number below their count has another.
+/// Returns the completion of a prefix with this number. Different numbers below the number of
+/// completions give different ones.
 pub fn completion(universe: &Universe, prefix: &Choice, number: usize) -> Choice {
     let mut choice = *prefix;
     let mut rest = number;
@@ -33,7 +34,7 @@ pub fn completion(universe: &Universe, prefix: &Choice, number: usize) -> Choice
     choice
 }
 
-/// The verdict where so many of all completions are true.
+/// Returns the verdict of a prefix of whose `count` completions `matched` are true.
 pub fn verdict_of_count(matched: usize, count: usize) -> Verdict {
     if matched == count {
         Verdict::Yes

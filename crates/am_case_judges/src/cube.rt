@@ -1,4 +1,5 @@
-//! Cubes: what a list of matchers is known to be at a prefix, and counted over its completions.
+//! The verdicts of cubes: those of a list of matchers at a prefix, and those that its completions
+//! give.
 
 use crate::alike::check_verdict;
 use crate::completions::{completion, count_completions, verdict_of_count};
@@ -10,8 +11,9 @@ use am_search::Verdict;
 use am_universe::{Choice, Universe, set_of};
 use std::alloc::Global;
 
-/// The verdict of a list's cube at the prefix of these positions. It has to be what the completions
-/// come to, one by one; of more than are counted it is said that they are not.
+/// Returns the verdict of a list's cube at the prefix with these positions. Fails if the
+/// completions, counted one by one, give another verdict. If there are too many to count, the text
+/// says so.
 pub fn cube_text(
     alloc: Global,
     universe: &Universe,
@@ -29,7 +31,7 @@ pub fn cube_text(
     Ok(Vec::from_slice(alloc, word.as_bytes())?)
 }
 
-/// The word of a verdict.
+/// Returns the word for a verdict.
 pub fn verdict_text(verdict: Verdict) -> &'static str {
     match verdict {
         Verdict::Yes => "yes",

@@ -1,4 +1,5 @@
-//! A judge as a text: `yes`, `no` and `open`, and behind each the prefixes of which it says so.
+//! A judge as a text: `yes`, `no` and `open`, and after each the prefixes of which the judge says
+//! so.
 
 use crate::positions::prefix_of;
 use crate::written::Written;
@@ -14,7 +15,7 @@ struct Said {
     verdict: Verdict,
 }
 
-/// The judge that a text says. It has to say of each prefix in the text what is written there.
+/// Reads a judge from a text. Fails if the judge does not say of each prefix what the text says.
 pub fn judge_of<'u>(
     alloc: Global,
     universe: &'u Universe,

@@ -1,14 +1,14 @@
-//! What is judged in cases: judges that are written there, and what a search gives and judges over
-//! them; cubes, whose verdicts are counted; and a plain judge, beside which the plan is held.
+//! What is judged in cases: judges that are written in a case, and what a search gives and judges
+//! over them; cubes, whose verdicts are counted; and a plain judge, with which plans are compared.
 //!
-//! [`Written`] is a judge that says at some prefixes `Yes` or `No`, and keeps which prefixes it was
+//! [`Written`] is a judge that says `Yes` or `No` at some prefixes, and keeps which prefixes it was
 //! asked about. [`search_text`] reads such a judge and a start, searches from there on, and says
-//! which choices were given and which prefixes were judged for it. For every start at once it
-//! compares that with the rule by which a search goes, applied to the list of all prefixes.
-//! [`cube_text`] says what the cube of a list of matchers is known to be at a prefix, and counts it
-//! over the completions. [`compare`] searches over two judges from every start there is, which has
-//! to give the same. [`Whole`] judges whole choices alone, by the truths of matchers on values: no
-//! text is looked at, and no memory is taken.
+//! which choices were given and which prefixes were judged for them. For all starts at once it
+//! compares that with the rule of the search, applied to the list of all prefixes. [`cube_text`]
+//! says the verdict of the cube of a list of matchers at a prefix, and counts it over the
+//! completions. [`compare`] searches over two judges from every start, which must give the same.
+//! [`Whole`] judges whole choices alone, by the truths of matchers on values: it looks at no text,
+//! and takes no memory.
 #![tactic(auto)]
 
 // The positions of choices and prefixes, as a text.

@@ -1,4 +1,4 @@
-//! The positions of choices and prefixes, as a text.
+//! The texts of the positions of choices and prefixes.
 
 ghost use Rattle.std.specs.Prelude.{IfOk, IsTrue};
 ghost use Rattle.am_universe.specs.Universe.{sizes};
@@ -9,7 +9,7 @@ use am_search::{Start, parse_token};
 use am_universe::{Choice, Universe};
 use std::alloc::{AllocError, Global};
 
-/// The prefix of a universe that has these positions, with a `.` between.
+/// Reads the prefix of a universe with these positions, separated by `.`.
 pub fn prefix_of(alloc: Global, universe: &Universe, positions: &str) -> Result<Choice, Problem>
     ensures { IfOk result (λ prefix. IsTrue (admits (sizes universe.now) prefix)) }
 {
@@ -24,7 +24,7 @@ pub fn prefix_of(alloc: Global, universe: &Universe, positions: &str) -> Result<
     }
 }
 
-/// Adds the positions of a choice, with a `.` between.
+/// Adds the positions of a choice, separated by `.`.
 pub fn add_positions(choice: &Choice, text: &mut String) -> Result<(), AllocError> {
     for i in 0..choice.len() {
         if i > 0 {
@@ -36,7 +36,7 @@ pub fn add_positions(choice: &Choice, text: &mut String) -> Result<(), AllocErro
     Ok(())
 }
 
-/// Adds the positions of each of some choices, behind a blank.
+/// Adds the positions of each of some choices, after a blank each.
 pub fn add_each(choices: &[Choice], text: &mut String) -> Result<(), AllocError> {
     for choice in choices {
         text.push(' ')?;
@@ -45,14 +45,14 @@ pub fn add_each(choices: &[Choice], text: &mut String) -> Result<(), AllocError>
     Ok(())
 }
 
-/// `given:`, and the positions of each of some choices behind a blank.
+/// Returns `given:`, and the positions of each of some choices after a blank.
 pub fn given_text(alloc: Global, choices: &[Choice]) -> Result<String, AllocError> {
     let mut text = String::from_str(alloc, "given:")?;
     add_each(choices, &mut text)?;
     Ok(text)
 }
 
-/// Where a search begins: at a prefix, or after a whole choice.
+/// Returns the text of a start: at a prefix, or after a whole choice.
 pub fn start_text(alloc: Global, prefix: &Choice, is_after: bool) -> Result<String, AllocError> {
     let mut text = String::from_str(alloc, if is_after { "after " } else { "at " })?;
     add_positions(prefix, &mut text)?;

@@ -1,4 +1,4 @@
-//! All prefixes of a universe's choices, and the starts that they are.
+//! All prefixes of a universe's choices, and the starts at or after them.
 
 ghost use Rattle.std.specs.Prelude.{IfSome};
 ghost use Rattle.am_universe.specs.Universe.{sizes};
@@ -9,7 +9,7 @@ use am_search::Start;
 use am_universe::{Choice, Universe};
 use std::alloc::Global;
 
-/// The prefixes of a universe's choices, in the order of a dictionary. It is wrong where there are
+/// Returns the prefixes of a universe's choices, in the order of a dictionary. Fails if there are
 /// `most` or more.
 pub fn prefixes_of(
     alloc: Global,
@@ -46,7 +46,8 @@ fn prefix_after(universe: &Universe, prefix: Choice) -> Option<Choice> {
     None
 }
 
-/// The start at a prefix, or after a whole choice, if there is one over a universe.
+/// Returns the start at a prefix, or after a whole choice, or `None` if a universe has no such
+/// start.
 pub fn start_of(universe: &Universe, prefix: Choice, is_after: bool) -> Option<Start>
     ensures { IfSome result (IsStart (sizes universe.now)) }
 {

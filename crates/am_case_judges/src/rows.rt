@@ -29,8 +29,7 @@ impl Model for KeptRow {
 }
 
 impl KeptRow {
-    /// A copy of a row of a matcher over the labels of a universe. An `Err` only where memory was
-    /// refused.
+    /// A copy of a row of a matcher over the labels of a universe. Fails only if memory runs out.
     fn of(alloc: Global, universe: &Universe, row: &Row) -> Result<KeptRow, AllocError>
         requires { IsRow universe.now row.now }
         ensures same { IfOk result (λ kept. kept ≡ row.now) }
@@ -59,8 +58,8 @@ impl KeptRow {
     }
 }
 
-/// The rows of a list of matchers. A whole choice has to satisfy each of them; of a prefix that is
-/// not whole they say nothing.
+/// The rows of a list of matchers. A whole choice matches the list if every row holds. Of a prefix
+/// that is not whole they say nothing.
 #[derive(Drop)]
 pub struct Rows {
     rows: Vec<KeptRow>,

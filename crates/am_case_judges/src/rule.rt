@@ -1,6 +1,6 @@
-//! The rule by which a search goes, applied to the list of all prefixes.
+//! The rule of the search, applied to the list of all prefixes.
 //!
-//! In the order of a dictionary a prefix stands before what begins with it. In this order, and from
+//! In the order of a dictionary a prefix comes before what begins with it. In this order, and from
 //! a start on, those prefixes are judged whose proper prefixes are all `Open`, and with which a
 //! choice from the start on begins. The true choices from the start on are given.
 
@@ -14,7 +14,7 @@ use std::alloc::{AllocError, Global};
 /// The most prefixes of which all starts are tried.
 const MOST_PLACES: usize = 200;
 
-/// A prefix, where all of a universe stand in the order of a dictionary.
+/// A prefix, and its place among all prefixes of a universe in the order of a dictionary.
 #[derive(Clone, Copy)]
 pub struct Place {
     pub prefix: Choice,
@@ -22,11 +22,11 @@ pub struct Place {
     verdict: Verdict,
     /// Whether all its proper prefixes are `Open`.
     is_reached: bool,
-    /// Where the last choice stands that begins with it.
+    /// The place of the last choice that begins with it.
     last: usize,
 }
 
-/// All prefixes, in the order of a dictionary.
+/// Returns all prefixes, in the order of a dictionary.
 pub fn places_of(alloc: Global, judge: &Written<'_>) -> Result<Vec<Place>, Problem> {
     let prefixes = prefixes_of(alloc, judge.universe(), MOST_PLACES)?;
     let mut places = Vec::with_capacity(alloc, prefixes.len())?;
@@ -62,7 +62,7 @@ fn last_below(prefixes: &[Choice], prefix: &Choice) -> usize {
     last
 }
 
-/// The true choices that stand at a place or behind it.
+/// Returns the true choices at a place or after it.
 pub fn true_from(alloc: Global, places: &[Place], from: usize) -> Result<Vec<Choice>, AllocError> {
     let mut choices = Vec::new(alloc);
     for (i, place) in places.iter().enumerate() {
@@ -73,7 +73,7 @@ pub fn true_from(alloc: Global, places: &[Place], from: usize) -> Result<Vec<Cho
     Ok(choices)
 }
 
-/// The prefixes that are judged for the choices at a place or behind it.
+/// Returns the prefixes that are judged for the choices at a place or after it.
 pub fn judged_from(
     alloc: Global,
     places: &[Place],

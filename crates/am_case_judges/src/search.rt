@@ -1,4 +1,4 @@
-//! What a search gives from a start on, and which prefixes it judges for that, as a text.
+//! What a search gives from a start on, and which prefixes it judges for that.
 
 ghost use Rattle.am_search.specs.Start.{IsStart};
 ghost use Rattle.am_case_judges.specs.WrittenView.{written_sizes};
@@ -15,11 +15,11 @@ use std::alloc::Global;
 /// The most answers that a case may have.
 const MOST_ANSWERS: usize = 1_000;
 
-/// What a search gives and judges. The text is a judge and where the search begins: ` at ` and a
-/// prefix, or ` after ` and a whole choice; or ` first`, for the first answer alone. Behind a start
-/// may stand ` steps ` and a budget. Where ` counted` stands at the end, it is said how many
-/// prefixes are judged, and not which. Behind a judge with ` from every start` each start is
-/// compared with the rule, and how many there are is said.
+/// Returns what a search gives and judges. The text is a judge and a start: ` at ` and a prefix, or
+/// ` after ` and a whole choice. After the start may come ` steps ` and a budget. ` first` in place
+/// of a start asks for the first answer alone. With ` counted` at the end, the number of judged
+/// prefixes is returned in place of the prefixes. After a judge, ` from every start` compares each
+/// start with the rule, and the number of starts is returned.
 pub fn search_text(alloc: Global, universe: &Universe, text: &[u8]) -> Result<Vec<u8>, Problem> {
     if let Some(judge) = text.strip_suffix(b" from every start") {
         let judge = judge_of(alloc, universe, utf8(alloc, judge)?)?;

@@ -1,4 +1,4 @@
-//! The judge that looks at whole choices.
+//! The judge of whole choices.
 
 ghost use Rattle.std.specs.Prelude.{◌≡◌, ◌<◌, ℕ, List, length, IfOk};
 ghost use Rattle.am_universe.specs.Universe.{sizes};
@@ -18,8 +18,8 @@ use am_universe::{Choice, Universe};
 use std::alloc::{AllocError, Global};
 
 /// A judge that is `Open` until a choice is whole, and then says whether its label set satisfies a
-/// question. It looks at rows alone: at the truth of each matcher on each value of its label.
-/// Judging takes no memory.
+/// question. It looks only at rows: the truth of each matcher on each value of its label. Judging
+/// takes no memory.
 #[derive(Drop)]
 pub struct Whole<'a> {
     universe: &'a Universe,
@@ -31,8 +31,8 @@ impl<'a> Whole<'a> {
     ghost use Rattle.am_search.specs.declared.verdict.Verdict.TheVariants as verdicts;
     ghost use Rattle.am_case_judges.specs.WholeView.{whole_sizes, whole_truth, whole_verdict};
 
-    /// The judge of a question about a world, over the choices of a universe. An `Err` only where
-    /// memory was refused.
+    /// Makes the judge of a question about a world, over the choices of a universe. Fails only if
+    /// memory runs out.
     pub fn new(
         alloc: Global,
         universe: &'a Universe,

@@ -18,9 +18,9 @@ use std::cell::{Cell, RefCell};
 /// The most prefixes that a judge keeps.
 const MOST_JUDGED: usize = 1_000;
 
-/// A judge of the choices of a universe that says `Yes` at some prefixes and all that begin with
-/// them, and `No` at others, where none of the first begins with them. Elsewhere it is `Open`, and
-/// `No` at whole choices.
+/// A judge of the choices of a universe, written in a case. It says `Yes` at some prefixes and all
+/// that begin with them. It says `No` at others and all that begin with them, unless a prefix with
+/// `Yes` is below. Elsewhere it is `Open`, and `No` at whole choices.
 #[derive(Drop)]
 pub struct Written<'u> {
     universe: &'u Universe,
@@ -37,7 +37,7 @@ pub struct Written<'u> {
 impl<'u> Written<'u> {
     ghost use Rattle.am_case_judges.specs.WrittenView.{written_sizes, written_verdict};
 
-    /// A judge that says `Yes` and `No` at these prefixes.
+    /// Makes the judge that says `Yes` and `No` at these prefixes. Fails only if memory runs out.
     pub fn new(
         alloc: Global,
         universe: &'u Universe,
@@ -57,7 +57,7 @@ impl<'u> Written<'u> {
         })
     }
 
-    /// What it says of a prefix. The prefix is not kept.
+    /// Returns what the judge says of a prefix, without keeping the prefix.
     pub fn says(&self, prefix: &Choice) -> Verdict
         ensures { result ≡ written_verdict self.now prefix.now }
     {
@@ -77,14 +77,15 @@ impl<'u> Written<'u> {
         begins_with_one(&self.no, prefix) && !one_begins_with(&self.yes, prefix)
     }
 
-    /// The start at a prefix, or after a whole choice, if there is one over its universe.
+    /// Returns the start at a prefix, or after a whole choice, or `None` if its universe has no
+    /// such start.
     pub fn start(&self, prefix: Choice, is_after: bool) -> Option<Start>
         ensures { IfSome result (IsStart (written_sizes self.now)) }
     {
         start_of(self.universe, prefix, is_after)
     }
 
-    /// The universe of its choices.
+    /// Returns the universe of its choices.
     pub fn universe(&self) -> &Universe {
         self.universe
     }
@@ -99,7 +100,8 @@ impl<'u> Written<'u> {
         self.lost.set(true);
     }
 
-    /// The prefixes that it was asked about since this was last called, in order.
+    /// Takes the prefixes that it was asked about since the last call, in order. Fails if there
+    /// were more than it keeps.
     pub fn take_judged(&self, alloc: Global) -> Result<Vec<Choice>, Problem> {
         match self.judged.try_borrow_mut() {
             Ok(mut judged) if !self.lost.get() => {

@@ -1,11 +1,11 @@
-//! Exports of alerts: what the reader gives at a text, as a text.
+//! Exports of alerts, as they are read.
 
 use am_case_files::Problem;
 use am_case_texts::{fault_behind, set_behind, told};
 use am_list_files::{Alerts, read_alerts};
 use std::alloc::Global;
 
-/// The alerts of an export, or its fault.
+/// Returns the alerts of an export, or its fault.
 pub fn of_alerts(alloc: Global, text: &[u8], brief: bool) -> Result<Vec<u8>, Problem> {
     match read_alerts(alloc, text) {
         Ok(_) if brief => told(alloc, "ok"),

@@ -1,5 +1,4 @@
-//! Classes of texts that a label's matchers cannot tell apart: which matchers are true of each, as
-//! a text.
+//! Classes of texts that a label's matchers cannot tell apart.
 
 use am_case_files::Problem;
 use am_case_texts::{Refusal, add_copy, told};
@@ -18,10 +17,11 @@ const SEED: u64 = 1;
 /// More classes than these are counted alone.
 const MOST_TOLD: usize = 32;
 
-/// For each class of texts over an alphabet that a list of matchers cannot tell apart, whatever
-/// their names are, which of them are true of it; or that this cannot be computed, or that there
-/// are too many. No two of the texts that stand for the classes may be alike, and each of many
-/// texts has to be alike to one of them. Over Unicode there is each class that there is over ASCII.
+/// Returns for each class of texts over an alphabet that a list of matchers cannot tell apart which
+/// of the matchers are true of it. The names of the matchers are ignored. Returns `unproved` if the
+/// classes cannot be computed, and `many` if there are too many. Fails if two texts that stand for
+/// classes are alike, if one of many generated texts is alike to none, or if a class over ASCII is
+/// missing over Unicode.
 pub fn of_classes(alloc: Global, alphabet: Alphabet, text: &str) -> Result<Vec<u8>, Refusal> {
     let list = parse_matchers(alloc, text)?;
     let mut matchers = Vec::new(alloc);

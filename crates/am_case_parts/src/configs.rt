@@ -1,4 +1,4 @@
-//! Configurations: what the reader gives at a text, and where a label set ends there, as a text.
+//! Configurations, as they are read, and where label sets end in them.
 
 use crate::matchers::write_matchers;
 use am_case_files::Problem;
@@ -9,7 +9,7 @@ use am_labels::parse_set;
 use am_universe::{Kind, Out, put_str, write_text};
 use std::alloc::Global;
 
-/// A configuration, or its fault.
+/// Returns a configuration, or its fault.
 pub fn of_config(alloc: Global, text: &[u8], brief: bool) -> Result<Vec<u8>, Problem> {
     match read_config(alloc, text) {
         Ok(_) if brief => told(alloc, "ok"),
@@ -77,7 +77,7 @@ fn write_rule(rule: &Rule, out: &mut Out<Vec<u8>>) -> Result<(), Kind> {
     Ok(())
 }
 
-/// The ends of a label set, and the receivers of them.
+/// Returns the ends of a label set, and their receivers.
 pub fn of_ends(alloc: Global, config: &[u8], text: &str) -> Result<Vec<u8>, Refusal> {
     let config = read_config(alloc, config)?;
     let set = parse_set(alloc, text)?;

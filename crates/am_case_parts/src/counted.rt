@@ -1,4 +1,4 @@
-//! What a search over the plan of a question comes to, with each call of the plan counted.
+//! The plan of a question, with its calls counted.
 
 ghost use Rattle.std.specs.Prelude.{◌≡◌};
 ghost use Rattle.am_plans.specs.PlanWords.{plan_sizes, plan_truth, plan_verdict, plan_is_judge};
@@ -16,7 +16,7 @@ pub struct CountedPlan<'a, 'p> {
 }
 
 impl<'a, 'p> CountedPlan<'a, 'p> {
-    /// A plan that was not asked yet.
+    /// Makes a counted plan that was not asked yet.
     pub fn of(plan: &'a Plan<'p>) -> CountedPlan<'a, 'p>
         ensures plan { result.plan.now ≡ plan.now }
     {
@@ -26,7 +26,7 @@ impl<'a, 'p> CountedPlan<'a, 'p> {
         }
     }
 
-    /// How often it was asked.
+    /// Returns how often it was asked.
     pub fn asked(&self) -> u64 {
         self.asked.get()
     }

@@ -1,11 +1,11 @@
-//! Faults: the line that is written for one, as a text.
+//! The lines of faults.
 
 use am_case_files::{Problem, split_at_first, utf8, value_named};
 use am_case_texts::line_of;
 use am_universe::{Fault, Kind, Place, status};
 use std::alloc::Global;
 
-/// The line that is written for a fault, and its exit status.
+/// Returns the line of a fault, and its exit status.
 pub fn of_fault(alloc: Global, text: &[u8]) -> Result<Vec<u8>, Problem> {
     let (kind, place, pointer) = fault_parts(alloc, text)?;
     let fault = Fault::within(kind, place, String::from_str(alloc, pointer)?);

@@ -1,4 +1,4 @@
-//! Judges: what the plan of a question says, beside the judge that looks at whole choices.
+//! What the plan of a question says, compared with the judge of whole choices.
 
 ghost use Rattle.am_plans.specs.PlanWords.{plan_sizes};
 ghost use Rattle.am_search.specs.Start.{IsStart};
@@ -39,7 +39,7 @@ fn inputs_of(
     Ok(read_inputs(alloc, over.universe, &files_of(over, at), question, &ALL)?)
 }
 
-/// What the plan of a question says of a prefix, or the fault.
+/// Returns what the plan of a question says of a prefix, or the fault.
 pub fn of_judge(alloc: Global, over: Over<'_>, text: &[u8]) -> Result<Vec<u8>, Refusal> {
     let Some((asked, positions)) = split_at_last(text, b" on ") else {
         return Err(Problem::said(alloc, "a question, ` on ` and positions are wanted").into());
@@ -115,17 +115,17 @@ fn check_absent(alloc: Global, inputs: &AcceptedInputs, prefix: &Choice) -> Resu
     check_verdict(alloc, "`enters` of no route", Verdict::No, found)
 }
 
-/// The positions of the first choice of which a question is true, or the fault.
+/// Returns the positions of the first choice of which a question is true, or the fault.
 pub fn of_first(alloc: Global, over: Over<'_>, text: &[u8]) -> Result<Vec<u8>, Refusal> {
     let (question, at) = text_and_instant(alloc, text)?;
     let inputs = inputs_of(alloc, over, question, at)?;
     Ok(first_text(alloc, first_choice(alloc, &inputs, question)?)?)
 }
 
-/// How many choices a search over the plan of a question gives, how often the plan is asked for it,
-/// and where the search stops, if it does; or the fault. The text is a page, as of `ask`, or a
-/// question and ` first`, for the first answer alone. Behind a page without ` steps ` may stand
-/// ` within ` and a budget, also one that is too small for a page.
+/// Returns how many choices a search over the plan of a question gives, how often it asks the plan,
+/// and where it stops, if it does; or the fault. The text is a page as for `ask`, or a question and
+/// ` first`, for the first answer alone. After a page without ` steps ` may come ` within ` and a
+/// budget, which may be too small for a page.
 pub fn of_count(alloc: Global, over: Over<'_>, text: &[u8]) -> Result<Vec<u8>, Refusal> {
     let (text, is_first) = match text.strip_suffix(b" first") {
         Some(text) => (text, true),
@@ -209,8 +209,8 @@ fn count_text(alloc: Global, given: usize, asked: u64, state: State) -> Result<V
     }
 }
 
-/// How many starts there are, and how many choices are given from them, where the plan of a
-/// question and the judge that looks at whole choices give the same; or the fault.
+/// Returns how many starts there are, and how many choices are given from them, or the fault. Fails
+/// if the plan of the question and the judge of whole choices differ.
 pub fn of_alike(alloc: Global, over: Over<'_>, text: &[u8]) -> Result<Vec<u8>, Refusal> {
     let (question, at) = text_and_instant(alloc, text)?;
     let inputs = inputs_of(alloc, over, question, at)?;
@@ -237,8 +237,9 @@ struct Sum {
     items: usize,
 }
 
-/// What the worlds of some seeds come to. The text is the first seed, a blank, and how many there
-/// are; and ` impossible` behind it, where some label sets are to be impossible.
+/// Compares the plan with the judge of whole choices over the generated worlds of some seeds, and
+/// returns what they count. The text is the first seed, a blank, and the number of seeds.
+/// ` impossible` after it makes some label sets impossible.
 pub fn of_generated(alloc: Global, text: &[u8]) -> Result<Vec<u8>, Problem> {
     let (text, has_impossible) = split_impossible(text);
     let (seed, count) = read_seeds(alloc, text)?;

@@ -1,4 +1,5 @@
-//! What cases call of the parts of the program: readers, matchers, silences, judges, searches.
+//! The calls of cases to the parts of the program: readers, matchers, silences, judges and
+//! searches.
 //!
 //! [`PartCall`] is a call that a table names, and what it gives is a text. Nothing here runs a
 //! command, so it is proved beside the crates that do.

@@ -1,4 +1,4 @@
-//! Matchers, label sets and rows: what the calls of the libraries give at a text, as a text.
+//! Matchers, label sets and rows, as the libraries read and compute them.
 
 ghost use Rattle.std.specs.Prelude.{◌≡◌, Some, IfSome, length, slice_get};
 ghost use Rattle.am_universe.specs.Universe.{sizes};
@@ -10,6 +10,7 @@ use am_list_files::read_universe;
 use am_universe::{Kind, Out, Universe, put_str, write_text};
 use std::alloc::Global;
 
+/// Returns the list of matchers that a text spells.
 pub fn of_matchers(alloc: Global, text: &str) -> Result<Vec<u8>, Refusal> {
     let list = parse_matchers(alloc, text)?;
     let mut out = Out::new(told(alloc, "ok: ")?);
@@ -35,7 +36,7 @@ fn write_matcher(matcher: &Matcher, out: &mut Out<Vec<u8>>) -> Result<(), Kind> 
     write_text(out, matcher.value())
 }
 
-/// The matcher that is made of a name, an operator and a value, with blanks between.
+/// Returns the matcher of a name, an operator and a value, separated by blanks.
 pub fn of_matcher(alloc: Global, text: &[u8]) -> Result<Vec<u8>, Refusal> {
     if let Some((name, rest)) = split_at_first(text, b" ")
         && let Some((operator, value)) = split_at_first(rest, b" ")
@@ -60,11 +61,13 @@ fn operator_named(text: &[u8]) -> Option<Op> {
     None
 }
 
+/// Returns the label set that a text spells.
 pub fn of_set(alloc: Global, text: &str) -> Result<Vec<u8>, Refusal> {
     let set = parse_set(alloc, text)?;
     Ok(set_behind(alloc, "ok: ", &set)?)
 }
 
+/// Returns `ok` if a text is accepted as a pattern.
 pub fn of_pattern(alloc: Global, text: &str) -> Result<Vec<u8>, Refusal> {
     let name = String::from_str(alloc, "a")?;
     let value = String::from_str(alloc, text)?;
@@ -72,6 +75,7 @@ pub fn of_pattern(alloc: Global, text: &str) -> Result<Vec<u8>, Refusal> {
     Ok(told(alloc, "ok")?)
 }
 
+/// Returns whether a list of matchers matches a label set. The text has ` on ` between them.
 pub fn of_match(alloc: Global, text: &[u8]) -> Result<Vec<u8>, Refusal> {
     let Some((list, set)) = split_at_last(text, b" on ") else {
         return Err(Problem::said(alloc, "a list, ` on ` and a label set are wanted").into());
@@ -85,6 +89,7 @@ fn yes_or_no(truth: bool) -> &'static str {
     if truth { "yes" } else { "no" }
 }
 
+/// Returns the row of one matcher over a universe: its truth on each value of its label.
 pub fn of_row(alloc: Global, over: &[u8], text: &str) -> Result<Vec<u8>, Refusal> {
     let space = read_universe(alloc, over)?;
     let list = parse_matchers(alloc, text)?;

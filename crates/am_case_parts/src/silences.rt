@@ -1,4 +1,4 @@
-//! Silences and instants: what the calls of the libraries give at a text, as a text.
+//! Silences and instants, as they are read.
 
 use crate::matchers::write_matchers;
 use am_case_files::Problem;
@@ -7,7 +7,7 @@ use am_list_files::{Silence, Silences, parse_instant, read_silences};
 use am_universe::{Kind, Out, put_str};
 use std::alloc::Global;
 
-/// The silences of an export, or its fault.
+/// Returns the silences of an export, or its fault.
 pub fn of_silences(alloc: Global, text: &[u8], brief: bool) -> Result<Vec<u8>, Problem> {
     match read_silences(alloc, text) {
         Ok(_) if brief => told(alloc, "ok"),
@@ -43,7 +43,7 @@ fn write_silence(alloc: Global, silence: &Silence, out: &mut Out<Vec<u8>>) -> Re
     write_matchers(silence.matchers(), out)
 }
 
-/// The instant of a text, as one of UTC.
+/// Returns the instant of a text, in UTC.
 pub fn of_instant(alloc: Global, text: &str) -> Result<Vec<u8>, Refusal> {
     let instant = parse_instant(alloc, text)?;
     let text = format!(in alloc; "ok: {instant}")?;

@@ -1,4 +1,4 @@
-//! The search: what it gives of tokens, cubes and judges that are written in a case, as a text.
+//! Tokens, and cubes and judges that are written in a case.
 
 use am_case_files::{Problem, old_token, split_at_last, utf8, with_digits};
 use am_case_judges::{cube_text, search_text};
@@ -11,8 +11,8 @@ use am_search::{Start, parse_token};
 use am_universe::{Fault, Place};
 use std::alloc::Global;
 
-/// The start that a token says, or the fault, where the universe alone is given and `any` is asked.
-/// The start has to have just this token, or this one in the old form.
+/// Returns the start of a token, or the fault, for the question `any` over the universe alone.
+/// Fails if the start has neither this token nor this token in the old form.
 pub fn of_token(alloc: Global, universe: &[u8], token: &str) -> Result<Vec<u8>, Refusal> {
     let none = files_of(Over::universe(universe), None);
     let own = fingerprint(universe, &none, "any");
@@ -33,7 +33,7 @@ pub fn of_token(alloc: Global, universe: &[u8], token: &str) -> Result<Vec<u8>, 
     Ok(positions_behind(alloc, words, &choice)?)
 }
 
-/// What the cube of a list is known to be at a prefix.
+/// Returns the verdict of the cube of a list of matchers at a prefix.
 pub fn of_cube(alloc: Global, universe: &[u8], text: &[u8]) -> Result<Vec<u8>, Refusal> {
     let Some((list, positions)) = split_at_last(text, b" on ") else {
         return Err(Problem::said(alloc, "a list, ` on ` and positions are wanted").into());
@@ -43,7 +43,7 @@ pub fn of_cube(alloc: Global, universe: &[u8], text: &[u8]) -> Result<Vec<u8>, R
     Ok(cube_text(alloc, space.universe(), &list, utf8(alloc, positions)?)?)
 }
 
-/// What a search over a judge that is written here gives and judges.
+/// Returns what a search over a judge that is written in the case gives and judges.
 pub fn of_search(alloc: Global, universe: &[u8], text: &[u8]) -> Result<Vec<u8>, Refusal> {
     let space = read_universe(alloc, universe)?;
     Ok(search_text(alloc, space.universe(), text)?)

@@ -1,4 +1,4 @@
-//! Worlds: what the calls of the libraries give in one, as a text.
+//! What silences and inhibits label sets in a world.
 
 use am_case_files::Problem;
 use am_case_texts::{Refusal, text_and_instant, told};
@@ -7,7 +7,7 @@ use am_labels::parse_set;
 use am_universe::LabelSet;
 use std::alloc::Global;
 
-/// Which silences of an export are active, and which of them hide a label set.
+/// Returns which silences of an export are active, and which of them hide a label set.
 pub fn of_silenced<'a>(alloc: Global, file: &'a [u8], text: &'a [u8]) -> Result<Vec<u8>, Refusal> {
     let (set, at) = text_and_instant(alloc, text)?;
     let files = Files {
@@ -40,7 +40,7 @@ fn silenced_text(alloc: Global, world: &World, set: &LabelSet) -> Result<Vec<u8>
     Ok(text.into_bytes())
 }
 
-/// Which alerts of an export the source sides of a configuration's inhibition rules match.
+/// Returns which alerts of an export the source sides of a configuration's inhibition rules match.
 pub fn of_pairs<'a>(
     alloc: Global,
     config: Option<&'a [u8]>,
@@ -78,7 +78,7 @@ fn before(i: usize) -> &'static str {
     if i > 0 { "; " } else { " " }
 }
 
-/// Which inhibition rules and firing alerts inhibit a label set.
+/// Returns which inhibition rules and firing alerts inhibit a label set.
 pub fn of_inhibited(alloc: Global, files: &Files<'_>, text: &str) -> Result<Vec<u8>, Refusal> {
     let world = read_world(alloc, files)?;
     let set = parse_set(alloc, text)?;

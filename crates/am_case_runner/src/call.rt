@@ -1,13 +1,13 @@
-//! What tables call.
+//! The calls of tables.
 
 use am_case_files::{Problem, Tally, Writer};
 use std::alloc::Global;
 
-/// The files that a call is over. The universe is empty where the line names none.
+/// The files that a call is over. The universe is empty if the line names none.
 #[derive(Clone, Copy)]
 pub struct Over<'a> {
     pub universe: &'a [u8],
-    /// The file that it is with, if there is one: a configuration, or of `silenced` silences.
+    /// The configuration, or the silences for `silenced`, if the line names one.
     pub with: Option<&'a [u8]>,
     /// The silences beside a configuration, if there are any.
     pub silences: Option<&'a [u8]>,
@@ -27,31 +27,31 @@ impl<'a> Over<'a> {
     }
 }
 
-/// How what is written to a writer ended.
+/// How a call that writes ended.
 #[derive(Clone, Copy)]
 pub enum End {
-    /// All of it is there.
+    /// It has written everything.
     Whole,
-    /// A write failed, and that is what was answered.
+    /// It failed because a write failed.
     Stopped,
-    /// Anything else was answered.
+    /// It ended in any other way.
     Refused,
 }
 
-/// A writer after it was written to, and how that ended.
+/// A writer after a call, and how the call ended.
 #[derive(Drop)]
 pub struct Written {
     pub writer: Writer,
     pub end: End,
 }
 
-/// What a table calls.
+/// A call that a table names.
 pub trait Call: Copy {
-    /// The call of a name.
+    /// Returns the call with this name.
     fn named(name: &[u8]) -> Option<Self>;
 
-    /// What it gives at a text. `brief` says that of what is accepted no more is asked than that it
-    /// is.
+    /// Returns what the call gives for a text. If `brief`, it may say of an accepted input no more
+    /// than that it is accepted.
     fn given(
         self,
         alloc: Global,
@@ -60,7 +60,7 @@ pub trait Call: Copy {
         brief: bool,
     ) -> Result<Vec<u8>, Problem>;
 
-    /// What it writes at a text to this writer, if it writes.
+    /// Makes the call for a text over this writer. Fails if the call writes nothing.
     fn written(
         self,
         alloc: Global,
@@ -69,8 +69,8 @@ pub trait Call: Copy {
         writer: Writer,
     ) -> Result<Written, Problem>;
 
-    /// Counts for this line, for each way to ask for its answers page by page, whether the pages
-    /// come to all answers, if it has pages.
+    /// Counts for this line, for each limit and budget, whether the pages have all answers between
+    /// them. Fails if the call has no pages.
     fn count_pages(
         self,
         alloc: Global,
@@ -81,12 +81,12 @@ pub trait Call: Copy {
     ) -> Result<(), Problem>;
 }
 
-/// That a call writes nothing, where a case wants it to.
+/// The problem of a case that wants a call to write which writes nothing.
 pub fn writes_nothing(alloc: Global) -> Problem {
     Problem::said(alloc, "this table writes to no writer")
 }
 
-/// That a call has no pages, where a case wants them.
+/// The problem of a case that wants pages of a call which has none.
 pub fn has_no_pages(alloc: Global) -> Problem {
     Problem::said(alloc, "this table has no pages")
 }

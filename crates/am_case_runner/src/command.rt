@@ -1,4 +1,4 @@
-//! Commands: a command line, and what it must write and answer.
+//! Commands: a command line, and what its run must write and return.
 
 use crate::expected::{Wanted, check_count, check_status, check_stream};
 use am_case_files::{
@@ -6,19 +6,19 @@ use am_case_files::{
 };
 use std::alloc::Global;
 
-/// What is said of standard output, or of standard error.
+/// What a case says of standard output, or of standard error.
 #[derive(Drop)]
 pub struct Stream {
-    /// What is wanted of it, where it is said; else that it is empty.
+    /// What must be written to it. If nothing is said, it must be empty.
     pub wanted: Option<Wanted>,
-    /// How often it is written to, where it is said.
+    /// How many writes it must get, if the case says so.
     pub writes: Option<usize>,
     pub manner: Manner,
-    /// Whether the command is run again for each write, which stops.
+    /// Whether the command is run again for each write, with a writer that stops there.
     pub stops: bool,
 }
 
-/// A command line, and what is said of its run.
+/// A command line, and what a case says of its run.
 #[derive(Drop)]
 pub struct Command {
     pub line: usize,
@@ -26,9 +26,9 @@ pub struct Command {
     pub out: Stream,
     pub err: Stream,
     pub status: Option<u8>,
-    /// The file that standard output is, if it is one.
+    /// The path of the file to which standard output goes, if the case names one.
     pub device: Option<String>,
-    /// The notes behind what else stands on standard error, where that is a terminal.
+    /// The notes that must end standard error, if the command is run as on a terminal.
     pub notes: Option<Vec<u8>>,
 }
 
@@ -40,7 +40,7 @@ pub struct Ran {
     pub err: Writer,
 }
 
-/// The command that an item is, with the output that stands below it.
+/// Reads the command of an item, with the output that is below it.
 pub fn read_command(alloc: Global, texts: &[Named], item: &Item<'_>) -> Result<Command, Problem> {
     let head = item.head.text.strip_prefix(b"$ ").unwrap_or(b"");
     let mut line = Vec::new(alloc);
@@ -81,7 +81,7 @@ fn whole_line(head: &[u8], body: &[Line<'_>], line: &mut Vec<u8>) -> Result<usiz
     Ok(body.len())
 }
 
-/// The lines, each ended by a line feed, with what their inserts stand for.
+/// Returns the lines, each with a line feed, and with each insert replaced by what it stands for.
 pub fn output(alloc: Global, texts: &[Named], lines: &[Line<'_>]) -> Result<Vec<u8>, Problem> {
     let mut raw = Vec::new(alloc);
     for line in lines {
@@ -123,7 +123,7 @@ impl Stream {
 }
 
 impl Command {
-    /// Takes an item that says more of the run; `false` where it does not.
+    /// Takes an item that says more of the run. Returns `false` for any other item.
     pub fn take(
         &mut self,
         alloc: Global,
@@ -203,15 +203,18 @@ impl Command {
         }
     }
 
+    /// Whether the case says anything of the outcome of the run.
     pub fn has_expectation(&self) -> bool {
         let is_said = self.out.wanted.is_some() || self.err.wanted.is_some();
         is_said || self.status.is_some() || self.notes.is_some()
     }
 
+    /// Returns the exit status that the run must have, which is 0 if the case does not say.
     pub fn wanted_status(&self) -> u8 {
         self.status.unwrap_or(0)
     }
 
+    /// Checks what a run has written, its exit status and the numbers of its writes.
     pub fn check_outputs(&self, alloc: Global, ran: &Ran) -> Result<(), Problem> {
         self.check_error(alloc, ran.err.taken.as_slice())?;
         let out = ran.out.taken.as_slice();
@@ -221,7 +224,7 @@ impl Command {
         check_count(alloc, "error writes", self.err.writes, ran.err.calls)
     }
 
-    /// Whether standard error is as it is said to be, with the notes behind all else.
+    /// Checks what a run has written to standard error, with the notes at its end.
     pub fn check_error(&self, alloc: Global, found: &[u8]) -> Result<(), Problem> {
         let notes = self.notes.as_deref().unwrap_or(b"");
         match found.strip_suffix(notes) {

@@ -1,4 +1,4 @@
-//! The run of a command line: whether it is as it is said to be.
+//! The run of a command line, and its check.
 
 use crate::command::{Command, Ran};
 use crate::expected::{Wanted, check_cut, check_status, check_text};
@@ -35,7 +35,7 @@ impl<'s, R: Files + AllocGlobal, P: Program> Stage<'s, R, P> {
         Ok(())
     }
 
-    /// Whether the run is as it is said to be.
+    /// Runs a command, and checks the run against what the case says.
     pub fn check(&self, command: &mut Command) -> Result<(), Problem> {
         let alloc = self.alloc();
         self.put_digits(command)?;

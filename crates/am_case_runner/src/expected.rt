@@ -1,19 +1,20 @@
-//! What a run is expected to give.
+//! Checks of what a run gave against what was expected.
 
 use am_case_files::{Problem, Writer, split_at_first};
 use std::alloc::Global;
 
-/// What is wanted of a stream.
+/// What a stream must have.
 #[derive(Drop)]
 pub enum Wanted {
-    /// Just this.
+    /// Exactly this text.
     Whole(Vec<u8>),
-    /// This somewhere.
+    /// This text somewhere.
     Has(Vec<u8>),
-    /// So many lines.
+    /// This number of lines.
     Lines(usize),
 }
 
+/// Checks that what was found in a stream is as wanted, or empty if nothing is said.
 pub fn check_stream(
     alloc: Global,
     name: &str,
@@ -31,6 +32,7 @@ pub fn check_stream(
     }
 }
 
+/// Checks that the wanted text was found.
 pub fn check_text(alloc: Global, name: &str, wanted: &[u8], found: &[u8]) -> Result<(), Problem> {
     if wanted == found {
         return Ok(());
@@ -45,7 +47,7 @@ fn check_has(alloc: Global, name: &str, wanted: &[u8], found: &[u8]) -> Result<(
     Err(Problem::differs(alloc, name, wanted, found))
 }
 
-/// A writer that stopped at this call has taken a part of the text from its front.
+/// Checks that a writer stopped in this call and has taken a proper prefix of a text.
 pub fn check_cut(
     alloc: Global,
     what: &str,
@@ -59,11 +61,13 @@ pub fn check_cut(
     Err(Problem::differs(alloc, what, text, writer.taken.as_slice()))
 }
 
+/// Checks that the exit status is the wanted one.
 pub fn check_status(alloc: Global, wanted: u8, found: u8) -> Result<(), Problem> {
     let wanted = Some(usize::from(wanted));
     check_count(alloc, "status", wanted, usize::from(found))
 }
 
+/// Checks that a number is the wanted one, if one is wanted.
 pub fn check_count(
     alloc: Global,
     name: &str,

@@ -1,6 +1,6 @@
-//! Runs files of cases, whatever it is that they call.
+//! Runs files of cases, whatever they call.
 //!
-//! [`run_cases`] runs the files of the folder that the program is started in, or those that its
+//! [`run_cases`] runs the files of the folder in which the program is started, or those that its
 //! arguments name, and says which cases are wrong. A case is a line of a table, which names a
 //! [`Call`], or a command line of a [`Program`]. Nothing here knows what these do, so it is proved
 //! beside the crates that cases call.

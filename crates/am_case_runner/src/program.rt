@@ -1,4 +1,4 @@
-//! What is run by a command line.
+//! The program whose command lines are cases.
 
 use crate::call::Call;
 use am_case_files::Problem;
@@ -7,11 +7,11 @@ use std::rt::Files;
 
 /// A program whose command lines are cases.
 pub trait Program {
-    /// What tables beside them call.
+    /// The calls that tables beside the command lines name.
     type Call: Call;
 
-    /// Runs the program, with its name as the first word, and answers its exit status. Where
-    /// `notes` are wanted, it is run as on a terminal.
+    /// Runs the program, with its name as the first word, and returns its exit status. If `notes`
+    /// is set, it runs as on a terminal.
     fn run<R: Files + AllocGlobal, W: Write + Drop, E: Write + Drop>(
         &self,
         files: &R,
@@ -21,7 +21,7 @@ pub trait Program {
         notes: bool,
     ) -> u8;
 
-    /// The digits for which `H` stands in a token of a command line.
+    /// Returns the digits for which `H` stands in a token of a command line.
     fn digits<R: Files + AllocGlobal>(
         &self,
         files: &R,

@@ -1,4 +1,4 @@
-//! The files of cases that are run, and what they came to.
+//! The files of cases that are run, and their outcome.
 
 use crate::program::Program;
 use crate::script::{count_texts, run_file};
@@ -18,9 +18,10 @@ struct Totals {
     starved: usize,
 }
 
-/// Runs the files that the arguments name, or of a file the case of one line, as `ask.cases:12`;
-/// without arguments all files of the folder, in the order of their names. The exit status is 0
-/// where every case is right, 1 where one is wrong, and else 3, where memory ran out.
+/// Runs the files that the arguments name, or the case of one line of a file, such as
+/// `ask.cases:12`. Without arguments it runs all files of the folder, in the order of their names.
+/// The exit status is 0 if every case is right; 1 if one is wrong, or if an argument or file cannot
+/// be read; and else 3, if memory ran out.
 pub fn run_cases<R: Runtime + AllocGlobal, P: Program>(rt: &R, program: &P) -> ExitCode {
     let mut totals = Totals {
         cases: 0,

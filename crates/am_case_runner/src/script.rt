@@ -22,7 +22,7 @@ struct Script<'a, 'r, R, P, C> {
     table: Option<(usize, Table<'a, C>)>,
 }
 
-/// Runs the cases of a file.
+/// Runs the cases of a file, and counts them.
 pub fn run_file<R: Files + AllocGlobal, P: Program>(
     host: &R,
     program: &P,
@@ -50,7 +50,7 @@ pub fn run_file<R: Files + AllocGlobal, P: Program>(
     Ok(())
 }
 
-/// How many texts and files a file defines for others.
+/// Returns how many texts and files a file defines for other files.
 pub fn count_texts(alloc: Global, file: &[u8]) -> Result<usize, Problem> {
     let mut texts = Vec::new(alloc);
     let mut files = Vec::new(alloc);

@@ -1,5 +1,5 @@
-//! What command lines are run over: a program, and the files that it can read, which are those of
-//! the file of cases, and behind them those of the folder.
+//! A program and the files that it can read: those of the file of cases, and else those of the
+//! system.
 
 use am_case_files::{Named, text_named};
 use std::alloc::{Allocator, Global};
@@ -16,7 +16,7 @@ pub struct Stage<'s, R, P> {
     pub files: &'s [Named],
 }
 
-/// An opened file, of the file of cases or of the system.
+/// An open file: one of the file of cases, or one of the system.
 #[derive(Drop)]
 pub enum Opened<'s, F> {
     Shown(Cursor<&'s [u8]>),

@@ -5,8 +5,8 @@ use crate::table::{Heading, placed};
 use am_case_files::{Manner, Problem, Stop, Writer};
 use std::alloc::Global;
 
-/// Whether what a call writes comes whole over a writer that takes a byte a call, and in part over
-/// those that stop.
+/// Checks that a call writes everything to a writer that takes one byte in each call, and a proper
+/// prefix to each writer that stops.
 pub fn check_writers<C: Call>(
     alloc: Global,
     heading: &Heading<C>,

@@ -1,4 +1,4 @@
-//! Tables: a call, and a line for each text that it is handed and what it gives there.
+//! Tables: a call, and a line for each text with what the call gives for it.
 
 use crate::call::{Call, Over};
 use crate::stopping::check_writers;
@@ -7,13 +7,13 @@ use am_case_files::{
 };
 use std::alloc::Global;
 
-/// A line that names a call: how a text becomes what is handed in, and from where pointers are
-/// seen.
+/// A line that names a call: what is put around a text before it is handed in, over which files,
+/// and the pointer of the text.
 #[derive(Drop)]
 pub struct Heading<C> {
     pub call: C,
-    /// What stands round the text: before it, behind it, and between where it stands more than
-    /// once.
+    /// What is put around a text: before it, after it, and between its copies if it is handed in
+    /// more than once.
     round: Vec<Vec<u8>>,
     /// The universe file that the call is over.
     universe: Vec<u8>,
@@ -27,7 +27,7 @@ pub struct Heading<C> {
 }
 
 impl<C> Heading<C> {
-    /// The files that the call is over.
+    /// Returns the files that the call is over.
     pub fn over(&self) -> Over<'_> {
         Over {
             universe: self.universe.as_slice(),
@@ -38,18 +38,18 @@ impl<C> Heading<C> {
     }
 }
 
-/// What else is done with the lines of a table.
+/// What is handed in for the lines of a table.
 #[derive(Clone, Copy)]
 pub enum Mode {
-    /// Each text is handed in.
+    /// Each text.
     Plain,
-    /// Each proper prefix of each text, in place of the text.
+    /// Each proper prefix of each text.
     Prefixes,
-    /// Each text, and each two of different stages.
+    /// Each text, and each two texts of different stages.
     Pairs,
-    /// Each text, and over writers that stop.
+    /// Each text, also over writers that stop.
     Writers,
-    /// Each text, and page by page with each limit and with each budget.
+    /// Each text, also page by page with each limit and each budget.
     Pages,
 }
 
@@ -61,18 +61,19 @@ const MODES: [(&str, Mode); 4] = [
     ("page by page", Mode::Pages),
 ];
 
-/// A mode, by its words.
+/// Returns the mode with these words.
 pub fn mode_named(words: &[u8]) -> Option<Mode> {
     value_named(&MODES, words)
 }
 
-/// A line of a table, and its stage: how many lines of `then` stand before it.
+/// A line of a table, and its stage: how many `then` lines come before it.
 #[derive(Clone, Copy)]
 pub struct Row<'a> {
     pub line: Line<'a>,
     pub stage: usize,
 }
 
+/// A table: its headings, its mode, the current stage, and its lines.
 #[derive(Drop)]
 pub struct Table<'a, C> {
     pub headings: Vec<Heading<C>>,
@@ -82,7 +83,7 @@ pub struct Table<'a, C> {
 }
 
 impl<'a, C> Table<'a, C> {
-    /// A table of which nothing is said yet.
+    /// Makes a table without headings and lines, in the plain mode.
     pub fn new(alloc: Global) -> Table<'a, C> {
         Table {
             headings: Vec::new(alloc),
@@ -102,7 +103,7 @@ struct Wanted {
     result: Vec<u8>,
 }
 
-/// The heading that a line is, if it names a call.
+/// Reads the heading of a line. Returns `None` if the line names no call.
 pub fn read_heading<C: Call>(
     alloc: Global,
     texts: &[Named],
@@ -177,7 +178,7 @@ fn cut_behind<'a>(line: &'a [u8], first: &[u8], inner: &[u8]) -> Option<(&'a [u8
     }
 }
 
-/// Runs the lines of a table.
+/// Runs the lines of a table, and counts them.
 pub fn run_table<C: Call>(
     alloc: Global,
     texts: &[Named],
@@ -307,7 +308,7 @@ fn joined(alloc: Global, front: &[u8], between: &[u8], back: &[u8]) -> Result<Ve
     Ok(text)
 }
 
-/// The text with what stands round it.
+/// Returns a text with what is put around it.
 pub fn placed<C>(alloc: Global, heading: &Heading<C>, text: &[u8]) -> Result<Vec<u8>, Problem> {
     let mut whole = Vec::new(alloc);
     for (i, part) in heading.round.iter().enumerate() {

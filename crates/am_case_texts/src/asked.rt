@@ -11,7 +11,7 @@ use am_search::Page;
 use std::alloc::Global;
 use std::num::NonZeroU64;
 
-/// The files beside the universe that a call is over, and this instant.
+/// Returns the files beside the universe that a call is over, with this instant.
 pub fn files_of<'a>(over: Over<'a>, at: Option<&'a str>) -> Files<'a> {
     Files {
         config: over.with,
@@ -21,7 +21,7 @@ pub fn files_of<'a>(over: Over<'a>, at: Option<&'a str>) -> Files<'a> {
     }
 }
 
-/// A text, and that of the instant that stands behind it, if one does.
+/// Cuts a text into what comes before ` at ` and the instant after it, if there is one.
 pub fn text_and_instant(alloc: Global, text: &[u8]) -> Result<(&str, Option<&str>), Problem> {
     match split_at_last(text, b" at ") {
         Some((text, at)) => Ok((utf8(alloc, text)?, Some(utf8(alloc, at)?))),
@@ -29,7 +29,7 @@ pub fn text_and_instant(alloc: Global, text: &[u8]) -> Result<(&str, Option<&str
     }
 }
 
-/// All answers.
+/// The page of all answers.
 pub const ALL: Page<'static> = Page {
     after: None,
     limit: None,
@@ -46,8 +46,8 @@ pub struct Asked<'q, 't> {
 }
 
 impl<'q, 't> Asked<'q, 't> {
-    /// What a text asks for: a question, behind it ` limit ` and a number, behind that ` steps `
-    /// and a number, and behind that ` after ` and a token, as far as it has these.
+    /// Reads a question, and after it, if there are any, ` limit ` and a number, then ` steps ` and
+    /// a number, and then ` after ` and a token.
     pub fn of<'a>(alloc: Global, text: &'a [u8]) -> Result<Asked<'a, 'a>, Problem> {
         let (text, after) = match split_at_last(text, b" after ") {
             Some((text, after)) => (text, Some(utf8(alloc, after)?)),
@@ -69,7 +69,7 @@ impl<'q, 't> Asked<'q, 't> {
         })
     }
 
-    /// The page that is asked for.
+    /// Returns the page that is asked for.
     pub fn page(&self) -> Page<'t>
         ensures limit { IfSome result.limit (λ n. 0 < n) }
         ensures steps { IfSome result.steps (λ n. MAX_LABELS < n) }

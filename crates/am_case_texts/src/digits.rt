@@ -9,7 +9,7 @@ use am_questions::fingerprint;
 use std::alloc::{AllocError, Global};
 use std::{fs, rt};
 
-/// The digits of the fingerprint of some inputs.
+/// Returns the digits of the fingerprint of some inputs.
 pub fn digits_of(
     alloc: Global,
     universe: &[u8],
@@ -19,7 +19,8 @@ pub fn digits_of(
     hex::encode(alloc, fingerprint(universe, files, question))
 }
 
-/// A text that asks for a page, with the digits of its own inputs in its token, and these digits.
+/// Returns a text that asks for a page, with the digits of its own inputs in place of `H` in its
+/// token, and these digits.
 pub fn with_own_digits(
     alloc: Global,
     over: Over<'_>,
@@ -31,7 +32,7 @@ pub fn with_own_digits(
     Ok((text, digits))
 }
 
-/// The digits of the inputs of a command line that asks a question.
+/// Returns the digits of the inputs of a command line that asks a question.
 pub fn digits_of_command<R: rt::Files + AllocGlobal>(
     files: &R,
     words: &[String],

@@ -11,8 +11,8 @@ use am_search::first;
 use am_universe::Choice;
 use std::alloc::Global;
 
-/// The first choice of which a question is true, as its plan finds it and the judge that looks at
-/// whole choices.
+/// Returns the first choice of which a question is true, as its plan finds it. Fails if the judge
+/// of whole choices finds another.
 pub fn first_choice(
     alloc: Global,
     inputs: &AcceptedInputs,
@@ -48,7 +48,7 @@ fn first_by_whole(
     Ok(first(&whole))
 }
 
-/// The positions of a choice, or that there is none.
+/// Returns the positions of a choice, or `none`.
 pub fn first_text(alloc: Global, choice: Option<Choice>) -> Result<Vec<u8>, Problem> {
     match choice {
         Some(choice) => positions_behind(alloc, "ok:", &choice),

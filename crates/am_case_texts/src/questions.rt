@@ -1,5 +1,5 @@
-//! Questions for the judge that looks at whole choices. It knows of no impossible label sets, so
-//! that these are left out by what it is asked.
+//! Questions for the judge of whole choices. That judge does not know which label sets are
+//! impossible, so the questions leave them out.
 
 use crate::telling::not_accepted;
 use am_case_files::Problem;
@@ -9,7 +9,7 @@ use am_questions::{AcceptedInputs, parse_question};
 use am_universe::Kind;
 use std::alloc::Global;
 
-/// The question that a text is, and that no impossible list of the universe matches.
+/// Reads a question, and adds to it that no impossible list of the universe matches.
 pub fn asked_of_whole(
     alloc: Global,
     text: &str,
@@ -24,7 +24,7 @@ pub fn asked_of_whole(
     Ok(asked)
 }
 
-/// The question that a text is.
+/// Reads a question.
 pub fn question_of(
     alloc: Global,
     text: &str,

@@ -1,23 +1,24 @@
-//! Why a case gives nothing of what it asks for.
+//! Why a case does not give what it asks for.
 
 use crate::telling::{fault_behind, told};
 use am_case_files::Problem;
 use am_universe::{Fault, Kind};
 use std::alloc::{AllocError, AllocFailed, Global};
 
-/// Why a case gives nothing of what it asks for.
+/// Why a case does not give what it asks for.
 #[derive(Drop)]
 pub enum Refusal {
     /// The case is wrong, or memory ran out.
     Wrong(Problem),
-    /// This fault is answered.
+    /// The call failed with this fault.
     Fault(Fault),
-    /// A refusal of this kind is answered.
+    /// The call failed with a fault of this kind.
     Kind(Kind),
 }
 
 impl Refusal {
-    /// What the case gives then: what the program writes of a fault, or the word of a kind.
+    /// Returns what the case gives then: what the program writes of a fault, or the word for a
+    /// kind.
     pub fn text(self, alloc: Global) -> Result<Vec<u8>, Problem> {
         match self {
             Refusal::Wrong(problem) => Err(problem),

@@ -1,16 +1,17 @@
-//! What cases give, as a text.
+//! The texts that cases give.
 
 use am_case_files::{Problem, utf8};
 use am_labels::parse_set;
 use am_universe::{Fault, Kind, LabelSet, Out, write_fault, write_map};
 use std::alloc::Global;
 
-/// These words.
+/// Returns these words.
 pub fn told(alloc: Global, words: &str) -> Result<Vec<u8>, Problem> {
     Ok(Vec::from_slice(alloc, words.as_bytes())?)
 }
 
-/// What the program writes of a fault, behind `amcover: ` and behind this.
+/// Returns the line of a fault without `amcover: `, without `before` after that, and without the
+/// line feed.
 pub fn fault_behind(alloc: Global, before: &[u8], fault: &Fault) -> Result<Vec<u8>, Problem> {
     if matches!(fault.kind, Kind::Memory | Kind::Write) {
         // What is written here goes to memory.
@@ -23,14 +24,14 @@ pub fn fault_behind(alloc: Global, before: &[u8], fault: &Fault) -> Result<Vec<u
     Ok(Vec::from_slice(alloc, text.strip_suffix(b"\n").unwrap_or(text))?)
 }
 
-/// The line of a fault, as the program writes it.
+/// Returns the line of a fault, as the program writes it.
 pub fn line_of(alloc: Global, fault: &Fault) -> Result<Vec<u8>, Problem> {
     let mut line = Out::new(Vec::new(alloc));
     let outcome = write_fault(fault, &mut line);
     written_text(line, outcome)
 }
 
-/// What is written to memory. Memory ran out where that failed.
+/// Returns what was written to memory. If the write failed, memory ran out.
 pub fn written_text(out: Out<Vec<u8>>, outcome: Result<(), Kind>) -> Result<Vec<u8>, Problem> {
     match outcome {
         Ok(()) => Ok(out.into_inner()),
@@ -38,7 +39,7 @@ pub fn written_text(out: Out<Vec<u8>>, outcome: Result<(), Kind>) -> Result<Vec<
     }
 }
 
-/// Why texts that are made are not accepted.
+/// The problem of generated texts that were refused.
 pub fn made_refused(alloc: Global, fault: &Fault) -> Problem {
     match fault_behind(alloc, b"", fault) {
         Ok(fault) => Problem::about(alloc, "refused", fault.as_slice()),
@@ -46,14 +47,14 @@ pub fn made_refused(alloc: Global, fault: &Fault) -> Problem {
     }
 }
 
-/// A label set, behind these words.
+/// Returns these words, and after them a label set.
 pub fn set_behind(alloc: Global, before: &str, set: &LabelSet) -> Result<Vec<u8>, Problem> {
     let mut out = Out::new(told(alloc, before)?);
     let outcome = write_map(set, &mut out);
     written_text(out, outcome)
 }
 
-/// The label set that a text is.
+/// Reads a label set.
 pub fn set_of_text(alloc: Global, text: &[u8]) -> Result<LabelSet, Problem> {
     let set = parse_set(alloc, utf8(alloc, text)?);
     set.map_err(|kind| not_accepted(alloc, kind, "no label set", text))
@@ -67,7 +68,7 @@ pub(crate) fn not_accepted(alloc: Global, kind: Kind, words: &str, text: &[u8]) 
     }
 }
 
-/// Lines with a blank in place of each line feed, and none at the end.
+/// Returns lines with a blank in place of each line feed but the last, which is left out.
 pub fn on_one_line(mut lines: Vec<u8>) -> Vec<u8> {
     let _ = lines.pop();
     for byte in lines.iter_mut() {

@@ -1,13 +1,13 @@
-//! Numbers that look random, and are the same for the same seed.
+//! Pseudo-random numbers, the same for the same seed.
 
-/// What the next number is made of.
+/// The state from which the next number is made.
 #[derive(Clone, Copy)]
 pub struct Dice {
     state: u64,
 }
 
 impl Dice {
-    /// The numbers of a seed.
+    /// Makes the dice of a seed.
     pub fn new(seed: u64) -> Dice {
         let mut dice = Dice { state: seed };
         // The first numbers of seeds that differ by little are near each other.
@@ -17,7 +17,7 @@ impl Dice {
         dice
     }
 
-    /// A number below another one; 0 where there is none below it.
+    /// Returns a number below `bound`, or 0 if `bound` is 0.
     pub fn below(&mut self, bound: usize) -> usize {
         let next = self.state.wrapping_mul(6_364_136_223_846_793_005);
         self.state = next.wrapping_add(1_442_695_040_888_963_407);
@@ -29,18 +29,18 @@ impl Dice {
         drawn % bound
     }
 
-    /// Whether a number below `bound` is 0.
+    /// Returns `true` about once in `bound` calls.
     pub fn is_one_in(&mut self, bound: usize) -> bool {
         self.below(bound) == 0
     }
 
-    /// One of some texts.
+    /// Returns one of some texts.
     pub fn one_of(&mut self, texts: &[&'static str]) -> &'static str {
         let i = self.below(texts.len());
         texts.get(i).copied().unwrap_or("")
     }
 
-    /// One of some numbers.
+    /// Returns one of some numbers.
     pub fn number_of(&mut self, numbers: &[usize]) -> usize {
         let i = self.below(numbers.len());
         numbers.get(i).copied().unwrap_or(0)

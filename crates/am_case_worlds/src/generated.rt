@@ -1,10 +1,10 @@
-//! Small worlds that no one typed: the texts of their files, and of a question about each.
+//! Small generated worlds: the texts of their files, and of a question about each.
 
 use crate::dice::Dice;
 use std::alloc::{AllocError, Global};
 
-/// The texts of the files of a world, and of a question about it. All silences begin or end within
-/// an hour of [`SmallWorld::INSTANT`].
+/// The texts of the files of a world, and of a question about it. Each silence begins and ends
+/// within an hour of [`SmallWorld::INSTANT`].
 #[derive(Drop)]
 pub struct SmallWorld {
     pub universe: String,
@@ -15,7 +15,7 @@ pub struct SmallWorld {
 }
 
 impl SmallWorld {
-    /// The instant that is asked about.
+    /// The instant at which the silences are looked at.
     pub const INSTANT: &'static str = "2024-05-01T10:30:00Z";
 }
 
@@ -44,10 +44,9 @@ const HOURS: [&str; 6] = [
     "\"startsAt\":\"2024-05-01T10:31:00Z\",\"endsAt\":\"2024-05-01T11:00:00Z\"",
 ];
 
-/// The world of a seed: of 1 to 4 labels with 1 to 3 values each, routes of up to three levels, up
-/// to 3 silences, 2 firing alerts and 2 inhibition rules; and a question of three levels. Where
-/// label sets are to be impossible, the universe has up to 3 lists of matchers that are, and all
-/// else is the same.
+/// Makes the world of a seed: 1 to 4 labels with 1 to 3 values each, routes of up to three levels,
+/// up to 3 silences, 2 firing alerts and 2 inhibition rules, and a question of three levels. If
+/// `has_impossible`, the universe also has up to 3 impossible lists, and all else is the same.
 pub fn small_world(
     alloc: Global,
     seed: u64,

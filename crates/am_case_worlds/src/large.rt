@@ -1,4 +1,4 @@
-//! Worlds that no one typed with as many routes as a configuration may have.
+//! Generated worlds with as many routes as a configuration may have.
 
 use crate::dice::Dice;
 use crate::generated::{add_comma, add_quoted, config_front};
@@ -18,9 +18,9 @@ const SERVICES: usize = 32;
 
 const RECEIVERS: [&str; 4] = ["a", "b", "c", "d"];
 
-/// The world of a seed: of so many labels with so many values each, and of 1,024 routes in three
-/// levels. Each but the top-level route has four matchers. Some routes have the matchers of the
-/// one before, and some matchers are such as no label set satisfies.
+/// Makes the world of a seed: this many labels with this many values each, and 1,024 routes in
+/// three levels. Each route but the top-level one has four matchers. Some routes have the matchers
+/// of the one before, and no label set satisfies some of the matchers.
 pub fn large_world(
     alloc: Global,
     seed: u64,

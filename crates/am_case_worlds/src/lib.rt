@@ -1,8 +1,8 @@
-//! Texts that no one typed, the same for the same seed.
+//! Generated texts, the same for the same seed.
 //!
 //! [`small_world`] makes the texts of the files of a small world and of a question about it, and
 //! [`large_world`] those of a world with many routes. [`texts_of_seed`] makes values of a label. A
-//! case names the seeds, and [`read_seeds`] reads them; [`of_seed`] says which of them a problem is
+//! case names the seeds, and [`read_seeds`] reads them. [`of_seed`] says which of them a problem is
 //! about. Nothing here calls `amcover`, so it is proved beside the crates that cases call.
 #![tactic(auto)]
 

@@ -3,7 +3,7 @@
 use am_case_files::{Problem, read_number, split_at_first};
 use std::alloc::Global;
 
-/// A text without the word ` impossible` at its end, and whether it was there.
+/// Returns a text without ` impossible` at its end, and whether it had that.
 pub fn split_impossible(text: &[u8]) -> (&[u8], bool) {
     match text.strip_suffix(b" impossible") {
         Some(text) => (text, true),
@@ -11,7 +11,7 @@ pub fn split_impossible(text: &[u8]) -> (&[u8], bool) {
     }
 }
 
-/// A seed, a blank, and a number.
+/// Reads a seed, a blank, and a number.
 pub fn read_seeds(alloc: Global, text: &[u8]) -> Result<(u64, u64), Problem> {
     let words = "a seed and a number of worlds are wanted";
     let Some((seed, count)) = split_at_first(text, b" ") else {
@@ -21,7 +21,7 @@ pub fn read_seeds(alloc: Global, text: &[u8]) -> Result<(u64, u64), Problem> {
     Ok((seed, read_number(alloc, count, words)?))
 }
 
-/// A problem with the seed of its world in front.
+/// Returns a problem with the seed of its world before its words.
 pub fn of_seed(alloc: Global, seed: u64, problem: Problem) -> Problem {
     let Problem::Said(words) = problem else {
         return Problem::Memory;

@@ -1,4 +1,4 @@
-//! Texts that no one typed: values of a label that patterns and other values are like.
+//! Generated values of a label, similar to those that matchers name.
 
 use crate::dice::Dice;
 use std::alloc::{AllocError, Global};
@@ -8,8 +8,8 @@ const ODD: [&str; 12] = [
     "\n", "\r", "é", "σ", "Σ", "ς", "\u{212a}", "z", "0", " ", "-", "_",
 ];
 
-/// So many texts, the same for the same seed. Each is made of up to six pieces: words and letters
-/// of some values, and odd letters.
+/// Makes `count` texts of a seed. Each is made of up to six pieces: words and letters of some
+/// values, and other letters.
 pub fn texts_of_seed(
     alloc: Global,
     seed: u64,

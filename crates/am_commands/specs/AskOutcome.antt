@@ -53,6 +53,10 @@ page_of_inputs read limit steps =
 -- after them those from the trailer's start on. Where the search did not stop, it is the page
 -- without the budget; where it stopped at a prefix, the lines are exactly the answers from the
 -- start on that come before the prefix, and so before its first completion.
+-- Source: own choice.
+-- Example: over a universe whose one label `team` may be `db` or `web`, the page of `any` under the
+-- limit 1 is the line `{team="db"}` and the trailer `# next t2:H:0`, where `H` stands for the 32
+-- digits of the inputs.
 pub record AnswersInputs (inputs : Inputs) (limit steps : Option ℕ) (trailer : Trailer)
     (text : List ℕ) : Type 0 where
   pub space : Space

@@ -14,6 +14,9 @@ pub record AcceptsReport (universe_file config_file : List ℕ) (space : Space)
   pub says_config : FileSaysConfig config_file configuration
 
 -- The files are accepted, and the text is a report of what they say.
+-- Source: own choice.
+-- Example: over the universe `{"labels": []}` the report of `dead` on a configuration with the
+-- top-level route alone is the lines `/ live {}` and `# end`.
 pub record ReportsFiles (universe_file config_file : List ℕ)
     (IsReport : Space → Configuration → List ℕ → Type 0) (report : List ℕ) : Type 0 where
   pub space : Space

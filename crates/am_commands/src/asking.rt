@@ -13,33 +13,42 @@ use am_search::{Answers, Page, Trailer, write_page};
 use am_universe::{Fault, LineTable, Sink, answer_of_write};
 use std::alloc::Global;
 
-/// Writes the label sets of the universe that satisfy the question, each once and in declared
-/// order, a line for each, and then the trailer.
+/// Writes the label sets of a universe that satisfy a question, in declared order and each once, a
+/// line for each, and then the trailer.
 ///
-/// `universe` is a universe file, `files` has the configuration file, the file of silences, the
-/// file of alerts and the instant that is asked about, as far as there are such, and `question` is
-/// a question about what these say. `page` says where the lines begin, and how many there may be:
-/// where there are more, the trailer is `Next` with the last choice that was written, and the page
-/// of that trailer's token goes on after it. It may also say how many prefixes of choices are
-/// judged: where the limit is not passed and more would be judged, the trailer is `Stopped` with
-/// the next of them, and the page of its token goes on there. Otherwise it is `End`. All input is
-/// read before the first byte is written, and each line is written before the next label set is
-/// looked for.
+/// `universe` is a universe file. `files` has the configuration, the silences, the firing alerts
+/// and the instant, each of which is optional, and `question` is a question about them. `page` says
+/// where the lines begin, how many lines there are at most, and how many prefixes of choices the
+/// search may judge. Returns the trailer, whose token a rerun takes to go on there:
 ///
-/// The first fault is the one answered: a fault of the universe file, at `Universe`, as
-/// `read_universe` has it; of the configuration file, at `Config`, as `read_config` has it; of the
-/// file of silences, at `Silences`, as `read_silences` has it; of the file of alerts, at `Alerts`,
-/// as `read_alerts` has it; of the instant, at `Instant` and with no pointer: `BadTime` where its
-/// text says none, and `NeedAt` where there is a file of silences and no text; of the pairs of
-/// rules and alerts, at `Alerts`, as `World::new` has it; of the question, as `parse_question` has
-/// it, at `Question` and with no pointer; of the token, as `parse_token` has it, at `Token` and
-/// with no pointer; `Write`. `Memory` comes wherever memory ran out. After any but `Write` the sink
-/// is as it was.
+/// - `Next` with the last choice that was written, if the answers that were found are more than the
+///   limit;
+/// - else `Stopped` with the next prefix to judge, if the budget left one out;
+/// - else `End`.
 ///
-/// Prefixes of choices are judged, by the cubes of a plan: what is below one of which nothing can
-/// be an answer is left out, and what is below one of which everything must be is written without a
-/// look. Where neither is seen early, time grows with the product of the numbers of values, unless
-/// a budget stops the search. Memory does not grow with the number of answers.
+/// All input is read before the first byte is written. Each line is written before the search for
+/// the next label set begins.
+///
+/// Fails with the first of these faults:
+///
+/// - at `Universe`, those of `read_universe`;
+/// - at `Config`, those of `read_config`;
+/// - at `Silences`, those of `read_silences`;
+/// - at `Alerts`, those of `read_alerts`;
+/// - at `Instant`, with no pointer: `BadTime` for a text that is no instant, and `NeedAt` for a
+///   file of silences without an instant;
+/// - at `Alerts`, with no pointer: `Limit`, as `World::new` counts pairs of rules and alerts;
+/// - at `Question`, with no pointer, those of `parse_question`;
+/// - at `Token`, with no pointer, those of `parse_token`;
+/// - `Write`.
+///
+/// `Memory` may come at any point. After any fault but `Write` the sink is unchanged; after `Write`
+/// it has taken a prefix of the page.
+///
+/// The search skips a prefix if the plan's cubes show that no completion is an answer, and it
+/// writes all completions without judging each if all are answers. Where neither shows early, time
+/// grows with the product of the numbers of values, unless a budget stops the search. Memory does
+/// not grow with the number of answers.
 pub fn ask<W: Sink>(
     alloc: Global,
     universe: &[u8],
@@ -51,8 +60,8 @@ pub fn ask<W: Sink>(
     requires limit { IfSome page.now.limit (λ n. 0 < n) }
     requires steps { IfSome page.now.steps (λ n. MAX_LABELS < n) }
 
-    // What is written is the page of the answers, which ends with the trailer that is answered; a
-    // refusal is the first fault of the inputs.
+    // The page of the answers is written, and its trailer is returned. A refusal is the first fault
+    // of the inputs.
     ensures kept { IsKept (ask_promise
         (inputs_of universe.now files.now question.now page.now) page.now.limit page.now.steps)
         W.taken W.failures out.old out.new result }
@@ -61,9 +70,9 @@ pub fn ask<W: Sink>(
     write_answers(alloc, &accepted, page.limit, page.steps, out)
 }
 
-/// Writes the page of the answers to a question that is accepted, from its start on and under a
-/// limit and a budget of steps, if there are these. The answer is the trailer. `Memory` comes
-/// before the first byte is written.
+/// Writes the page of the answers to an accepted question, from its start on, under the limit and
+/// the budget of steps if there are any. Returns the trailer. `Memory` comes before the first byte
+/// is written.
 fn write_answers<W: Sink>(
     alloc: Global,
     accepted: &AcceptedInputs,

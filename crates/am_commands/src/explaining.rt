@@ -6,37 +6,48 @@ use am_eval::{Files, explanation_of, read_set, read_world, write_explanation};
 use am_universe::{Fault, Sink, answer_of_write};
 use std::alloc::Global;
 
-/// Writes why a label set goes where it goes: the set; the routes that handle it, with their
-/// receivers; the silences that hide it; the inhibition rules and firing alerts that inhibit it.
+/// Writes why a label set goes where it goes: the set, the routes that handle it with their
+/// receivers, the silences that hide it, and the inhibition rules and firing alerts that inhibit
+/// it.
 ///
-/// `files` has the configuration file, the file of silences, the file of alerts and the instant
-/// that is asked about, as far as there are such, and `set` is a list of matchers in the classic
-/// syntax, each with `=`. All input is read and all answers are found before the first byte is
-/// written.
+/// `files` has the configuration, the silences, the firing alerts and the instant, each of which is
+/// optional. `set` is a list of matchers in the classic syntax, each with `=`. Routing and
+/// inhibition are as in the Alertmanager configuration reference 0.25, "<route>" and
+/// "<inhibit_rule>", and silencing as in its documentation, "Silences". All input is read and all
+/// results are found before the first byte is written.
 ///
-/// The first fault is the one answered: a fault of the configuration file, at `Config`, as
-/// `read_config` has it; of the file of silences, at `Silences`, as `read_silences` has it; of the
-/// file of alerts, at `Alerts`, as `read_alerts` has it; of the instant, at `Instant` and with no
-/// pointer: `BadTime` where its text says none, and `NeedAt` where there is a file of silences and
-/// no text; of the pairs of rules and alerts, at `Alerts`, as `World::new` has it; of the label
-/// set, as `parse_set` has it, at `Set` and with no pointer; `Write`. `Memory` comes wherever
-/// memory ran out. After any but `Write` the sink is as it was.
+/// Fails with the first of these faults:
+///
+/// - at `Config`, those of `read_config`;
+/// - at `Silences`, those of `read_silences`;
+/// - at `Alerts`, those of `read_alerts`;
+/// - at `Instant`, with no pointer: `BadTime` for a text that is no instant, and `NeedAt` for a
+///   file of silences without an instant;
+/// - at `Alerts`, with no pointer: `Limit`, as `World::new` counts pairs of rules and alerts;
+/// - at `Set`, with no pointer, those of `parse_set`;
+/// - `Write`.
+///
+/// `Memory` may come at any point. After any fault but `Write` the sink is unchanged; after `Write`
+/// it has taken a prefix of the text.
 pub fn explain<W: Sink>(
     alloc: Global,
     files: &Files<'_>,
     set: &str,
     out: &mut W,
 ) -> Result<(), Fault>
-    // What is written is the ends, the silences and the rules and alerts of the set.
+    // The ends, the silences, and the rules and alerts of the set are written.
     ensures kept { IsKept (explain_promise files.now (set.now ∷ []))
         W.taken W.failures out.old out.new result }
 {
     explain_words(alloc, files, &[set], out)
 }
 
-/// Writes why a label set goes where it goes, as `explain` does, where the set is given in words:
-/// one word is read as the text of `explain`, and each of several is one matcher with `=`, whose
-/// value may have commas. The faults of the words are those of `parse_set_words`, at `Set`.
+/// Writes why a label set goes where it goes, as [`explain`] does, for a set that is given in
+/// words.
+///
+/// One word is read as the text of [`explain`]. Each of several words is one matcher with `=`,
+/// whose value may have commas. The faults are those of [`explain`], with those of
+/// `parse_set_words` at `Set`.
 pub fn explain_words<W: Sink>(
     alloc: Global,
     files: &Files<'_>,

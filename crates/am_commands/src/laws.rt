@@ -40,9 +40,9 @@ pub fn answers_from_the_first_choice_on_are_all()
         → answers_from (sizes s.labels) (is_answer s w q) (At []) ≡ answers s w q }
 {}
 
-/// Where a page ends with `Next`, the same inputs with the token of its choice are accepted, and
-/// they ask for the start after that choice. So it is with `Stopped` and its prefix, where the
-/// budget is enough. The token asks for no other start.
+/// After a page that ends with `Next`, the same inputs with the token of its choice are accepted,
+/// and ask for the start after that choice. The same holds of `Stopped` and its prefix, if the
+/// budget is at least one more than there are labels. The token asks for no other start.
 pub fn a_page_goes_on_at_its_token()
     ensures accepted { (inputs : Inputs) (s : Space) (w : World) (q : Question) (start : Start)
         (page : AnswerPage) (c : List ℕ) → AcceptsInputs inputs s w q start
@@ -60,8 +60,9 @@ pub fn a_page_goes_on_at_its_token()
         (Some (token_text (inputs_fingerprint inputs) next)) start → start ≡ next }
 {}
 
-/// The lines of pages in a row, joined, are the lines of the one page without a limit from the same
-/// start, also where they have budgets that are enough.
+/// The lines of pages in a row, joined, are those of the one page without a limit from the same
+/// start. The limits of the pages may differ, and so may their budgets, if each is at least one
+/// more than there are labels.
 pub fn pages_in_a_row_have_the_lines_of_one_page()
     ensures joined { (s : Space) (w : World) (q : Question) (start : Start)
         (pages : List AnswerPage)
@@ -75,7 +76,7 @@ pub fn pages_in_a_row_have_the_lines_of_one_page()
         ≡ lines_text s.labels (page_from (sizes s.labels) (is_answer s w q) start None).choices }
 {}
 
-/// What `ask` writes is lines and its trailer, so what laws say of calls in a row is so of it.
+/// `ask` writes lines and a trailer, so the laws of calls in a row apply to it.
 pub fn what_ask_writes_is_lines_and_a_trailer()
     ensures asked { (inputs : Inputs) (limit steps : Option ℕ) (trailer : Trailer) (text : List ℕ)
         → IfSome limit (λ n. 0 < n) → IfSome steps (λ n. MAX_LABELS < n)
@@ -88,10 +89,9 @@ pub fn what_ask_writes_is_lines_and_a_trailer()
         }) × (text ≡ lines ++ trailer_text (inputs_fingerprint inputs) trailer) }
 {}
 
-/// Where a call of `ask` ends with a token, the same inputs with that token are accepted, as
-/// [`a_page_goes_on_at_its_token`] says. Where the call with them, without a limit and without a
-/// budget, is done, it ends with `# end`, and its lines are those of exactly the rest: of the
-/// answers that the first call left.
+/// A rerun of `ask` with the token of an earlier call, without a limit and a budget, ends with
+/// `# end` if it is done, and its lines are exactly the rest: the answers that the earlier call
+/// left. [`a_page_goes_on_at_its_token`] says that its inputs are accepted.
 pub fn starting_again_writes_exactly_the_rest()
     ensures ends { (inputs : Inputs) (first second : Asked) (next : Start)
         → IsAskedOf inputs first → start_after first.trailer ≡ Some next
@@ -107,9 +107,9 @@ pub fn starting_again_writes_exactly_the_rest()
         (is_answer asked.2.space asked.2.world asked.2.question) first.trailer) }
 {}
 
-/// Calls of `ask` in a row, whatever their limits and their budgets, each with the token of the
-/// trailer before it, and the last with `# end`: their lines, joined, are those of the call with
-/// the first inputs, without a limit and without a budget.
+/// The lines of calls of `ask` in a row, joined, are those of one call with the first inputs,
+/// without a limit and a budget. Each call has the token of the trailer before it, and the last
+/// ends with `# end`. Their limits and budgets may differ.
 pub fn pages_asked_in_a_row_are_one_page()
     ensures joined { (inputs : Inputs) (row : List Asked) (whole : Asked)
         → AreAskedInARow inputs row → IsAskedOf inputs whole → whole.limit ≡ None
@@ -117,9 +117,9 @@ pub fn pages_asked_in_a_row_are_one_page()
         → flat_map (λ (asked : Asked). asked.lines) row ≡ whole.lines }
 {}
 
-/// Calls of `ask` in a row come to an end, whatever their limits and their budgets are. The call
-/// with the token of another begins later. So there are no more calls in a row than the labels of
-/// the universe have choices; and where there are so many, the last has ended with `# end`.
+/// Calls of `ask` in a row come to an end, whatever their limits and budgets are. A call with the
+/// token of another begins later. So there are at most as many calls in a row as the labels of the
+/// universe have choices. If there are that many, the last has ended with `# end`.
 pub fn calls_in_a_row_come_to_an_end()
     ensures later { (inputs : Inputs) (first second : Asked) (next : Start)
         → (asked : IsAskedOf inputs first) → start_after first.trailer ≡ Some next
@@ -134,16 +134,16 @@ pub fn calls_in_a_row_come_to_an_end()
         → length (choices (sizes s.labels)) ≤ length row → AreAskedInARow inputs row }
 {}
 
-/// The verdicts of a question are a judge of its answers: `Yes` only where every completion of a
-/// prefix is an answer, `No` only where none is, and never `Open` at a whole choice. So all that is
-/// said of judges and of their searches is so of the pages of `ask`.
+/// The verdicts of a question are a judge of its answers. `Yes` comes only where every completion
+/// of a prefix is an answer, `No` only where none is, and `Open` never at a whole choice. So what
+/// is proved of judges and their searches holds of the pages of `ask`.
 pub fn the_verdicts_of_a_question_judge_its_answers()
     ensures judge { (s : Space) (w : World) (q : Question) → IsUniverse s.labels
         → IsJudge (sizes s.labels) (is_answer s w q) (verdict_of s w q) }
 {}
 
-/// What `ask` writes under a limit and a budget, what `dead` writes and what `receivers` writes is
-/// one text for the same inputs.
+/// The same inputs fix what `ask` writes under a limit and a budget, what `dead` writes, and what
+/// `receivers` writes.
 pub fn what_is_written_is_one_text()
     ensures ask { (inputs : Inputs) (limit steps : Option ℕ) (page other : List ℕ)
         (trailer again : Trailer)
@@ -158,8 +158,8 @@ pub fn what_is_written_is_one_text()
         → ReportsFiles universe_file config_file IsReceiversReport other → report ≡ other }
 {}
 
-/// Where the files of a report are accepted, they have no first fault, but for a pattern, which the
-/// engine may refuse.
+/// Files of a report that are accepted have no first fault, except for a pattern, which the engine
+/// may refuse.
 pub fn accepted_files_have_no_fault()
     ensures pattern { (universe_file config_file : List ℕ) (s : Space) (c : Configuration)
         (place : Place) (refusal : Refusal) → AcceptsReport universe_file config_file s c

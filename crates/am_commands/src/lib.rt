@@ -2,10 +2,10 @@
 //! [`Sink`](am_universe::Sink).
 //!
 //! [`ask`] writes the label sets of a universe that satisfy a question about a configuration,
-//! silences and firing alerts, all of them or one [`Page`] after another. [`dead`] writes which
-//! routes no label set of a universe ends at, [`receivers`] which receivers none goes to, and
-//! [`explain`] why one label set goes where it goes, or [`explain_words`] where the set is given in
-//! words. [`fingerprint`] is what a page's token knows of the inputs.
+//! silences and firing alerts: all of them, or one [`Page`] after another. [`dead`] writes at which
+//! routes no label set of a universe ends, and [`receivers`] to which receivers none goes.
+//! [`explain`] writes why one label set goes where it goes, and [`explain_words`] does so for a set
+//! in words. [`fingerprint`] is what the token of a page knows of the inputs.
 #![tactic(auto)]
 
 // The layers below: what goes in, how a page ends, and how a fault is written.

@@ -12,23 +12,29 @@ use am_list_files::read_universe;
 use am_universe::{Fault, Sink, answer_of_write};
 use std::alloc::Global;
 
-/// Writes a line for each route of a configuration, in preorder, and then `# end`: its path, and
-/// `live` with the first label set of the universe that ends there; or `dead`, where none does, and
-/// `entered`, where one ends below it, or `never-entered`.
+/// Writes for each route of a configuration whether a label set of a universe ends there.
 ///
-/// `universe` is a universe file, and `config` a configuration file. All input is read and all
-/// answers are found before the first byte is written.
+/// There is a line for each route, in preorder, and then `# end`. A line has the path of the route
+/// and `live` with the first label set that ends there; or `dead entered`, if label sets end only
+/// below the route; or `dead never-entered`. `universe` is a universe file, and `config` a
+/// configuration file. Label sets are routed as in the Alertmanager configuration reference 0.25,
+/// "<route>". All input is read and all results are found before the first byte is written.
 ///
-/// The first fault is the one answered: a fault of the universe file, at `Universe`, as
-/// `read_universe` has it; of the configuration file, at `Config`, as `read_config` has it;
-/// `Write`. `Memory` comes wherever memory ran out. After any but `Write` the sink is as it was.
+/// Fails with the first of these faults:
+///
+/// - at `Universe`, those of `read_universe`;
+/// - at `Config`, those of `read_config`;
+/// - `Write`.
+///
+/// `Memory` may come at any point. After any fault but `Write` the sink is unchanged; after `Write`
+/// it has taken a prefix of the report.
 pub fn dead<W: Sink>(
     alloc: Global,
     universe: &[u8],
     config: &[u8],
     out: &mut W,
 ) -> Result<(), Fault>
-    // Each route has its line, which names it dead exactly where no label set ends there.
+    // The line of a route says that it is dead exactly where no label set ends there.
     ensures kept { IsKept (dead_promise universe.now config.now)
         W.taken W.failures out.old out.new result }
 {
@@ -40,16 +46,18 @@ pub fn dead<W: Sink>(
     answer_of_write(alloc, written)
 }
 
-/// Writes a line for each receiver of a configuration, in declared order, and then `# end`: its
-/// name in quotes, and `live` with the first label set of the universe that goes to it, or
-/// `unmatched`, where none does. All else is as for [`dead`].
+/// Writes for each receiver of a configuration whether a label set of a universe goes to it.
+///
+/// There is a line for each receiver, in declared order, and then `# end`. A line has the name of
+/// the receiver in quotes and `live` with the first label set that goes to it, or `unmatched`. The
+/// inputs and faults are those of [`dead`].
 pub fn receivers<W: Sink>(
     alloc: Global,
     universe: &[u8],
     config: &[u8],
     out: &mut W,
 ) -> Result<(), Fault>
-    // Each receiver has its line, which names it unmatched exactly where no label set goes to it.
+    // The line of a receiver says that it is unmatched exactly where no label set goes to it.
     ensures kept { IsKept (receivers_promise universe.now config.now)
         W.taken W.failures out.old out.new result }
 {
@@ -68,8 +76,8 @@ struct ReadFiles {
     config: Config,
 }
 
-/// Reads the files of a report: the universe file, and then the configuration file. The first fault
-/// is the one answered, at `Universe` or at `Config`; or `Memory`.
+/// Reads the universe file and then the configuration file of a report. Fails with the first fault,
+/// at `Universe` or at `Config`, or with `Memory`.
 fn read_files(alloc: Global, universe: &[u8], config: &[u8]) -> Result<ReadFiles, Fault>
     ensures accepts { IfOk result (λ read. AcceptsReport universe.now config.now
         read.space (config_view read.config)) }

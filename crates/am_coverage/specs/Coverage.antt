@@ -1,4 +1,5 @@
--- Coverage: which routes and receivers the label sets of a universe reach.
+-- Coverage: which routes and receivers the label sets of a space reach. Impossible label sets do
+-- not count.
 use Rattle.std.specs.Prelude.{ℕ, List, Contains, IsTrue, Option, Some, None, ◌==◌}
 use Rattle.std.specs.List.{find, list_any}
 use Rattle.am_universe.specs.LabelSet.{label_set_of}
@@ -14,27 +15,28 @@ use Rattle.am_coverage.specs.declared.coverage.ReceiverCoverage.TheVariants as r
 
 -- ---- Over all label sets of the universe.
 
--- A route is dead: no label set of the universe ends there.
+-- A route is dead: no label set of the space ends there.
 -- Source: own choice.
--- Example: a route behind a sibling that matches all that it matches, and has no `continue`; and a
--- route that matches none but impossible label sets.
+-- Example: a route is dead if an earlier sibling without `continue` matches all that it matches, or
+-- if it matches impossible label sets alone.
 abbrev pub IsDead : Space → Configuration → List ℕ → Type 0
 IsDead s c path =
     (choice : List ℕ) → IsChoiceOf s choice
     → Contains (ends (label_set_of s.labels choice) c) path → ⊥
 
--- A route is never entered: no label set of the universe ends there or below it.
+-- A route is never entered: no label set of the space ends there or below it.
 -- Source: own choice.
--- Example: a route with the matcher `team=ops`, where the universe declares no such value. A route
--- whose children match all that it matches is entered, and dead.
+-- Example: a route with the matcher `team=ops` is never entered if the universe does not declare
+-- that value. A route whose children match all that it matches is dead. If some label set ends
+-- below it, it is entered all the same.
 abbrev pub IsNeverEntered : Space → Configuration → List ℕ → Type 0
 IsNeverEntered s c path =
     (choice end : List ℕ) → IsChoiceOf s choice
     → Contains (ends (label_set_of s.labels choice) c) end → IsTrue (leads_through path end) → ⊥
 
--- A receiver, by its position, is unmatched: no label set of the universe goes to it.
+-- A receiver, by its position, is unmatched: no label set of the space goes to it.
 -- Source: own choice.
--- Example: a receiver that no route has, and one all of whose routes are dead.
+-- Example: a receiver is unmatched if no route has it, or if all routes that have it are dead.
 abbrev pub IsUnmatched : Space → Configuration → ℕ → Type 0
 IsUnmatched s c receiver =
     (choice : List ℕ) → IsChoiceOf s choice
@@ -42,10 +44,11 @@ IsUnmatched s c receiver =
 
 -- ---- The first label set that shows the contrary.
 
--- The first choice of the space, in declared order, whose label set ends at a route; that ends
--- there or below it; that goes to a receiver.
+-- The first choice of the space, in declared order, whose label set ends at a route; whose label
+-- set ends there or below it; and whose label set goes to a receiver.
 -- Source: own choice.
--- Example: of the choices 0 0, 0 1 and 1 1, which alone end at a route, the first is 0 0.
+-- Example: if the label sets of the choices 0 0, 0 1 and 1 1 end at a route, and no others do, the
+-- first is 0 0.
 abbrev pub first_end : Space → Configuration → List ℕ → Option (List ℕ)
 first_end s c path =
     find (λ choice. list_any (λ end. same_text end path) (ends (label_set_of s.labels choice) c))
@@ -61,11 +64,11 @@ first_receipt s c receiver =
     find (λ choice. list_any (λ other. other == receiver)
     (receivers (label_set_of s.labels choice) c)) (all_choices s)
 
--- What becomes of a route: it is live, with the first choice that ends there; or it is dead, and
--- entered or not. And of a receiver: it is live, with the first choice that goes to it, or
--- unmatched.
+-- What `dead` says of a route: it is live, with the first choice that ends there; or it is dead,
+-- and entered or not. What `receivers` says of a receiver: it is live, with the first choice that
+-- goes to it; or it is unmatched.
 -- Source: own choice.
--- Example: a route that nothing but its children handles is `Entered`.
+-- Example: a route at which nothing ends, and below which something does, is `Entered`.
 abbrev pub live_or : RouteCoverage → Option (List ℕ) → RouteCoverage
 live_or dead None = dead
 live_or dead (Some choice) = route_is.Live choice

@@ -1,22 +1,22 @@
-//! What becomes of a route, and of a receiver.
+//! Whether label sets reach a route, and a receiver.
 
 use am_universe::Choice;
 
-/// What becomes of a route in a universe.
+/// Whether label sets of a universe reach a route.
 #[derive(Clone, Copy, Debug)]
 pub enum RouteCoverage {
-    /// Some label set ends there, and this choice is the first of such a set.
+    /// The label set of this choice ends there. It is the first that does, in declared order.
     Live(Choice),
-    /// No label set ends there, and some end below it.
+    /// No label set ends there, but some end below it.
     Entered,
     /// No label set ends there or below it.
     NeverEntered,
 }
 
-/// What becomes of a receiver in a universe.
+/// Whether label sets of a universe reach a receiver.
 #[derive(Clone, Copy, Debug)]
 pub enum ReceiverCoverage {
-    /// Some label set goes to it, and this choice is the first of such a set.
+    /// The label set of this choice goes to it. It is the first that does, in declared order.
     Live(Choice),
     /// No label set goes to it.
     Unmatched,

@@ -1,5 +1,10 @@
-//! The first label set that ends at each route. One search a route: what else there is to say of
-//! routes and receivers follows from these.
+//! The first label set that ends at each route. There is one search for each route, and what else
+//! there is to say of routes and receivers follows from these.
+//!
+//! A dead route is entered exactly if a route below it is live. In preorder the routes below it
+//! come right after it. The first label set that goes to a receiver is the earliest of those that
+//! end first at its routes. Two laws say so: `a_dead_route_is_entered_where_one_below_it_is_live`
+//! and `a_receiver_is_live_from_the_first_end_of_its_routes`.
 
 ghost use Rattle.std.specs.Prelude.{◌≡◌, map, Some, IfOk};
 ghost use Rattle.std.specs.List.{AllByRecursion};
@@ -15,8 +20,8 @@ use am_labels::Space;
 use am_universe::Choice;
 use std::alloc::{AllocError, Global};
 
-/// A route, by its path, with its receiver, by its position, and the first choice of the space
-/// whose label set ends there, if there is one.
+/// A route, by its path, its receiver, by its position, and the first choice of the space whose
+/// label set ends there, if there is one.
 #[derive(Clone, Copy, Debug)]
 pub struct FirstEnd {
     pub path: Path,
@@ -24,8 +29,8 @@ pub struct FirstEnd {
     pub choice: Option<Choice>,
 }
 
-/// The first choice that ends at each route of a configuration, in preorder: each route before
-/// those below it, and these before its next sibling. An `Err` only where memory was refused.
+/// Finds the first choice that ends at each route of a configuration, in preorder: each route
+/// before those below it, and these before its next sibling. Fails only if memory runs out.
 pub fn first_ends(
     alloc: Global,
     space: &Space,

@@ -27,8 +27,8 @@ ghost use Rattle.am_coverage.specs.FirstEnds.{earliest};
 ghost use Rattle.am_coverage.specs.Report.{IsRouteLine, IsReceiverLine, IsRoutesReport};
 ghost use Rattle.am_coverage.specs.Report.{IsReceiversReport};
 
-/// A route is told as live exactly where some label set of the universe ends there: with the first
-/// choice whose label set does.
+/// A route is reported as live exactly if some label set of the universe ends there. The choice
+/// that is shown is the first whose label set does.
 pub fn a_live_route_has_a_label_set()
     ensures told { (s : Space) (c : Configuration) (path choice : List ℕ)
         → IsChoiceOf s choice → Contains (ends (label_set_of s.labels choice) c) path
@@ -42,9 +42,9 @@ pub fn a_live_route_has_a_label_set()
         → comes_before other choice ≡ false }
 {}
 
-/// A route is told as dead exactly where no label set of the universe ends there, as never entered
-/// exactly where none ends there or below it, and so as entered exactly where one ends below it and
-/// none there.
+/// A route is reported as dead exactly if no label set of the universe ends there. It is reported
+/// as never entered exactly if none ends there or below it, and so as entered exactly if one ends
+/// below it and none there.
 pub fn a_dead_route_has_no_label_set()
     ensures dead { (s : Space) (c : Configuration) (path : List ℕ)
         → IsDead s c path ↔ ((choice : List ℕ) → route_coverage s c path ≢ route_is.Live choice) }
@@ -55,8 +55,8 @@ pub fn a_dead_route_has_no_label_set()
         ↔ (route_coverage s c path ≡ route_is.Entered) }
 {}
 
-/// A receiver is told as live exactly where some label set of the universe goes to it: with the
-/// first choice whose label set does.
+/// A receiver is reported as live exactly if some label set of the universe goes to it. The choice
+/// that is shown is the first whose label set does.
 pub fn a_live_receiver_has_a_label_set()
     ensures told { (s : Space) (c : Configuration) (receiver : ℕ) (choice : List ℕ)
         → IsChoiceOf s choice → Contains (receivers (label_set_of s.labels choice) c) receiver
@@ -70,8 +70,8 @@ pub fn a_live_receiver_has_a_label_set()
         → comes_before other choice ≡ false }
 {}
 
-/// A receiver is told as unmatched exactly where no label set of the universe goes to it, which is
-/// exactly where each route that has it is dead.
+/// A receiver is reported as unmatched exactly if no label set of the universe goes to it, which is
+/// so exactly if each route that has it is dead.
 pub fn an_unmatched_receiver_has_dead_routes_alone()
     ensures unmatched { (s : Space) (c : Configuration) (receiver : ℕ)
         → IsUnmatched s c receiver ↔ (receiver_coverage s c receiver ≡ receiver_is.Unmatched) }
@@ -81,9 +81,9 @@ pub fn an_unmatched_receiver_has_dead_routes_alone()
         → receiver_of t ≡ receiver → IsDead s c path) }
 {}
 
-/// A route is dead exactly where the question whether an alert ends there has no answer, and never
-/// entered exactly where the question whether one enters it has none. A receiver is unmatched
-/// exactly where the question whether an alert goes to it has none.
+/// A route is dead exactly if the question whether an alert ends there has no answer, and never
+/// entered exactly if the question whether an alert enters it has none. A receiver is unmatched
+/// exactly if the question whether an alert goes to it has none.
 pub fn a_dead_routes_question_has_no_answer()
     ensures dead { (s : Space) (w : World) (path : List ℕ)
         → IsDead s w.config path ↔ (answers s w (Part (Route Ends path)) ≡ []) }
@@ -94,7 +94,8 @@ pub fn a_dead_routes_question_has_no_answer()
 {}
 
 /// The first label set that enters a route is the earliest of those that end first at the route and
-/// at each route below it. So a dead route is told as entered exactly where one below it is live.
+/// at each route below it. So a dead route is reported as entered exactly if a route below it is
+/// live.
 pub fn a_dead_route_is_entered_where_one_below_it_is_live()
     ensures first { (s : Space) (c : Configuration) (path : List ℕ)
         → first_entry s c path
@@ -114,7 +115,7 @@ pub fn a_receiver_is_live_from_the_first_end_of_its_routes()
         ≡ earliest (map (first_end s c) (paths_to receiver c.root)) }
 {}
 
-/// Where the empty list is impossible, which matches every label set, each route is told as never
+/// If the empty list is impossible, which matches every label set, each route is reported as never
 /// entered, and each receiver as unmatched.
 pub fn an_empty_space_reaches_nothing()
     ensures routes { (s : Space) (c : Configuration) (path : List ℕ) → Contains s.impossible []
@@ -123,8 +124,8 @@ pub fn an_empty_space_reaches_nothing()
         → receiver_coverage s c receiver ≡ receiver_is.Unmatched }
 {}
 
-/// The paths that are reported are exactly those of the routes, in the order of a dictionary, so
-/// none stands twice.
+/// The paths that are reported are exactly those of the routes, in the order of a dictionary, each
+/// once.
 pub fn each_route_is_reported_once()
     ensures exactly { (c : Configuration) (path : List ℕ)
         → Contains (paths_of c) path ↔ (route_at c.root path ≢ None) }
@@ -132,8 +133,8 @@ pub fn each_route_is_reported_once()
         → IsStrictlySortedBy (slice_cmp nat_cmp) (paths_of c) }
 {}
 
-/// The line of a route says `dead` exactly where no label set of the universe ends there, and
-/// `dead never-entered` exactly where none ends there or below it.
+/// The line of a route says `dead` exactly if no label set of the universe ends there, and
+/// `dead never-entered` exactly if none ends there or below it.
 pub fn a_line_says_dead_exactly_where_the_route_is()
     ensures dead { (s : Space) (c : Configuration) (path line : List ℕ)
         → IsRouteLine s c path line → IsDead s c path
@@ -143,16 +144,15 @@ pub fn a_line_says_dead_exactly_where_the_route_is()
         ↔ (line ≡ path_text path ++ codes " dead never-entered\n") }
 {}
 
-/// The line of a receiver says `unmatched`, behind the name of that receiver, exactly where no
-/// label set of the universe goes to it.
+/// The line of a receiver says `unmatched`, after its name, exactly if no label set of the universe
+/// goes to it.
 pub fn a_line_says_unmatched_exactly_where_the_receiver_is()
     ensures unmatched { (s : Space) (c : Configuration) (receiver : ℕ) (name line : List ℕ)
         → slice_get c.receivers receiver ≡ Some name → IsReceiverLine s c receiver line
         → IsUnmatched s c receiver ↔ (line ≡ quoted_text name ++ codes " unmatched\n") }
 {}
 
-/// A configuration has at most one report of its routes over a universe, and at most one of its
-/// receivers.
+/// The same configuration and universe fix the report of the routes, and that of the receivers.
 pub fn a_report_is_one_text()
     ensures routes { (s : Space) (c : Configuration) (report other : List ℕ)
         → IsRoutesReport s c report → IsRoutesReport s c other → report ≡ other }

@@ -1,8 +1,9 @@
 //! Which routes and receivers of a configuration no label set of a universe reaches.
 //!
-//! [`routes_covered`] says of each route whether some label set ends there, and else whether some
-//! goes into it, and [`receivers_covered`] of each receiver whether some label set goes to it, with
-//! the first label set that does. [`write_routes`] and [`write_receivers`] write both as reports.
+//! [`routes_covered`] says of each route whether some label set ends there and, if none does,
+//! whether one ends below it. [`receivers_covered`] says of each receiver whether some label set
+//! goes to it, and shows the first that does. [`write_routes`] and [`write_receivers`] write the
+//! reports.
 #![tactic(auto)]
 
 // What becomes of each route and each receiver.

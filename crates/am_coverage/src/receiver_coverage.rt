@@ -1,4 +1,4 @@
-//! What becomes of each receiver.
+//! Whether label sets reach each receiver.
 
 ghost use Rattle.std.specs.Prelude.{◌≡◌, ℕ, List, Option, length, map, IfOk};
 ghost use Rattle.std.specs.List.{AllByRecursion, range_with_len};
@@ -16,11 +16,11 @@ use am_labels::Space;
 use am_universe::Choice;
 use std::alloc::{AllocError, Global};
 
-/// What becomes of each receiver of a configuration, in declared order. An `Err` only where memory
-/// was refused.
+/// Finds for each receiver of a configuration whether a label set of a space goes to it, in
+/// declared order. Fails only if memory runs out.
 ///
-/// For each route there is one search, for the first label set that ends there. What goes to a
-/// receiver first is the earliest of those of its routes.
+/// There is one search for each route, for the first label set that ends there. The first that goes
+/// to a receiver is the earliest of those of its routes.
 pub fn receivers_covered(
     alloc: Global,
     space: &Space,
@@ -41,8 +41,8 @@ pub fn receivers_covered(
     Ok(found)
 }
 
-/// What becomes of a receiver, by what is known of some of its routes and by the first choice that
-/// ends at one more.
+/// The coverage of a receiver, from that by some of its routes and the first choice that ends at
+/// one more.
 fn with_route(known: ReceiverCoverage, choice: Option<Choice>) -> ReceiverCoverage
     ensures earlier { (first : Option (List ℕ)) → known ≡ live_or_unmatched first
         → result ≡ live_or_unmatched (earlier first choice) }

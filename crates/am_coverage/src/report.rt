@@ -16,8 +16,8 @@ use crate::route_coverage::RouteFound;
 use am_config::Config;
 use am_universe::{Choice, Kind, Sink, Universe, put_all, write_set, write_text};
 
-/// Writes the report of routes: a line for each, and then `# end`. The only `Err` is `Kind::Write`,
-/// after a part of that from its front. No memory is taken.
+/// Writes a line for each route, with its path and its coverage, and then `# end`. Fails only with
+/// `Kind::Write`; then the sink has taken a proper prefix of the report. Takes no memory.
 pub fn write_routes<W: Sink>(
     universe: &Universe,
     routes: &[RouteFound],
@@ -47,9 +47,9 @@ fn write_route<W: Sink>(universe: &Universe, route: &RouteFound, out: &mut W) ->
     }
 }
 
-/// Writes the report of receivers, which is what becomes of each of the configuration: a line for
-/// each, and then `# end`. The only `Err` is `Kind::Write`, after a part of that from its front. No
-/// memory is taken.
+/// Writes a line for each receiver of a configuration, with its name and its coverage, and then
+/// `# end`. `receivers` has the coverage of each, in declared order. Fails only with `Kind::Write`;
+/// then the sink has taken a proper prefix of the report. Takes no memory.
 pub fn write_receivers<W: Sink>(
     universe: &Universe,
     config: &Config,
@@ -84,8 +84,7 @@ fn write_receiver<W: Sink>(
     }
 }
 
-/// Writes the label set of a choice, as what shows that a route or receiver is live, and ends the
-/// line.
+/// Writes the label set that shows that a route or receiver is live, and ends the line.
 fn write_live<W: Sink>(universe: &Universe, choice: &Choice, out: &mut W) -> Result<(), Kind>
     requires { IsWhole (sizes universe.now) choice.now }
     ensures { Writes W.taken W.failures out.old out.new

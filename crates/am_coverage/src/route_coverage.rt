@@ -1,4 +1,4 @@
-//! What becomes of each route.
+//! Whether label sets reach each route.
 
 ghost use Rattle.std.specs.Prelude.{◌≡◌, map, IfOk, if◌then◌else◌};
 ghost use Rattle.std.specs.List.{AllByRecursion};
@@ -15,20 +15,21 @@ use am_config::{Config, Path};
 use am_labels::Space;
 use std::alloc::{AllocError, Global};
 
-/// A route, by its path, and what becomes of it.
+/// A route, by its path, and its coverage.
 #[derive(Clone, Copy, Debug)]
 pub struct RouteFound {
     /// The path of the route.
     pub path: Path,
-    /// What becomes of it.
+    /// Whether label sets reach it.
     pub coverage: RouteCoverage,
 }
 
-/// What becomes of each route of a configuration, in preorder: each route before those below it,
-/// and these before its next sibling. An `Err` only where memory was refused.
+/// Finds for each route of a configuration whether a label set of a space ends there or below it,
+/// in preorder: each route before those below it, and these before its next sibling. Fails only if
+/// memory runs out.
 ///
-/// For each route there is one search, for the first label set that ends there. Whether a dead
-/// route is entered follows from those of the routes below it.
+/// There is one search for each route, for the first label set that ends there. Whether a dead
+/// route is entered follows from the searches for the routes below it.
 pub fn routes_covered(
     alloc: Global,
     space: &Space,
@@ -51,7 +52,7 @@ pub fn routes_covered(
     Ok(found)
 }
 
-/// What becomes of a route, by what ends first there and at each route behind it.
+/// The coverage of a route, from what ends first there and at each route after it.
 fn coverage_of(end: &FirstEnd, behind: &[FirstEnd]) -> RouteCoverage
     ensures coverage { result
         ≡ live_or (if is_live_below end.now.path behind.now then route_is.Entered
@@ -69,8 +70,8 @@ fn coverage_of(end: &FirstEnd, behind: &[FirstEnd]) -> RouteCoverage
     }
 }
 
-/// Whether some label set ends below a route, by what ends first at each route behind it. Those
-/// below it come first of these.
+/// Whether some label set ends below a route, from what ends first at each route after it. The
+/// routes below it come first among these.
 fn is_live_below(path: &Path, behind: &[FirstEnd]) -> bool
     ensures below { result ≡ is_live_below path.now behind.now }
 {

@@ -1,4 +1,4 @@
-//! The judges of prefixes, under one name: of a list of matchers, and of a question.
+//! The judges of prefixes, of a list of matchers and of a question, under one name.
 //!
 //! Everything here is defined elsewhere: [`Cube`] in `am_judged_lists`, [`Plan`] in `am_plans`.
 #![tactic(auto)]

@@ -1,4 +1,4 @@
-//! The input files: the readers of all four of them, and what they answer, under one name.
+//! The readers of all four input files, and what they return, under one name.
 //!
 //! Everything here is defined elsewhere: universe files, silences, alerts and instants in
 //! `am_list_files`, configurations in `am_config`, and what a universe file says in `am_labels`.

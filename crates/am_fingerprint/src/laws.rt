@@ -4,7 +4,7 @@ ghost use Rattle.std.specs.Prelude.{Some, None, codes};
 ghost use Rattle.am_fingerprint.specs.declared.limits.TheConstants.{FINGERPRINT_BYTES};
 ghost use Rattle.am_fingerprint.specs.Fingerprint.{AreParts, joined_parts, fingerprint_of};
 
-/// How long a fingerprint is, and that it is one of bytes.
+/// A fingerprint has 16 bytes.
 pub fn fingerprints_have_a_length()
     ensures bytes { FINGERPRINT_BYTES ≡ 16 }
     ensures length { (parts : List (Option (List ℕ)))
@@ -13,13 +13,13 @@ pub fn fingerprints_have_a_length()
         → slice_index (fingerprint_of parts) i < 256 }
 {}
 
-/// Different parts have different joined bytes: one list of parts has these bytes.
+/// Different parts have different joined bytes.
 pub fn one_list_of_parts_has_these_bytes()
     ensures same_parts { (first second : List (Option (List ℕ))) → AreParts first → AreParts second
         → joined_parts first ≡ joined_parts second → first ≡ second }
 {}
 
-/// The joined bytes of an example: the universe file `{"labels":[]}` and the question `any`, and
+/// An example of joined bytes: the universe file `{"labels":[]}` and the question `any`, and
 /// nothing else.
 pub fn an_example_of_joined_parts()
     ensures joined { joined_parts (Some (codes "{\"labels\":[]}") ∷ None ∷ None ∷ None ∷ None

@@ -1,4 +1,4 @@
-//! How long a fingerprint is. This limit is this project's own.
+//! How long a fingerprint is. This is this project's own choice.
 
-/// The bytes of a fingerprint.
+/// The length of a fingerprint in bytes.
 pub const FINGERPRINT_BYTES: usize = 16;

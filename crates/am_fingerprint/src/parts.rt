@@ -1,4 +1,4 @@
-/// What a run is given, part by part: files by their bytes, and texts as they are handed in.
+/// The inputs of a run, part by part: files as their bytes, and texts as they were given.
 #[derive(Clone, Copy)]
 pub struct Parts<'a> {
     /// The universe file.

@@ -1,8 +1,8 @@
 //! First label sets: the first that is possible in a space, and the first that ends at a route.
 //!
-//! Both are found by a search that jumps over labels that do not matter. Where no completion of a
-//! prefix will do, the search asks which labels are to blame. Cubes answer it: those of the routes'
-//! matchers, and those of the impossible lists of the space.
+//! Both are found by a search that jumps over labels that do not matter. If no completion of a
+//! prefix will do, the search asks which labels are to blame. The cubes of the routes' matchers
+//! answer it, and those of the impossible lists of the space.
 #![tactic(auto)]
 
 // The first that is possible.

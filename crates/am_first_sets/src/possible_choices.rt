@@ -1,4 +1,7 @@
 //! The first label set of a space that is possible.
+//!
+//! The impossible lists of a space are a refuter by themselves. Other refuters use it beside cubes
+//! of their own.
 
 ghost use Rattle.std.specs.Prelude.{◌≡◌, ◌↔◌, [], None, IfOk, IfSome, IfNone, slice_get, true};
 ghost use Rattle.std.proofs.Props.{props};
@@ -15,8 +18,9 @@ use am_universe::Choice;
 use am_universe::limits::MAX_LABELS;
 use std::alloc::{AllocError, Global};
 
-/// The first choice of a space, in declared order. There is none where each choice of its labels is
-/// impossible. An `Err` only where memory was refused.
+/// Returns the first choice of a space, in declared order.
+///
+/// There is none if each choice of its labels is impossible. Fails only if memory runs out.
 pub fn first_possible(alloc: Global, space: &Space) -> Result<Option<Choice>, AllocError>
     ensures first { IfOk result (λ found. found ≡ slice_get (all_choices space.now) 0) }
     ensures possible { IfOk result (λ found. IfSome found (IsChoiceOf space.now)) }
@@ -26,7 +30,7 @@ pub fn first_possible(alloc: Global, space: &Space) -> Result<Option<Choice>, Al
     Ok(first_by_jumps(&refuter))
 }
 
-/// What refutes prefixes none of whose completions is possible in a space.
+/// Refutes prefixes of which no completion is possible in a space.
 #[derive(Drop)]
 pub struct PossibleRefuter<'a> {
     space: &'a Space,
@@ -38,8 +42,9 @@ pub struct PossibleRefuter<'a> {
 impl<'a> PossibleRefuter<'a> {
     ghost use Rattle.am_first_sets.specs.PossibleRefuter.{possible_space};
 
-    /// That of a space, with a cube for each list that the space calls impossible. An `Err` only
-    /// where memory was refused.
+    /// Makes the refuter of a space, with a cube for each of its impossible lists.
+    ///
+    /// Fails only if memory runs out.
     pub fn of(alloc: Global, space: &'a Space) -> Result<PossibleRefuter<'a>, AllocError>
         ensures space { IfOk result (λ refuter. possible_space refuter ≡ space.now) }
     {
@@ -74,7 +79,7 @@ impl<'a> Refuter for PossibleRefuter<'a> {
     }
 }
 
-/// Why every completion of a prefix matches one of some impossible lists, where their cubes say so.
+/// Why every completion of a prefix matches one of some impossible lists, if their cubes say so.
 fn why_impossible(impossible: &[Cube], prefix: &Choice) -> Option<Labels>
     ensures some { IfSome result (λ labels.
         IsReasonAgainst (is_possible_by impossible.now) labels prefix.now) }

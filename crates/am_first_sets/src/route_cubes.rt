@@ -15,8 +15,8 @@ use am_search::Labels;
 use am_universe::{Choice, Universe};
 use std::alloc::{AllocError, Global};
 
-/// The matchers of a route as a cube, with its receiver and whether it has `continue`; and the same
-/// of all routes below it.
+/// The matchers of a route as a cube, with its receiver and its `continue`, and the same of all
+/// routes below it.
 #[derive(Drop)]
 pub struct RouteCubes {
     pub cube: Cube,
@@ -26,8 +26,8 @@ pub struct RouteCubes {
 }
 
 /// The way to end at a route: the cubes of the routes that have to be matched; for each of them but
-/// the first, the siblings before it, of which those that lack `continue` must not be matched; and
-/// the children of the last, none of which must be matched.
+/// the first, the earlier siblings, of which those that lack `continue` must not be matched; and
+/// the children of the last, none of which may be matched.
 #[derive(Drop)]
 pub(crate) struct RouteWay<'a> {
     wanted: Vec<&'a Cube>,
@@ -36,7 +36,7 @@ pub(crate) struct RouteWay<'a> {
 }
 
 impl RouteCubes {
-    /// The cubes of a route, and of all routes below it. An `Err` only where memory was refused.
+    /// Makes the cubes of a route, and of all routes below it. Fails only if memory runs out.
     #[cycle(cubes)]
     pub fn of(alloc: Global, universe: &Universe, route: &Route) -> Result<RouteCubes, AllocError>
         ensures cubes { IfOk result (λ cubes. (prefix : List ℕ)
@@ -53,8 +53,8 @@ impl RouteCubes {
         })
     }
 
-    /// The one way to end at the route at a path, or none where no route is there. An `Err` only
-    /// where memory was refused.
+    /// The one way to end at the route at a path; `None` if there is no such route. Fails only if
+    /// memory runs out.
     pub(crate) fn way_to_end<'a>(
         &'a self,
         alloc: Global,

@@ -1,4 +1,13 @@
 //! The first label set of a space that ends at a route.
+//!
+//! An alert ends at a route if it matches each route on the way there, matches no earlier sibling
+//! of these that lacks `continue`, and matches no child of the last. `way_to_end` gives the cubes
+//! of all of these. The alert has to be possible too, so it must not match an impossible list.
+//!
+//! The search is `first_by_jumps`. Its refuter says which labels are to blame for a prefix: one
+//! label, if a route on the way forbids its position; or all labels that a sibling, a child or an
+//! impossible list asks about, if that is certain to match. The routes on the way are asked first,
+//! because one label makes longer jumps than several.
 
 ghost use Rattle.std.specs.Prelude.{◌≡◌, IfOk, IfSome};
 ghost use Rattle.std.specs.List.{find};
@@ -16,8 +25,7 @@ use am_search::{Labels, Refuter, first_by_jumps};
 use am_universe::Choice;
 use std::alloc::{AllocError, Global};
 
-/// The routes of a configuration, over a space: each may be asked for the first label set of the
-/// space that ends there.
+/// Finds the first label set of a space that ends at a route of a configuration.
 #[derive(Drop)]
 pub struct RouteEnds<'a> {
     possible: PossibleRefuter<'a>,
@@ -30,8 +38,10 @@ pub struct RouteEnds<'a> {
 impl<'a> RouteEnds<'a> {
     ghost use Rattle.am_first_sets.specs.RouteEnds.{ends_space, ends_config};
 
-    /// The routes of a configuration, with a cube for the matchers of each, and one for each list
-    /// that the space calls impossible. An `Err` only where memory was refused.
+    /// Prepares the search: makes a cube for the matchers of each route, and for each impossible
+    /// list.
+    ///
+    /// Fails only if memory runs out.
     pub fn of(
         alloc: Global,
         space: &'a Space,
@@ -49,9 +59,10 @@ impl<'a> RouteEnds<'a> {
         })
     }
 
-    /// The first choice of the space, in declared order, whose label set ends at the route at a
-    /// path, if there is one. Without a route at the path there is none. An `Err` only where memory
-    /// was refused.
+    /// Returns the first choice of the space, in declared order, whose label set ends at the route
+    /// at a path.
+    ///
+    /// `None` if there is no such choice, or no such route. Fails only if memory runs out.
     pub fn first_end(&self, alloc: Global, path: &Path) -> Result<Option<Choice>, AllocError>
         ensures first { IfOk result (λ found. found ≡ find (is_end_at (ends_space self.now).labels
             (ends_config self.now) path.now) (all_choices (ends_space self.now))) }
@@ -68,7 +79,7 @@ impl<'a> RouteEnds<'a> {
     }
 }
 
-/// What refutes prefixes none of whose completions is possible and goes a way.
+/// Refutes prefixes of which no completion is possible and goes a way.
 #[derive(Drop)]
 struct RouteRefuter<'a> {
     possible: &'a PossibleRefuter<'a>,

@@ -1,4 +1,7 @@
 //! Which of all alerts a list of matchers matches.
+//!
+//! Two searches tell: one for a label set that the list matches, and one for a label set that it
+//! does not match.
 
 ghost use Rattle.std.specs.Prelude.{◌≡◌, ◌≢◌, [], ◌∷◌, List, false, IfOk, IfErr, OnOk, IsTrue};
 ghost use Rattle.am_universe.specs.declared.kind.Kind.TheVariants as kinds;
@@ -19,21 +22,21 @@ use am_reasons::{Candidate, first_meeting};
 use am_universe::{Kind, Universe};
 use std::alloc::{AllocError, Global};
 
-/// How far a list of matchers reaches.
+/// Whether a list of matchers matches all alerts, some or none.
 #[derive(Clone, Copy)]
 pub(crate) enum Extent {
     /// It matches no alert.
     NoAlert,
     /// It matches every alert.
     EachAlert,
-    /// It matches some alerts, and not others.
+    /// It matches some alerts, but not all.
     SomeAlerts,
 }
 
-/// Which alerts over an alphabet a list matches, those left out that the impossible lists of a
-/// space match. The space declares no label, before and after.
+/// Finds which alerts over an alphabet a list matches, of those that no impossible list of a space
+/// matches. The space declares no label, before and after.
 ///
-/// `Limit`, `Unproved` and `Memory` as [`universe_for_lists`] has them.
+/// Fails with `Limit`, `Unproved` and `Memory` as [`universe_for_lists`] does.
 pub(crate) fn extent_of(
     alloc: Global,
     alphabet: Alphabet,
@@ -56,7 +59,7 @@ pub(crate) fn extent_of(
     Ok(extent?)
 }
 
-/// Which label sets of a space a list matches. An `Err` only where memory was refused.
+/// Finds which label sets of a space a list matches. Fails only if memory runs out.
 fn extent_in(alloc: Global, space: &Space, matchers: &Matchers) -> Result<Extent, AllocError>
     ensures { IfOk result (IsExtent (IsSetOf space.now) matchers.now) }
 {
@@ -71,8 +74,8 @@ fn extent_in(alloc: Global, space: &Space, matchers: &Matchers) -> Result<Extent
     Ok(Extent::SomeAlerts)
 }
 
-/// Whether a list matches some label set of a space (`wanted`), or does not match some. The list is
-/// that of the cube.
+/// Whether a list matches a label set of a space, if `wanted`, or does not match one. The cube is
+/// that of the list.
 fn has_set(possible: &PossibleRefuter<'_>, cube: &Cube, wanted: bool) -> bool
     ensures some { (ms : List Condition)
         → IsCubeOf (possible_space possible.now).labels ms cube.now

@@ -1,10 +1,10 @@
-//! Which silences and inhibition rules do nothing, and which silences hide everything, for any
+//! Which inhibition rules and silences do nothing, and which silences hide everything, for any
 //! alert.
 //!
 //! [`universe_for_lists`] makes a universe that stands for every alert, for some lists of matchers.
-//! [`find_silences`] says of each silence of a world whether it hides any alert, and whether it
-//! hides every one; [`push_silence_line`] says it in a line. [`find_rules`] says of each inhibition
-//! rule why by it no alert inhibits another, if none does; [`push_rule_line`] says it in a line.
+//! [`find_silences`] finds which silences of a world hide no alert, or every alert, and
+//! [`push_silence_line`] writes the line of one. [`find_rules`] finds why no alert inhibits another
+//! by an inhibition rule, if none does, and [`push_rule_line`] writes the line of one.
 #![tactic(auto)]
 
 // A universe for some lists of matchers, and which of all alerts a list matches.

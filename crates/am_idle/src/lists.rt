@@ -1,4 +1,8 @@
 //! A universe that stands for every alert, for some lists of matchers.
+//!
+//! A rule and a silence ask about a few labels. So each gets a universe of its own, made of its
+//! matchers and of the impossible lists alone. One universe for all might have no room: the routes
+//! may ask about 64 labels, and a rule for others.
 
 ghost use Rattle.std.specs.Prelude.{◌≡◌, ◌≢◌, [], map, IfOk, IfErr, OnOk, fold};
 ghost use Rattle.am_universe.specs.declared.kind.Kind.TheVariants as kinds;
@@ -13,11 +17,12 @@ use am_labels::{Matchers, Space};
 use am_universe::{Kind, Universe};
 use std::alloc::{AllocError, Global};
 
-/// A universe that stands for every alert over an alphabet, for some lists of matchers and the
-/// impossible lists of a space that declares no label.
+/// Makes a universe that stands for every alert over an alphabet, for some lists of matchers and
+/// the impossible lists of a space that declares no label.
 ///
-/// `Limit` where there is no room for the labels that are asked of; `Unproved` where the classes of
-/// one could not be computed, or one needs a value and has no label name; `Memory`.
+/// Fails with `Limit` if there is no room for the labels that the lists ask about; with `Unproved`
+/// if the classes of one could not be computed, or if one needs a value and its name is no label
+/// name; and with `Memory`.
 pub fn universe_for_lists(
     alloc: Global,
     alphabet: Alphabet,
@@ -38,8 +43,8 @@ pub fn universe_for_lists(
     Ok(made.universe)
 }
 
-/// The labels that some lists of matchers ask of, and then those that the impossible lists of a
-/// space ask of. An `Err` only where memory was refused.
+/// The labels that some lists of matchers ask about, and then those that the impossible lists of a
+/// space ask about. Fails only if memory runs out.
 fn asked_by_lists<'m>(
     alloc: Global,
     lists: &[&'m Matchers],

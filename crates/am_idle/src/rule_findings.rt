@@ -1,4 +1,4 @@
-//! What is to be said of all inhibition rules of a configuration.
+//! Which inhibition rules of a configuration are idle.
 
 ghost use Rattle.std.specs.Prelude.{◌≡◌, ◌≢◌, ◌++◌, [], ◌∷◌, IfOk, IfErr, OnOk};
 ghost use Rattle.std.specs.List.{AllZip};
@@ -13,22 +13,21 @@ use am_labels::Space;
 use am_universe::Kind;
 use std::alloc::Global;
 
-/// Why it is not known what is to be said of rules.
+/// Why it is not known whether rules are idle.
 #[derive(Clone, Copy)]
 pub struct RuleFault {
     /// The position of the rule that is refused.
     pub position: usize,
+    /// Why it is refused: `Limit`, `Unproved` or `Memory`.
     pub kind: Kind,
 }
 
-/// Why each of some rules is idle, in their order, for the alerts over an alphabet, those left out
-/// that the impossible lists of a space match; nothing for a rule that is not. The space declares
-/// no label, before and after.
+/// Finds why each of some inhibition rules is idle, in their order, for every alert over an
+/// alphabet that no impossible list of a space matches. It is `None` for a rule that is not idle.
+/// The space declares no label, before and after.
 ///
-/// The fault is that of the first rule that is refused. `Limit` where there is no room for the
-/// labels that its matchers and the impossible lists ask of; `Unproved` where it could not be
-/// computed which texts of a label these tell apart, or where one that has no label name needs a
-/// value; `Memory`, at whichever rule, where memory was refused.
+/// Fails for the first rule that is refused, with the fault of [`idle_reason`], or with `Memory`
+/// for any rule.
 pub fn find_rules(
     alloc: Global,
     alphabet: Alphabet,
@@ -53,7 +52,7 @@ pub fn find_rules(
     Ok(found)
 }
 
-/// Adds what is to be said of the rule at a position. It fails only where memory ran out.
+/// Adds what was found of the rule at a position. Fails only if memory runs out.
 fn push_reason(
     found: &mut Vec<Option<IdleReason>>,
     position: usize,
@@ -71,7 +70,7 @@ fn push_reason(
     }
 }
 
-/// How many findings there are.
+/// Returns the number of findings: the rules that are idle.
 pub fn count_idle_rules(found: &[Option<IdleReason>]) -> usize
     ensures count { result ≡ count_idle_rules found.now }
 {

@@ -1,4 +1,4 @@
-//! What is said of an inhibition rule, as a line.
+//! The line of an inhibition rule.
 
 ghost use Rattle.std.specs.Prelude.{◌≡◌, ◌++◌, string_bytes, OnOk};
 ghost use Rattle.am_idle.specs.Rules.{AreWithin};
@@ -12,8 +12,8 @@ use am_labels::Matchers;
 use am_report_texts::{gap_before, push_matcher};
 use std::alloc::{AllocError, Global};
 
-/// Adds the line of the rule at a position; nothing where nothing is said of it. An `Err` only
-/// where memory was refused.
+/// Adds the line of the rule at a position, or nothing if the rule is not idle. The positions in
+/// the reason are positions of the rule's matchers. Fails only if memory runs out.
 pub fn push_rule_line(
     alloc: Global,
     text: &mut String,

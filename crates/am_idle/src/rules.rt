@@ -1,4 +1,9 @@
-//! What is to be said of inhibition rules: that one is idle, and why.
+//! Why an inhibition rule is idle.
+//!
+//! The matchers of the two sides are literals. `first_pair` searches for two label sets that agree
+//! in the labels of `equal` and meet one side each. If there are none, `find_pair_reason` leaves
+//! out each literal that is not needed. If there are, two more searches tell whether some two do
+//! not both match both sides.
 
 ghost use Rattle.std.specs.Prelude.{◌≡◌, ◌≢◌, List, [], ◌∷◌, IfOk, IfErr, OnOk};
 ghost use Rattle.am_universe.specs.declared.kind.Kind.TheVariants as kinds;
@@ -18,28 +23,28 @@ use am_labels::Space;
 use am_universe::{Kind, Universe};
 use std::alloc::{AllocError, Global};
 
-/// Why by a rule no alert inhibits another.
+/// Why no alert inhibits another by a rule.
 #[derive(Drop)]
 pub enum IdleReason {
-    /// No two alerts that have the same values for the labels in `equal` meet these matchers of the
-    /// source side and of the target side, which are given by their positions. Without any of them
-    /// two such alerts do.
+    /// These matchers of the source side and of the target side, given by their positions,
+    /// contradict each other: no two alerts with the same values for the labels in `equal` meet
+    /// them. If any one of them is left out, two such alerts meet the others.
     Contradiction {
         source: Vec<usize>,
         target: Vec<usize>,
     },
-    /// Two such alerts match the source side and the target side, and each such two both match
-    /// both.
+    /// Two such alerts match one side each, but any two that do both match both sides.
     Both,
 }
 
-/// Why by a rule no alert over an alphabet inhibits another, those left out that the impossible
-/// lists of a space match; `None` where some alert does. The space declares no label, before and
-/// after.
+/// Finds why no alert inhibits another by a rule, or `None` if one does, for the alerts over an
+/// alphabet that no impossible list of a space matches. The space declares no label, before and
+/// after. Which alerts inhibit others is as in the Alertmanager configuration reference 0.25,
+/// "<inhibit_rule>".
 ///
-/// `Limit` where there is no room for the labels that the matchers of the rule and the impossible
-/// lists ask of; `Unproved` where it could not be computed which texts of a label these tell apart,
-/// or where one that has no label name needs a value; `Memory`.
+/// Fails with `Limit` if there is no room for the labels that the matchers of the rule and the
+/// impossible lists ask about; with `Unproved` if it could not be computed which texts of a label
+/// these tell apart, or if a label needs a value and its name is no label name; and with `Memory`.
 pub fn idle_reason(
     alloc: Global,
     alphabet: Alphabet,
@@ -63,8 +68,8 @@ pub fn idle_reason(
     Ok(reason?)
 }
 
-/// Why by a rule no label set of a space inhibits another, if so it is. An `Err` only where memory
-/// was refused.
+/// Finds why no label set of a space inhibits another by a rule, if none does. Fails only if memory
+/// runs out.
 fn reason_in(alloc: Global, space: &Space, rule: &Rule) -> Result<Option<IdleReason>, AllocError>
     ensures { IfOk result (IsFoundOf (AreMeeting space.now rule.now.equal) rule.now) }
 {

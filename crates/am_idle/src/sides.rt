@@ -22,7 +22,7 @@ use am_reasons::{Candidate, find_pair_reason, first_pair};
 use am_universe::Universe;
 use std::alloc::{AllocError, Global};
 
-/// The positions of the labels of some names, those left out that the universe does not declare.
+/// The positions of the labels with these names, without those that the universe does not declare.
 pub(crate) fn labels_named(
     alloc: Global,
     universe: &Universe,
@@ -41,8 +41,8 @@ pub(crate) fn labels_named(
 }
 
 /// Which matchers of the two sides of a rule contradict each other; `None` where two label sets of
-/// a space match the sides and have the same positions at the labels that are named in `equal`. An
-/// `Err` only where memory was refused.
+/// a space match the sides and have the same positions at the labels that are named in `equal`.
+/// Fails only if memory runs out.
 pub(crate) fn why_contradicting(
     alloc: Global,
     possible: &PossibleRefuter<'_>,
@@ -92,7 +92,7 @@ fn contradiction_of(
     Ok(Some(IdleReason::Contradiction { source, target }))
 }
 
-/// The cube of each matcher of a list. An `Err` only where memory was refused.
+/// The cube of each matcher of a list. Fails only if memory runs out.
 fn cubes_of_matchers(
     alloc: Global,
     universe: &Universe,
@@ -108,8 +108,7 @@ fn cubes_of_matchers(
     Ok(cubes)
 }
 
-/// The literals that ask for cubes to match, each of them named. An `Err` only where memory was
-/// refused.
+/// The literals that ask for cubes to match, each of them named. Fails only if memory runs out.
 fn literals_of(alloc: Global, cubes: &[Cube]) -> Result<Vec<Candidate<'_>>, AllocError>
     ensures wanted { IfOk result (λ literals. AreWantedFor cubes.now literals.items) }
     ensures named { IfOk result (λ literals. AreAllNamed literals.items) }
@@ -126,7 +125,7 @@ fn literals_of(alloc: Global, cubes: &[Cube]) -> Result<Vec<Candidate<'_>>, Allo
     Ok(literals)
 }
 
-/// The positions of the literals that are named. An `Err` only where memory was refused.
+/// The positions of the literals that are named. Fails only if memory runs out.
 fn named_positions(alloc: Global, literals: &[Candidate<'_>]) -> Result<Vec<usize>, AllocError>
     ensures { IfOk result (λ positions.
         positions.items ≡ positions_where (λ k. k.named) 0 literals.now) }
@@ -142,7 +141,7 @@ fn named_positions(alloc: Global, literals: &[Candidate<'_>]) -> Result<Vec<usiz
 
 /// Whether two label sets of a space have the same positions at some labels, match the one the
 /// source side and the other the target side, and do not both match both. The cubes are those of
-/// the sides. No memory is taken.
+/// the sides. Takes no memory.
 pub(crate) fn has_inhibiting(
     possible: &PossibleRefuter<'_>,
     shared: &[usize],

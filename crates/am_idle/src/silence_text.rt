@@ -1,4 +1,4 @@
-//! What is said of a silence, as a line.
+//! The line of a silence.
 
 ghost use Rattle.std.specs.Prelude.{◌≡◌, ◌++◌, string_bytes, OnOk};
 ghost use Rattle.am_idle.specs.SilenceText.{silence_line, silence_kind_text};
@@ -8,8 +8,8 @@ use am_list_files::Silence;
 use am_report_texts::push_matchers;
 use std::alloc::{AllocError, Global};
 
-/// Adds the line of the silence at a position; nothing where nothing is said of it. An `Err` only
-/// where memory was refused.
+/// Adds the line of the silence at a position, or nothing without a finding. Fails only if memory
+/// runs out.
 pub fn push_silence_line(
     alloc: Global,
     text: &mut String,
@@ -30,7 +30,7 @@ pub fn push_silence_line(
     text.push_str("\n")
 }
 
-/// What stands before the matchers.
+/// The text before the matchers.
 fn silence_kind_text(finding: SilenceFinding) -> &'static str
     ensures { result.now ≡ silence_kind_text finding }
 {

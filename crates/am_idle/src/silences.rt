@@ -1,4 +1,4 @@
-//! What is to be said of silences: that one does nothing, or hides everything.
+//! Which silences do nothing, or hide everything.
 
 ghost use Rattle.std.specs.Prelude.{◌≡◌, ◌≢◌, ◌<◌, [], ◌∷◌, ◌++◌, length, slice_get, Some, IfOk};
 ghost use Rattle.std.specs.Prelude.{IfErr, OnOk};
@@ -18,34 +18,35 @@ use am_list_files::Alerts;
 use am_universe::Kind;
 use std::alloc::{AllocError, Global};
 
-/// What is to be said of a silence.
+/// What is wrong with a silence that is not over, or worth a note.
 #[derive(Clone, Copy)]
 pub enum SilenceFinding {
-    /// It hides no alert.
+    /// It hides no alert, at any instant.
     Idle,
-    /// It hides every alert.
+    /// It hides every alert while it is active.
     All,
-    /// It hides none of the alerts that fire.
+    /// It is active and hides none of the alerts that fire, though it hides others.
     Unused,
 }
 
-/// Why it is not known what is to be said of silences.
+/// Why it is not known what is wrong with silences.
 #[derive(Clone, Copy)]
 pub struct SilenceFault {
     /// The position of the silence that is refused.
     pub position: usize,
+    /// Why it is refused: `Limit`, `Unproved` or `Memory`.
     pub kind: Kind,
 }
 
-/// What is to be said of each silence of a world, in their order, for the alerts over an alphabet,
-/// those left out that the impossible lists of a space match. The space declares no label, before
-/// and after. Nothing is said of a silence that is over at the world's instant. Whether one hides
-/// none of the alerts that fire is said only where `alerts_given`.
+/// Finds what is wrong with each silence of a world, in their order, for every alert over an
+/// alphabet that no impossible list of a space matches. It is `None` for a silence that is over at
+/// the world's instant, or with which nothing is wrong. `Unused` is found only if `alerts_given`.
+/// The space declares no label, before and after.
 ///
-/// The fault is that of the first silence that is refused. `Limit` where there is no room for the
-/// labels that its matchers and the impossible lists ask of; `Unproved` where it could not be
-/// computed which texts of a label these tell apart, or where one that has no label name needs a
-/// value; `Memory`, at whichever silence, where memory was refused.
+/// Fails for the first silence that is refused: with `Limit` if there is no room for the labels
+/// that its matchers and the impossible lists ask about; with `Unproved` if it could not be
+/// computed which texts of a label these tell apart, or if a label needs a value and its name is no
+/// label name; or with `Memory` for any silence. A silence that is over is never refused.
 pub fn find_silences(
     alloc: Global,
     alphabet: Alphabet,
@@ -72,7 +73,7 @@ pub fn find_silences(
     Ok(found)
 }
 
-/// Adds what is to be said of the silence at a position. It fails only where memory ran out.
+/// Adds what was found of the silence at a position. Fails only if memory runs out.
 fn push_finding(
     found: &mut Vec<Option<SilenceFinding>>,
     position: usize,
@@ -90,7 +91,7 @@ fn push_finding(
     }
 }
 
-/// What is to be said of the silence at a position. Its faults are those of [`find_silences`].
+/// Finds what is wrong with the silence at a position. Fails as [`find_silences`] does.
 fn find_silence(
     alloc: Global,
     alphabet: Alphabet,
@@ -129,8 +130,8 @@ fn find_silence(
     }
 }
 
-/// Whether the silence at a position is active, and hides none of the alerts that fire. An `Err`
-/// only where memory was refused.
+/// Whether the silence at a position is active, and hides none of the alerts that fire. Fails only
+/// if memory runs out.
 fn is_unused(alloc: Global, world: &World, position: usize) -> Result<bool, AllocError>
     requires { position < length world.now.silences }
     ensures { IfOk result (λ unused. (silence : _)
@@ -145,7 +146,7 @@ fn is_unused(alloc: Global, world: &World, position: usize) -> Result<bool, Allo
     Ok(!found)
 }
 
-/// Whether a list of matchers matches one of some alerts. An `Err` only where memory was refused.
+/// Whether a list of matchers matches one of some alerts. Fails only if memory runs out.
 fn matches_any(alloc: Global, matchers: &Matchers, alerts: &Alerts) -> Result<bool, AllocError>
     ensures { IfOk result (λ found.
         found ≡ list_any (λ alert. all_hold alert matchers.now) alerts.now) }
@@ -159,14 +160,15 @@ fn matches_any(alloc: Global, matchers: &Matchers, alerts: &Alerts) -> Result<bo
     Ok(false)
 }
 
-/// How many findings there are: silences that hide no alert, or every one.
+/// Returns the number of findings: silences that hide no alert, or every alert.
 pub fn count_silence_findings(found: &[Option<SilenceFinding>]) -> usize
     ensures count { result ≡ count_silence_findings found.now }
 {
     found.iter().filter(|said| is_finding(**said)).count()
 }
 
-/// How many notes there are: silences that hide none of the alerts that fire.
+/// Returns the number of notes: active silences that hide none of the alerts that fire, though they
+/// hide others.
 pub fn count_silence_notes(found: &[Option<SilenceFinding>]) -> usize
     ensures count { result ≡ count_silence_notes found.now }
 {

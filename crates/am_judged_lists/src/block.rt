@@ -1,4 +1,4 @@
-//! A few cubes side by side, of which it is asked at once which may pass.
+//! A few cubes, which are asked at once which of them may pass.
 
 ghost use Rattle.std.specs.Prelude.{◌≡◌, ℕ, ◌<◌, ◌≤◌, length, slice_get, slice_index_or};
 ghost use Rattle.std.specs.Prelude.{Some, IfOk, IsTrue, false};
@@ -59,7 +59,7 @@ struct LabelRows {
 }
 
 impl LabelRows {
-    /// The rows of a label of some size. An `Err` only where memory was refused.
+    /// The rows of a label of some size. Fails only if memory runs out.
     ///
     /// A cube without a mask of the label stays in each row, so only the masks are gone through.
     fn of(alloc: Global, cubes: &[Cube], label: usize, size: usize) -> Result<LabelRows, AllocError>
@@ -105,7 +105,7 @@ pub(crate) struct Block {
 }
 
 impl Block {
-    /// The block of some cubes. An `Err` only where memory was refused.
+    /// The block of some cubes. Fails only if memory runs out.
     pub(crate) fn of(
         alloc: Global,
         universe: &Universe,
@@ -156,7 +156,7 @@ impl Block {
 }
 
 /// For each number of first labels, the places of the cubes that permit some choice and have masks
-/// of these labels alone. An `Err` only where memory was refused.
+/// of these labels alone. Fails only if memory runs out.
 fn sets_within(
     alloc: Global,
     universe: &Universe,
@@ -173,7 +173,7 @@ fn sets_within(
     Ok(sets)
 }
 
-/// The rows of the labels of which a cube has a mask. An `Err` only where memory was refused.
+/// The rows of the labels of which a cube has a mask. Fails only if memory runs out.
 fn rows_of_labels(
     alloc: Global,
     universe: &Universe,

@@ -7,17 +7,17 @@ use crate::judged_list::JudgedList;
 use am_search::Verdict;
 use am_universe::Choice;
 
-/// What is asked of a verdict.
+/// What is asked of a verdict. A verdict of which it is true passes.
 #[derive(Clone, Copy)]
 pub enum Certainty {
-    /// Whether it is not excluded: it is not `No`.
+    /// Whether it is not `No`.
     May,
-    /// Whether it is certain: it is `Yes`.
+    /// Whether it is `Yes`.
     Must,
 }
 
 impl Certainty {
-    /// The one that `not` makes of it: `not q` is not excluded where `q` is not certain.
+    /// The other question. `not q` passes one exactly if `q` does not pass the other.
     pub fn other(self) -> Certainty
         ensures other { result ≡ other self }
     {
@@ -48,7 +48,7 @@ impl Certainty {
         }
     }
 
-    /// Whether `not` of the verdict of a list passes at a prefix.
+    /// Whether the opposite of the verdict of a list passes at a prefix.
     pub fn fails<L: JudgedList>(self, list: &L, prefix: &Choice) -> bool
         ensures verdict { result ≡ not (passes (other self) (L.verdict list.now prefix.now)) }
     {

@@ -45,8 +45,9 @@ impl LabelMask {
     }
 }
 
-/// Which positions of each label a list of matchers permits. The label set of a whole choice
-/// matches the list where each of its positions is permitted.
+/// Which positions of each label a list of matchers permits.
+///
+/// The label set of a whole choice matches the list exactly if each of its positions is permitted.
 #[derive(Drop)]
 pub struct Cube {
     /// No choice is permitted.
@@ -70,10 +71,10 @@ impl Model for Cube {
 }
 
 impl Cube {
-    /// The cube of a list of matchers. An `Err` only where memory was refused.
+    /// Makes the cube of a list of matchers, over a universe. Fails only if memory runs out.
     ///
-    /// A matcher of a label that the universe does not declare is the same at every choice: where
-    /// it is false no choice is permitted, and where it is true it says nothing.
+    /// A matcher of a label that the universe does not declare has the same truth at every choice.
+    /// If it is false, no choice is permitted; if it is true, it has no effect.
     pub fn of(alloc: Global, matchers: &Matchers, universe: &Universe) -> Result<Cube, AllocError>
         ensures exact { IfOk result (λ cube. IsCubeOf universe.now matchers.now cube) }
     {
@@ -81,7 +82,7 @@ impl Cube {
         Cube::of_rows(alloc, universe, rows.as_slice(), &[])
     }
 
-    /// Permits the positions of a mask alone, of a label behind those that have one. After an `Err`
+    /// Permits only the positions of a mask, of a label after those that have one. If it fails,
     /// nothing has changed.
     fn restrict(&mut self, label: usize, mask: Mask, size: usize) -> Result<(), AllocError>
         requires label { label < MAX_LABELS }
@@ -149,9 +150,11 @@ impl Cube {
         self.masks.iter().any(|m| m.label == label)
     }
 
-    /// What the list says of the completions of a prefix: `Yes`, the label set of each matches it;
-    /// `No`, that of none does; `Open`, those of only some do. So it is at each prefix that the
-    /// universe admits. It takes no memory, and looks at no label behind the prefix.
+    /// The verdict of the list at a prefix: whether the label sets of its completions match the
+    /// list.
+    ///
+    /// `Yes`: all do; `No`: none does; `Open`: only some do. This holds at each prefix that the
+    /// universe admits. Takes no memory, and looks at no label after the prefix.
     pub fn judge(&self, prefix: &Choice) -> Verdict
         ensures verdict { result ≡ verdict_at self.now prefix.now }
     {
@@ -188,9 +191,11 @@ impl Cube {
         self.reach <= prefix.len() && self.may(prefix)
     }
 
-    /// Why the verdict at a prefix is `No`, where it is: the first label whose position is
-    /// forbidden, or no label where no choice is permitted. Whatever has the prefix's position
-    /// there is forbidden too.
+    /// Why the verdict at a prefix is `No`; `None` if it is not.
+    ///
+    /// It is the first label whose position is forbidden, or no label if no choice is permitted.
+    /// Each prefix that is at least as long and has the same position there has the verdict `No`
+    /// too.
     pub fn why_not(&self, prefix: &Choice) -> Option<Labels>
         ensures some { IfSome result (λ labels. IsReason self.now No labels prefix.now) }
         ensures none { IfNone result (is_no (verdict_at self.now prefix.now) ≡ false) }
@@ -208,8 +213,10 @@ impl Cube {
         None
     }
 
-    /// Why the verdict at a prefix is `Yes`, where it is: all labels that have a mask. Whatever has
-    /// the prefix's positions there is permitted too.
+    /// Why the verdict at a prefix is `Yes`; `None` if it is not.
+    ///
+    /// It is all labels that have a mask. Each prefix that is at least as long and has the same
+    /// positions there has the verdict `Yes` too.
     pub fn why(&self, prefix: &Choice) -> Option<Labels>
         ensures some { IfSome result (λ labels. IsReason self.now Yes labels prefix.now) }
         ensures none { IfNone result (is_yes (verdict_at self.now prefix.now) ≡ false) }

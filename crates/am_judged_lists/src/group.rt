@@ -1,4 +1,8 @@
-//! Lists of which the first that passes is looked for.
+//! Many lists, of which the first that passes is wanted.
+//!
+//! The silences and the pairs of a world, and the impossible lists of a space, are many lists. A
+//! judge asks whether any of them passes. If there are enough of them, cubes are asked together, in
+//! a table.
 
 ghost use Rattle.std.specs.Prelude.{◌≡◌, ℕ, List, map, length, IfOk, IfSome, IfNone};
 ghost use Rattle.std.specs.List.{list_any};
@@ -12,19 +16,19 @@ use crate::table::Table;
 use am_universe::{Choice, Universe};
 use std::alloc::{AllocError, Global};
 
-/// From how many lists on a table is faster than to ask each.
+/// The least number of lists for which a table is faster than to ask each.
 const LEAST_LISTS: usize = 4;
 
-/// Lists of which the first is looked for whose verdict passes.
+/// Many lists, of which the first is wanted whose verdict passes.
 pub enum Group<L> {
-    /// Each is asked in its turn.
+    /// Each is asked in turn.
     Lists(Vec<L>),
-    /// They are cubes, and many are asked at once.
+    /// They are cubes, many of which are asked at once.
     Cubes(Table),
 }
 
 impl<L: JudgedList> Group<L> {
-    /// The group of some lists over a universe. An `Err` only where memory was refused.
+    /// Makes the group of some lists over a universe. Fails only if memory runs out.
     pub fn of(alloc: Global, universe: &Universe, lists: Vec<L>) -> Result<Group<L>, AllocError>
         ensures same { IfOk result (λ group. (prefix : List ℕ) → verdicts_in L.verdict prefix group
             ≡ map (λ list. L.verdict list prefix) lists.items) }
@@ -38,7 +42,7 @@ impl<L: JudgedList> Group<L> {
         }
     }
 
-    /// The first list from a place on whose verdict at a prefix passes. No memory is taken.
+    /// The first list, from the index `from` on, whose verdict at a prefix passes. Takes no memory.
     pub fn next(&self, certainty: Certainty, prefix: &Choice, from: usize) -> Option<usize>
         ensures some { IfSome result (λ i.
             IsNext (passes certainty) (verdicts_in L.verdict prefix.now self.now) from i) }

@@ -10,8 +10,7 @@ use crate::cube::Cube;
 use am_labels::Space;
 use std::alloc::{AllocError, Global};
 
-/// The cube of each impossible list of a space, in declared order. An `Err` only where memory was
-/// refused.
+/// The cube of each impossible list of a space, in declared order. Fails only if memory runs out.
 pub fn impossible_cubes(alloc: Global, space: &Space) -> Result<Vec<Cube>, AllocError>
     ensures verdicts { IfOk result (λ cubes. (prefix : List ℕ)
         → IsTrue (admits (sizes space.now.labels) prefix)

@@ -15,17 +15,18 @@ use am_search::Verdict;
 use am_universe::{Choice, Universe};
 use std::alloc::{AllocError, Global};
 
-/// A list of matchers, as a judge looks at it: made once, of the rows of its matchers, and asked at
-/// prefixes of choices.
+/// A list of matchers as a judge sees it: made from the rows of its matchers, and asked at
+/// prefixes.
 pub trait JudgedList: Drop {
-    /// What is answered at a prefix.
+    /// The verdict that it returns at a prefix.
     ghost verdict: { Self → List ℕ → Verdict };
 
-    /// At which prefixes of choices, over labels of these sizes, that is the verdict of the list.
+    /// At which prefixes, over labels of these sizes, that is the verdict of the list of matchers.
     ghost Knows: { List ℕ → List ℕ → Type 0 };
 
-    /// The list of which these are the rows: those of `rows`, and behind them those of `more`. An
-    /// `Err` only where memory was refused.
+    /// Makes the list of which these are the rows: those of `rows`, and then those of `more`.
+    ///
+    /// They must be the rows of some list of matchers. Fails only if memory runs out.
     fn of_rows(
         alloc: Global,
         universe: &Universe,
@@ -39,7 +40,7 @@ pub trait JudgedList: Drop {
             → Knows (sizes universe.now) prefix
             → verdict list prefix ≡ verdict_of_list universe.now ms prefix) };
 
-    /// What is known of the list at a prefix.
+    /// The verdict at a prefix.
     fn judge(&self, prefix: &Choice) -> Verdict
         ensures verdict { result ≡ verdict self.now prefix.now };
 
@@ -51,16 +52,18 @@ pub trait JudgedList: Drop {
     fn must(&self, prefix: &Choice) -> bool
         ensures must { result ≡ is_yes (verdict self.now prefix.now) };
 
-    /// Whether the verdict is known to be `No` at every prefix.
+    /// Whether the verdict is known to be `No` at every prefix. `false` says nothing.
     fn is_never(&self) -> bool
         ensures never { IsTrue result → (prefix : List ℕ) → verdict self.now prefix ≡ No };
 
-    /// Whether this list and another are known to have the same verdict at every prefix.
+    /// Whether this list and another are known to have the same verdict at every prefix. `false`
+    /// says nothing.
     fn is_same(&self, other: &Self) -> bool
         ensures same { IsTrue result → (prefix : List ℕ)
             → verdict self.now prefix ≡ verdict other.now prefix };
 
-    /// The same lists as cubes, where they are cubes. Else they come back as an `Err`.
+    /// Returns the lists as cubes, if they are cubes. Otherwise returns them unchanged, as an
+    /// `Err`.
     fn into_cubes(lists: Vec<Self>) -> Result<Vec<Cube>, Vec<Self>>
         ensures cubes { IfOk result (λ cubes. (prefix : List ℕ)
             → map (λ cube. verdict_at cube prefix) cubes.items

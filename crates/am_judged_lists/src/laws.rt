@@ -10,8 +10,8 @@ ghost use Rattle.am_labels.specs.Matcher.{Condition, all_hold};
 ghost use Rattle.am_search.specs.declared.verdict.Verdict.TheVariants.{Yes, No, Open};
 ghost use Rattle.am_judged_lists.specs.Verdicts.{matches_at, verdict_of_list};
 
-/// The verdict of a list at a prefix is `Yes` exactly where the label set of each completion
-/// matches the list.
+/// The verdict of a list at a prefix is `Yes` exactly if the label set of each completion matches
+/// the list.
 pub fn yes_is_all()
     ensures exactly { (u : List Label) (ms : List Condition) (prefix : List ℕ)
         → (verdict_of_list u ms prefix ≡ Yes)
@@ -19,8 +19,10 @@ pub fn yes_is_all()
         (completions (sizes u) prefix) }
 {}
 
-/// The verdict of a list at a prefix that the universe admits is `No` exactly where the label set
-/// of no completion matches the list.
+/// The verdict of a list at a prefix is `No` exactly if the label set of no completion matches the
+/// list.
+///
+/// The universe has to admit the prefix.
 pub fn no_is_none()
     ensures exactly { (u : List Label) (ms : List Condition) (prefix : List ℕ)
         → IsUniverse u → IsTrue (admits (sizes u) prefix)
@@ -29,8 +31,8 @@ pub fn no_is_none()
         (completions (sizes u) prefix) }
 {}
 
-/// The verdict of a list at a prefix is `Open` exactly where the label set of some completion
-/// matches the list, and that of some completion does not.
+/// The verdict of a list at a prefix is `Open` exactly if the label sets of some completions match
+/// the list and those of others do not.
 pub fn open_is_some()
     ensures exactly { (u : List Label) (ms : List Condition) (prefix : List ℕ)
         → (verdict_of_list u ms prefix ≡ Open)
@@ -38,8 +40,10 @@ pub fn open_is_some()
         × IsTrue (list_any (λ c. not (matches_at u ms c)) (completions (sizes u) prefix))) }
 {}
 
-/// The verdict of a list at a whole choice is `Yes` where its label set matches the list, and `No`
-/// where it does not; so it is never `Open`.
+/// The verdict of a list at a whole choice is `Yes` if its label set matches the list, and else
+/// `No`.
+///
+/// So it is never `Open`.
 pub fn a_whole_choice_is_never_open()
     ensures decided { (u : List Label) (ms : List Condition) (c : List ℕ) → IsWhole (sizes u) c
         → verdict_of_list u ms c ≡ (if all_hold (label_set_of u c) ms then Yes else No) }
@@ -47,8 +51,10 @@ pub fn a_whole_choice_is_never_open()
         → verdict_of_list u ms c ≢ Open }
 {}
 
-/// A list that is decided at a prefix stays so as the prefix grows: the completions of the longer
-/// prefix are among those of the shorter one.
+/// A list that is decided at a prefix is decided in the same way at each longer prefix that the
+/// universe admits.
+///
+/// The completions of the longer prefix are among those of the shorter one.
 pub fn a_decided_list_stays_decided()
     ensures yes { (u : List Label) (ms : List Condition) (prefix more : List ℕ)
         → verdict_of_list u ms prefix ≡ Yes → verdict_of_list u ms (prefix ++ more) ≡ Yes }

@@ -1,10 +1,12 @@
-//! Masks and cubes: what a list of matchers says of the completions of a prefix of a choice.
+//! What a list of matchers says of the completions of a prefix of a choice.
 //!
-//! A [`Cube`] is made of a list of matchers, for the labels of a universe. At a prefix of a choice
-//! it answers a `Verdict`: whether all, none or some of the label sets of the prefix's completions
-//! match the list. It looks at no completion, and takes no memory. A judge asks a [`JudgedList`],
-//! of which a cube is one: it is made of rows, which [`rows_of`] makes. Many lists stand in a
-//! [`Group`], in which cubes are asked at once by a [`Table`].
+//! A [`Cube`] is made from a list of matchers, for the labels of a universe. At a prefix of a
+//! choice it returns a `Verdict`: whether the label sets of all, none or some of the prefix's
+//! completions match the list. It looks at no completion, and takes no memory.
+//!
+//! A judge asks a [`JudgedList`], of which a cube is one. It is made from rows, which [`rows_of`]
+//! returns. A [`Group`] finds the first of many lists that passes, and asks cubes together, in a
+//! [`Table`].
 #![tactic(auto)]
 
 // The rows of matchers.

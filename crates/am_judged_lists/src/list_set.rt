@@ -6,15 +6,14 @@ ghost use Rattle.am_judged_lists.specs.ListSetView.{has};
 /// How many lists a set has room for.
 pub(crate) const ROOM: usize = 128;
 
-/// A set of lists that stand side by side, by their places. How it is kept is known in this file
-/// alone.
+/// A set of lists, by their indices. Only this file knows how it is stored.
 #[derive(Clone, Copy, Drop)]
 pub(crate) struct ListSet {
     bits: u128,
 }
 
 impl ListSet {
-    /// The set of no list.
+    /// The empty set.
     pub(crate) fn none() -> ListSet {
         ListSet { bits: 0 }
     }
@@ -27,7 +26,7 @@ impl ListSet {
         ListSet { bits: u128::MAX }
     }
 
-    /// Puts in the list at a place.
+    /// Adds the list at an index.
     #[tactic(auto, using(crate::proofs::SetLemmas::inserted, crate::proofs::SetLemmas::kept_in))]
     pub(crate) fn insert(&mut self, place: usize)
         requires { place < ROOM }
@@ -37,7 +36,7 @@ impl ListSet {
         self.bits |= 1u128 << place;
     }
 
-    /// Takes out the list at a place.
+    /// Removes the list at an index.
     #[tactic(auto, using(crate::proofs::SetLemmas::still_in))]
     pub(crate) fn remove(&mut self, place: usize)
         requires { place < ROOM }
@@ -63,7 +62,7 @@ impl ListSet {
         self.bits == 0
     }
 
-    /// The first place from another one on at which a list is in the set.
+    /// The first index, from another one on, at which a list is in the set.
     pub(crate) fn first_from(self, from: usize) -> Option<usize>
         requires { from < ROOM }
         ensures some { IfSome result (λ place. (from ≤ place) × (place < ROOM)) }

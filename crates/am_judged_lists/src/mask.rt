@@ -13,7 +13,7 @@ use std::marker::Model;
 /// How many positions a word has room for.
 const WORD: usize = 64;
 
-/// Which positions of a label are permitted. How they are kept is known in this file alone.
+/// Which positions of a label are permitted. Only this file knows how they are stored.
 #[derive(Drop)]
 pub(crate) struct Mask {
     /// The bits of the first positions. They stand in the mask itself, since most labels have no
@@ -34,7 +34,7 @@ impl Model for Mask {
 
 impl Mask {
     /// The positions of a label of this size at which each row of that label is true, of `rows` and
-    /// of `more`. Rows of other labels say nothing. An `Err` only where memory was refused.
+    /// of `more`. Rows of other labels have no effect. Fails only if memory runs out.
     pub(crate) fn of_rows(
         alloc: Global,
         rows: &[Row],
@@ -53,7 +53,7 @@ impl Mask {
         Ok(mask)
     }
 
-    /// All positions of a label of this size. An `Err` only where memory was refused.
+    /// All positions of a label of this size. Fails only if memory runs out.
     fn full(alloc: Global, size: usize) -> Result<Mask, AllocError>
         ensures { IfOk result (λ mask. (j : ℕ) → slice_index_or mask j false ≡ nat_lt j size) }
     {

@@ -5,7 +5,7 @@ use am_labels::{Matchers, Row};
 use am_universe::Universe;
 use std::alloc::{AllocError, Global};
 
-/// The rows of a list of matchers, in its order. An `Err` only where memory was refused.
+/// The row of each matcher of a list, in order. Fails only if memory runs out.
 pub fn rows_of(
     alloc: Global,
     universe: &Universe,

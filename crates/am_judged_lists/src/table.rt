@@ -1,4 +1,10 @@
 //! Cubes that are asked together.
+//!
+//! The cubes stand in blocks of up to 128. For each position of a label that has a mask, a block
+//! has the set of its cubes that permit the position, as the bits of one number. The cubes that may
+//! pass at a prefix are in the sets of all its positions. The first of them is then asked itself,
+//! so the answer of a table is exact. A set may hold a cube that does not pass, but it never lacks
+//! one that does. No more is proved of sets.
 
 ghost use Rattle.std.specs.Prelude.{◌≡◌, ℕ, ◌<◌, ◌≤◌, ◌*◌, ◌+◌, length, IfOk, IfSome, IfNone};
 ghost use Rattle.am_judged_lists.specs.Cube.{verdict_at};
@@ -14,7 +20,7 @@ use am_universe::{Choice, Universe};
 use std::alloc::{AllocError, Global};
 use std::marker::Model;
 
-/// Cubes, and sets of bits by which they are asked many at a time.
+/// Cubes, and sets of bits by which many are asked at once.
 #[derive(Drop)]
 pub struct Table {
     cubes: Vec<Cube>,
@@ -35,7 +41,7 @@ impl Model for Table {
 }
 
 impl Table {
-    /// The table of some cubes over a universe. An `Err` only where memory was refused.
+    /// Makes the table of some cubes over a universe. Fails only if memory runs out.
     pub fn of(alloc: Global, universe: &Universe, cubes: Vec<Cube>) -> Result<Table, AllocError>
         ensures cubes { IfOk result (λ table. table ≡ cubes.items) }
     {
@@ -43,7 +49,7 @@ impl Table {
         Ok(Table { cubes, blocks })
     }
 
-    /// The first cube from a place on whose verdict at a prefix passes. Judging takes no memory.
+    /// The first cube, from the index `from` on, whose verdict at a prefix passes. Takes no memory.
     pub fn next(&self, certainty: Certainty, prefix: &Choice, from: usize) -> Option<usize>
         ensures some { IfSome result (λ i.
             IsNext (λ cube. passes certainty (verdict_at cube prefix.now)) self.now from i) }
@@ -70,7 +76,7 @@ impl Table {
     }
 }
 
-/// The same among the cubes of a block, the first of which stands at `first`.
+/// The same among the cubes of a block, the first of which is at the index `first`.
 fn next_in(
     cubes: &[Cube],
     block: &Block,
@@ -100,7 +106,7 @@ fn next_in(
     None
 }
 
-/// The blocks of some cubes, in their order. An `Err` only where memory was refused.
+/// The blocks of some cubes, in order. Fails only if memory runs out.
 fn blocks_of(alloc: Global, universe: &Universe, cubes: &[Cube]) -> Result<Vec<Block>, AllocError>
     ensures blocks { IfOk result (λ blocks. AreBlocksOf cubes.now blocks.items) }
 {

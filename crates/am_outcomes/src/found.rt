@@ -1,4 +1,9 @@
-//! What becomes of the alerts of a space.
+//! The outcomes of the alerts of a space.
+//!
+//! An *outcome* is the list of receivers under each configuration, with the first choice that has
+//! them. The receivers of each choice of the last layer are looked up, and of the choices with the
+//! same receivers the first is kept. Of all choices that have these receivers, it is the first in
+//! declared order.
 
 ghost use Rattle.std.specs.Prelude.{◌≡◌, ◌<◌, [], Some, length, slice_get, IfOk, IfSome, IfNone};
 ghost use Rattle.am_outcomes.specs.Outcomes.{outcomes_of};
@@ -17,8 +22,7 @@ use am_universe::Choice;
 use std::alloc::{AllocError, Global};
 use std::marker::Model;
 
-/// The outcomes that the choices of a space have, each once, in the order of the first choices that
-/// have them.
+/// The outcomes of the choices of a space, each once, in the order of their first choices.
 #[derive(Drop)]
 pub struct Outcomes {
     firsts: Firsts<Vec<Vec<usize>>>,
@@ -34,14 +38,16 @@ impl Model for Outcomes {
 }
 
 impl Outcomes {
-    /// How many there are.
+    /// Returns the number of outcomes.
     pub fn len(&self) -> usize
         ensures len { result ≡ length self.now }
     {
         self.firsts.len()
     }
 
-    /// The receivers of the outcome at a position under each configuration, and its first choice.
+    /// Returns the outcome at a position: the receivers under each configuration, by their
+    /// positions, and the first choice that has them. The position must be less than
+    /// [`Outcomes::len`].
     pub fn get(&self, i: usize) -> (&[Vec<usize>], &Choice)
         requires { i < length self.now }
         ensures outcome { slice_get self.now i ≡ Some (fates_view result.0.now, result.1.now) }
@@ -51,10 +57,10 @@ impl Outcomes {
     }
 }
 
-/// Each outcome that some choice of a space has, with the first choice that has it: the receivers
-/// that its label set goes to under each of some configurations, by their positions. `None` where
-/// more states have to be told apart than there is room for. An `Err` only where memory was
-/// refused.
+/// Finds each outcome that some choice of a space has: the receivers to which its label set goes
+/// under each of some configurations, by their positions, and the first choice that has them.
+/// Returns `None` if more states have to be told apart than there is room for. Fails only if memory
+/// runs out.
 pub fn find_outcomes(
     alloc: Global,
     space: &Space,
@@ -72,7 +78,7 @@ pub fn find_outcomes(
     }
 }
 
-/// The outcomes of the choices of a layer of whole ones.
+/// The outcomes of the choices of the last layer.
 fn outcomes_in(alloc: Global, judged: &Judged<'_>, last: &Layer) -> Result<Outcomes, AllocError>
     requires { IsLayer (judged_space judged.now) (judged_configs judged.now)
         (length (judged_space judged.now).labels) last.now.states }

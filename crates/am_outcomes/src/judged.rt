@@ -1,4 +1,4 @@
-//! What configurations and impossible lists come to at a prefix, and at a whole choice.
+//! What is known of configurations and impossible lists at a prefix, and at a whole choice.
 
 ghost use Rattle.std.specs.Prelude.{◌≡◌, List, IfOk, IsTrue, option_map};
 ghost use Rattle.std.proofs.Props.{props};
@@ -43,7 +43,7 @@ pub(crate) struct Judged<'a> {
 impl<'a> Judged<'a> {
     ghost use Rattle.am_outcomes.specs.JudgedView.{judged_space, judged_configs};
 
-    /// The cubes of a space and of configurations. An `Err` only where memory was refused.
+    /// The cubes of a space and of configurations. Fails only if memory runs out.
     pub(crate) fn of(
         alloc: Global,
         space: &'a Space,
@@ -68,8 +68,8 @@ impl<'a> Judged<'a> {
     }
 
     /// The state at a prefix: the verdict of each impossible list, and that of each route that
-    /// matters. `None` where each completion matches one and the same impossible list. An `Err`
-    /// only where memory was refused.
+    /// matters. `None` where each completion matches one and the same impossible list. Fails only
+    /// if memory runs out.
     pub(crate) fn state(
         &self,
         alloc: Global,
@@ -102,8 +102,7 @@ impl<'a> Judged<'a> {
         Ok(Some(state))
     }
 
-    /// The receivers of a whole choice under each configuration. An `Err` only where memory was
-    /// refused.
+    /// The receivers of a whole choice under each configuration. Fails only if memory runs out.
     pub(crate) fn fate(&self, alloc: Global, choice: &Choice) -> Result<Vec<Vec<usize>>, AllocError>
         requires { IsWhole (sizes (judged_space self.now).labels) choice.now }
         ensures { IfOk result (λ fates. fates_view fates.items ≡ fate (judged_configs self.now)

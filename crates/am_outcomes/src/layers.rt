@@ -1,4 +1,23 @@
 //! From label to label: of all prefixes of one length with one state, the first.
+//!
+//! A space may have far too many label sets to look at each. So the search goes from label to
+//! label. At each length of a prefix it has a *layer*: prefixes of this length, each with its
+//! *state*. The state of a prefix is the verdicts of the impossible lists and of the routes that
+//! still matter, in preorder, those of one configuration after those of the other. What is below an
+//! excluded route does not matter, since no completion enters it. Neither does what comes after a
+//! sibling that is certain and lacks `continue`, since no completion gets there. A prefix at which
+//! an impossible list is certain has no state and is left out: none of its completions is possible.
+//!
+//! What becomes of a list that is `Open` depends on the labels still to come, and on no label
+//! before. So if two prefixes have the same state, the same positions after both lead to the same
+//! receivers, and are possible after both or after neither. Of the prefixes with one state a layer
+//! keeps the first. The next layer is made of these: each is extended by each position of the next
+//! label, in declared order. The last layer has whole choices. Each possible choice that was left
+//! out comes after one with the same state.
+//!
+//! How many states there are depends on what the routes ask about and on the order of the labels.
+//! If there are more than `MAX_STATES` at one length, there is no answer. While the next layer is
+//! made, two layers are in memory, and no more.
 
 ghost use Rattle.std.specs.Prelude.{◌≡◌, ◌<◌, ◌≤◌, ◌+◌, ◌++◌, [], ◌∷◌, length, IfOk, IfSome};
 ghost use Rattle.std.specs.Prelude.{IfNone, IsTrue, false, slice_index};
@@ -18,7 +37,7 @@ use am_universe::{Choice, Position};
 use std::alloc::{AllocError, Global};
 
 /// Of the whole choices that are possible, the first with each state. `None` where there are too
-/// many states at some length. An `Err` only where memory was refused.
+/// many states at some length. Fails only if memory runs out.
 pub(crate) fn last_layer(alloc: Global, judged: &Judged<'_>) -> Result<Option<Layer>, AllocError>
     ensures layer { IfOk result (λ found. IfSome found (λ layer.
         IsLayer (judged_space judged.now) (judged_configs judged.now)

@@ -1,10 +1,10 @@
-//! What becomes of the alerts of a space: to which receivers they go, under one configuration or
-//! under each of several that are compared.
+//! To which receivers the alerts of a space go, under one configuration or under each of several
+//! that are compared.
 //!
 //! [`find_outcomes`] lists each outcome that some choice has, with the first choice that has it. It
 //! does not go through the choices one by one. It goes from label to label, and of all prefixes
 //! with one state it keeps only the first. A state is what is known at a prefix of the impossible
-//! lists and of the routes that matter still. [`outcomes_text`] and [`changes_text`] write a line
+//! lists and of the routes that still matter. [`outcomes_text`] and [`changes_text`] write a line
 //! for each outcome, or for each one that differs between two configurations.
 #![tactic(auto)]
 

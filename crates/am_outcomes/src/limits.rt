@@ -1,4 +1,4 @@
-//! How much there may be.
+//! The limit of the search for outcomes. It is this project's own.
 
-/// How many states may be told apart at one length of prefixes.
+/// The most states that are told apart at one length of prefixes.
 pub const MAX_STATES: usize = 1_048_576;

@@ -1,4 +1,4 @@
-//! What was found, as a text.
+//! The text of outcomes and changes.
 
 ghost use Rattle.std.specs.Prelude.{◌≡◌, ◌++◌, [], ◌∷◌, length, string_bytes, IfOk, OnOk};
 ghost use Rattle.am_universe.specs.Universe.{sizes};
@@ -16,9 +16,9 @@ use am_report_texts::{gap_before, plural, push_label_set, push_quoted};
 use am_universe::{Choice, Universe};
 use std::alloc::{AllocError, Global};
 
-/// A line for each outcome under a configuration: the names of its receivers, and the label set of
-/// its first choice; and then `# end`. The outcomes are those of a space with the labels of the
-/// universe. An `Err` only where memory was refused.
+/// Returns a line for each outcome under a configuration, and then `# end`. A line has the names of
+/// the receivers, and the label set of the first choice. The outcomes must be those of a space with
+/// the labels of the universe. Fails only if memory runs out.
 pub fn outcomes_text(
     alloc: Global,
     universe: &Universe,
@@ -40,17 +40,17 @@ pub fn outcomes_text(
     Ok(text)
 }
 
-/// The lines of changes, and how many they are.
+/// The lines of changes, and how many changes there are.
 #[derive(Drop)]
 pub struct Changes {
     pub text: String,
     pub count: usize,
 }
 
-/// A line for each outcome that differs between two configurations: the names of its receivers
-/// under the one and under the other, and the label set of its first choice; and then how many
-/// there are. The outcomes are those of a space with the labels of the universe. An `Err` only
-/// where memory was refused.
+/// Returns a line for each outcome whose receivers have other names under a new configuration than
+/// under an old one, and then the number of these. A line has the names under the old and under the
+/// new configuration, and the label set of the first choice. The outcomes must be those of a space
+/// with the labels of the universe. Fails only if memory runs out.
 pub fn changes_text(
     alloc: Global,
     universe: &Universe,

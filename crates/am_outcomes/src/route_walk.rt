@@ -1,4 +1,4 @@
-//! Walks down the routes of a configuration at a prefix, and at a whole choice.
+//! Walks through the routes of a configuration at a prefix, and at a whole choice.
 
 ghost use Rattle.std.specs.Prelude.{◌≡◌, ◌++◌, List, IfOk, IsTrue};
 ghost use Rattle.am_universe.specs.Universe.{Label, sizes};
@@ -20,7 +20,7 @@ use std::alloc::AllocError;
 
 /// Adds the verdicts of a route and of those below it that matter at a prefix, and answers that of
 /// the route. No route below an excluded one matters, and none behind a sibling that is certain and
-/// has no `continue`. An `Err` only where memory was refused.
+/// has no `continue`. Fails only if memory runs out.
 pub(crate) fn push_state(
     route: &RouteCubes,
     prefix: &Choice,
@@ -46,8 +46,7 @@ pub(crate) fn push_state(
 }
 
 /// Adds the receivers of a whole choice at a route and below it: that of each route where its label
-/// set ends, in order. The answer is whether it matches the route. An `Err` only where memory was
-/// refused.
+/// set ends, in order. The answer is whether it matches the route. Fails only if memory runs out.
 pub(crate) fn push_receivers(
     route: &RouteCubes,
     choice: &Choice,

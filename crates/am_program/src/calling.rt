@@ -1,4 +1,4 @@
-//! The call that does what is asked for.
+//! The call of a command.
 
 ghost use Rattle.std.specs.Prelude.{◌≡◌, ◌<◌, IfSome, option_map, option_copied, MatchResult, Ok};
 ghost use Rattle.std.specs.Prelude.{Err, false, nat_lt};
@@ -22,7 +22,8 @@ use am_universe_command::{UniverseForm, UniverseInputs, check_universe, universe
 use std::alloc::Global;
 use std::num::NonZeroU64;
 
-/// Makes the call that does what is asked for. The answer is whether it found what is wrong.
+/// Makes the call that a request asks for. Returns whether it found something wrong, or a change,
+/// which only `lint` and `compare` look for. The faults are those of the call.
 pub fn make_call<W: Sink>(alloc: Global, call: &Call<'_>, out: &mut W) -> Result<bool, Fault>
     ensures kept { IsKept (promise_of call.now) W.taken W.failures out.old out.new result }
 {
@@ -104,7 +105,7 @@ pub fn make_call<W: Sink>(alloc: Global, call: &Call<'_>, out: &mut W) -> Result
     }
 }
 
-/// What `outcomes` looks at, with the universe file, if one is given.
+/// The inputs of `outcomes`, with the universe file if one is given.
 fn report_inputs<'a>(call: &Call<'a>, universe: bool, ascii: bool) -> ReportInputs<'a>
     ensures { result ≡ report_inputs universe ascii call.now }
 {
@@ -115,7 +116,7 @@ fn report_inputs<'a>(call: &Call<'a>, universe: bool, ascii: bool) -> ReportInpu
     }
 }
 
-/// The answer of a call that says how many changes there are.
+/// The answer of a call that counts changes: whether there are any.
 fn something_found(count: Result<usize, Fault>) -> Result<bool, Fault>
     ensures { MatchResult count (λ n. result ≡ Ok (nat_lt 0 n)) (λ fault. result ≡ Err fault) }
 {
@@ -125,7 +126,7 @@ fn something_found(count: Result<usize, Fault>) -> Result<bool, Fault>
     }
 }
 
-/// The answer of a call that looks for nothing wrong: where it is done it found nothing.
+/// The answer of a call that looks for nothing wrong: it has found nothing.
 fn nothing_found<T: Drop>(answer: Result<T, Fault>) -> Result<bool, Fault>
     ensures { MatchResult answer (λ _. result ≡ Ok false) (λ fault. result ≡ Err fault) }
 {
@@ -135,9 +136,9 @@ fn nothing_found<T: Drop>(answer: Result<T, Fault>) -> Result<bool, Fault>
     }
 }
 
-/// A request, with the bytes of the files that were read for it. The command line requires a
-/// universe file, or the two that are compared, where they are looked at; without one there are no
-/// bytes.
+/// Joins a request and the bytes of the files that were read for it. A universe file, or an old or
+/// new configuration file, that was not read has no bytes. The command line requires these files
+/// where a command looks at them.
 pub fn call_of<'a>(request: &'a Request<'a>, files: &'a InputFiles<'_, Vec<u8>>) -> Call<'a>
     ensures request { result.request.now ≡ request.now }
     ensures universe { result.universe.now ≡ bytes_or_none files.now.universe }
@@ -159,7 +160,7 @@ pub fn call_of<'a>(request: &'a Request<'a>, files: &'a InputFiles<'_, Vec<u8>>)
     }
 }
 
-/// The bytes of a file that may be left out.
+/// The bytes of an optional file.
 fn bytes_of(file: &Option<Vec<u8>>) -> Option<&[u8]>
     ensures { option_copied result ≡ bytes_if_any file.now }
 {
@@ -169,14 +170,14 @@ fn bytes_of(file: &Option<Vec<u8>>) -> Option<&[u8]>
     }
 }
 
-/// The universe beside which one is made, if there is one.
+/// The bytes of the universe file, if one is given.
 fn kept_universe(from: bool, universe: &[u8]) -> Option<&[u8]>
     ensures { option_copied result ≡ kept_universe from universe.now }
 {
     if from { Some(universe) } else { None }
 }
 
-/// Which texts the labels of alerts may have.
+/// The alphabet of the alerts that count.
 fn alphabet_of(ascii: bool) -> Alphabet
     ensures { result ≡ alphabet_of ascii }
 {

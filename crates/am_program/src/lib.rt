@@ -1,8 +1,8 @@
 //! The program `amcover`, as a function over a command line and two writers.
 //!
 //! [`run`] reads a command line and the files that it names, makes the call of the command and
-//! answers the exit status. [`run_with_notes`] does the same on a terminal. [`run_process`] runs it
-//! on what a process was given, and `main` is that call and no more.
+//! returns the exit status. [`run_with_notes`] does the same on a terminal. [`run_process`] runs
+//! the program on what its process was given, and `main` is that call alone.
 #![tactic(auto)]
 
 // What is asked for, and the call that does it.

@@ -16,15 +16,18 @@ const DONE: u8 = 0;
 /// The exit status of a usage fault.
 const USAGE: u8 = 2;
 
-/// The exit status where a call found what is wrong.
+/// The exit status if a call found something wrong, or a change.
 const FOUND: u8 = 5;
 
-/// How many bytes of output are held back before they go out.
+/// How many bytes of output are buffered.
 const BUFFER: usize = 65536;
 
-/// Runs the program: `words` are its command line, the program's name first. Answers go to `out`,
-/// and a fault is one line on `err`. The answer is the exit status: 0 done, 1 refused input, 2
-/// usage, 3 memory, 4 writing failed, 5 done, and what is wrong was found.
+/// Runs the program and returns its exit status. `words` is the command line, with the program's
+/// name first. Answers, help and the version go to `out`. A fault is one line on `err`, and a usage
+/// fault is the message of `clap` there.
+///
+/// The exit status is 0 if all is done, 1 if an input was refused, 2 for a usage fault, 3 if memory
+/// ran out, 4 if writing failed, and 5 if all is done and something wrong, or a change, was found.
 pub fn run<R: Files + AllocGlobal, W: Write + Drop, E: Write + Drop>(
     rt: &R,
     words: &[String],
@@ -34,9 +37,9 @@ pub fn run<R: Files + AllocGlobal, W: Write + Drop, E: Write + Drop>(
     run_with_notes(rt, words, out, err, false)
 }
 
-/// The same; and where notes are wanted, as on a terminal, they go to `err` behind all else: lines
-/// that begin with `note: `, which say what a person is about to miss. What goes to `out`, the line
-/// of a fault and the answer are the same with and without them.
+/// Runs the program as [`run`] does and, if `notes` is set, as on a terminal, writes notes to `err`
+/// after all else. Notes are lines that begin with `note: ` and say what a person might miss. They
+/// change neither `out`, nor the line of a fault, nor the exit status.
 pub fn run_with_notes<R: Files + AllocGlobal, W: Write + Drop, E: Write + Drop>(
     rt: &R,
     words: &[String],
@@ -54,8 +57,8 @@ pub fn run_with_notes<R: Files + AllocGlobal, W: Write + Drop, E: Write + Drop>(
     }
 }
 
-/// Runs the program on what its process was given: the command line, the files, and the streams.
-/// Notes are wanted where standard error is a terminal.
+/// Runs the program with the command line, the files and the streams of its process. Notes are
+/// written if standard error is a terminal. A command line that is not UTF-8 is a usage fault.
 pub fn run_process(rt: &HostRuntime) -> ExitCode {
     match arguments(rt) {
         Ok(words) => ExitCode::from(run_with_notes(
@@ -74,8 +77,8 @@ fn arguments(rt: &HostRuntime) -> io::Result<Vec<String>> {
     Ok(env::args(rt)?.collect(rt.alloc())?)
 }
 
-/// Says on `err` why the words of a command line could not be had: memory ran out, or they are no
-/// text (UTF-8). The answer is the exit status.
+/// Writes to `err` why the command line could not be read: memory ran out, or it is not UTF-8.
+/// Returns the exit status.
 fn refuse_arguments<E: Write>(error: &io::Error, alloc: Global, err: &mut E) -> u8 {
     if error.kind() == io::ErrorKind::OutOfMemory {
         return report(alloc, &Fault::memory(alloc), err);
@@ -84,8 +87,7 @@ fn refuse_arguments<E: Write>(error: &io::Error, alloc: Global, err: &mut E) -> 
     USAGE
 }
 
-/// Reads the files that a command line names, and does what it asks for. The answer is the exit
-/// status.
+/// Reads the files that a command line names, and does what it asks for. Returns the exit status.
 fn run_line<R: Files + AllocGlobal, W: Write + Drop, E: Write + Drop>(
     rt: &R,
     line: &CommandLine<'_>,
@@ -110,7 +112,7 @@ fn run_line<R: Files + AllocGlobal, W: Write + Drop, E: Write + Drop>(
     }
 }
 
-/// Says why a call was refused, and behind that what may help. The answer is the exit status.
+/// Writes why a call was refused and, if `notes` is set, what may help. Returns the exit status.
 fn refuse<E: Write + Drop>(
     alloc: Global,
     call: Option<&Call<'_>>,
@@ -125,16 +127,15 @@ fn refuse<E: Write + Drop>(
     status
 }
 
-/// Writes notes, as far as there are any. Where memory was refused for them there are none, and
-/// where they cannot be written nothing is made of that: they are no part of the answer.
+/// Writes notes, if there are any. Notes are no part of the answer: if memory ran out for them
+/// there are none, and a failure to write them is ignored.
 fn write_notes<E: Write + Drop>(notes: Result<String, AllocError>, err: &mut E) {
     if let Ok(text) = notes {
         let _ = err.write_all(text.as_str().as_bytes());
     }
 }
 
-/// The bytes of the files of these paths, which are read in the order in which commands look at
-/// them.
+/// Reads the files at these paths, in the order in which commands look at them.
 fn read_files<'a, R: Files + AllocGlobal>(
     rt: &R,
     paths: &InputFiles<'a, &str>,
@@ -156,7 +157,7 @@ fn read_files<'a, R: Files + AllocGlobal>(
     })
 }
 
-/// Calls the command over a buffer of the output, which is flushed at the end.
+/// Makes a call over a buffer of the output, which is flushed at the end of a call that is done.
 fn call_buffered<W: Write + Drop>(
     alloc: Global,
     call: &Call<'_>,
@@ -183,8 +184,8 @@ fn call_buffered<W: Write + Drop>(
     }
 }
 
-/// The bytes of an input file. A file that cannot be read is a fault at its place; that memory ran
-/// out is one at `Memory`.
+/// Reads an input file. A file that cannot be read is a fault at its place. If memory runs out, the
+/// fault is at `Memory`.
 fn read_input<R: Files + AllocGlobal>(rt: &R, path: &str, place: Place) -> Result<Vec<u8>, Fault> {
     match read_file(rt, path) {
         Ok(bytes) => Ok(bytes),
@@ -192,7 +193,7 @@ fn read_input<R: Files + AllocGlobal>(rt: &R, path: &str, place: Place) -> Resul
     }
 }
 
-/// The bytes of an input file that may be left out.
+/// Reads an optional input file.
 fn read_input_if_any<R: Files + AllocGlobal>(
     rt: &R,
     path: Option<&str>,
@@ -204,8 +205,7 @@ fn read_input_if_any<R: Files + AllocGlobal>(
     }
 }
 
-/// Shows what the reader of the command line has to say: help and the version on `out`, a usage
-/// fault on `err`.
+/// Writes the message of `clap`: help and the version to `out`, a usage fault to `err`.
 fn show_clap_message<W: Write, E: Write>(
     alloc: Global,
     error: &Error,

@@ -4,13 +4,13 @@ use std::io::{ErrorKind, Read};
 use std::rt::Files;
 use std::{fs, io};
 
-/// The most bytes that are read of a file: one more than a file may have.
+/// The most bytes that are read from a file: one more than a file may have.
 const MAX_BYTES_READ: usize = MAX_FILE_BYTES + 1;
 
 const CHUNK: usize = 65536;
 
-/// The bytes of a file, at most one more than a file may have. `Read` where it cannot be opened or
-/// a read answers an error, which is not tried again; `Memory` where memory ran out.
+/// Reads a file, up to one byte more than a file may have. Fails with `Read` if the file cannot be
+/// opened or read, and with `Memory` if memory runs out. A read that fails is not tried again.
 pub fn read_file<R: Files + AllocGlobal>(rt: &R, path: &str) -> Result<Vec<u8>, Kind> {
     let mut file = fs::open(rt, path).map_err(|error| kind_of(&error))?;
     let mut bytes = Vec::new(rt.alloc());

@@ -21,7 +21,7 @@ use am_eval::{Property, Reach};
 use am_universe::Kind;
 use std::alloc::Global;
 
-/// A question as it is written, before names, paths and matcher lists are looked at.
+/// A question as it is written. Its names, paths and matcher lists are not read yet.
 #[derive(Drop)]
 pub(crate) enum Tree<'a> {
     Part(Written<'a>),
@@ -48,8 +48,8 @@ pub(crate) enum Written<'a> {
     Braces(&'a str),
 }
 
-/// The tree that the lexemes are. `QuestionSyntax` where they are none; `Memory` only where memory
-/// was refused.
+/// Reads the tree that the lexemes make. Fails with `QuestionSyntax` if they make none, and with
+/// `Memory` if memory runs out.
 pub(crate) fn read_tree<'a>(alloc: Global, lexemes: &'a [Lexeme<'a>]) -> Result<Tree<'a>, Kind>
     ensures read { IfOk result (λ tree.
         spec.IsQuestion (map lexeme_view lexemes.now) (tree_view tree)) }
@@ -65,7 +65,7 @@ pub(crate) fn read_tree<'a>(alloc: Global, lexemes: &'a [Lexeme<'a>]) -> Result<
     }
 }
 
-/// The questions that a connective joins, to the left, or one alone, and the lexemes behind them.
+/// The questions that a connective joins, to the left, or one alone, and the lexemes after them.
 #[cycle(questions)]
 fn read_joined<'a>(
     alloc: Global,
@@ -87,7 +87,7 @@ fn read_joined<'a>(
     Ok((tree, rest))
 }
 
-/// A question that a connective joins, and the lexemes behind it. `and` binds more tightly than
+/// A question that a connective joins, and the lexemes after it. `and` binds more tightly than
 /// `or`.
 #[cycle(questions)]
 fn read_operand<'a>(
@@ -107,7 +107,7 @@ fn read_operand<'a>(
     }
 }
 
-/// A question that no connective joins, and the lexemes behind it.
+/// A question that no connective joins, and the lexemes after it.
 #[cycle(questions)]
 fn read_single<'a>(
     alloc: Global,
@@ -174,7 +174,7 @@ fn reach_of(word: &str) -> Option<Reach>
     }
 }
 
-/// A simple part, and the lexemes behind it.
+/// A simple part, and the lexemes after it.
 fn read_part<'a>(lexemes: &'a [Lexeme<'a>]) -> Option<(Written<'a>, &'a [Lexeme<'a>])>
     ensures taken { IfSome result (λ r. ReadsPart (map lexeme_view lexemes.now) (written_view r.0)
         (map lexeme_view r.1.now)) }
@@ -190,7 +190,7 @@ fn read_part<'a>(lexemes: &'a [Lexeme<'a>]) -> Option<(Written<'a>, &'a [Lexeme<
     }
 }
 
-/// The simple part that begins with a word, and the lexemes behind it.
+/// The simple part that begins with a word, and the lexemes after it.
 fn read_word_part<'a>(
     word: &str,
     lexemes: &'a [Lexeme<'a>],
@@ -244,7 +244,7 @@ fn is_path(word: &str) -> bool
     !matches!(Path::parse(word), Err(Kind::QuestionSyntax))
 }
 
-/// The lexemes behind a word, where it is the first lexeme.
+/// The lexemes after a word, if it is the first lexeme.
 fn behind_word<'a>(lexemes: &'a [Lexeme<'a>], word: &str) -> Option<&'a [Lexeme<'a>]>
     ensures behind { IfSome result (λ rest. map lexeme_view lexemes.now
         ≡ lexeme.Word word.now ∷ map lexeme_view rest.now) }
@@ -268,7 +268,7 @@ fn is_word(first: &Lexeme<'_>, word: &str) -> bool
     }
 }
 
-/// The lexemes behind an opening parenthesis, where it is the first lexeme.
+/// The lexemes after an opening parenthesis, if it is the first lexeme.
 fn behind_open<'a>(lexemes: &'a [Lexeme<'a>]) -> Option<&'a [Lexeme<'a>]>
     ensures behind { IfSome result (λ rest. map lexeme_view lexemes.now
         ≡ lexeme.Open ∷ map lexeme_view rest.now) }
@@ -282,7 +282,7 @@ fn behind_open<'a>(lexemes: &'a [Lexeme<'a>]) -> Option<&'a [Lexeme<'a>]>
     }
 }
 
-/// The lexemes behind a closing parenthesis, where it is the first lexeme.
+/// The lexemes after a closing parenthesis, if it is the first lexeme.
 fn behind_close<'a>(lexemes: &'a [Lexeme<'a>]) -> Option<&'a [Lexeme<'a>]>
     ensures behind { IfSome result (λ rest. map lexeme_view lexemes.now
         ≡ lexeme.Close ∷ map lexeme_view rest.now) }

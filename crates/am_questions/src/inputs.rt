@@ -18,7 +18,7 @@ use am_search::{Page, Start, parse_token};
 use am_universe::{Choice, Fault, Place};
 use std::alloc::Global;
 
-/// What the inputs of a question say, where they are accepted.
+/// What the inputs of a question say, if they are accepted.
 #[derive(Drop)]
 pub struct AcceptedInputs {
     pub space: Space,
@@ -29,10 +29,11 @@ pub struct AcceptedInputs {
     pub fingerprint: [u8; 16],
 }
 
-/// Reads the inputs of a question: the universe file, the world, the question, and then the token
-/// that says where the answers begin. It may name a choice that is impossible. The first fault is
-/// the one answered, at `Universe`, where [`read_world`] has it, at `Question` or at `Token`; or
-/// `Memory`.
+/// Reads the inputs of a question: the universe file, the world, the question, and then the token.
+///
+/// The token says where the answers begin, and may name a choice that is impossible. Fails with the
+/// first fault, at `Universe`, at a place of [`read_world`], at `Question` or at `Token`. If memory
+/// runs out, it is `Memory`.
 pub fn read_inputs(
     alloc: Global,
     universe: &[u8],
@@ -67,9 +68,8 @@ pub fn read_inputs(
     })
 }
 
-/// The start that a token asks for, and that of all choices without one. At `Token`, `BadToken`
-/// where it asks for none, and `OtherInputs` where it was made from other inputs. No memory is
-/// taken.
+/// The start that a token stands for, or that of all choices if there is no token. Fails with
+/// `BadToken` or `OtherInputs`, at `Token`, as `parse_token` does. Takes no memory.
 fn read_start(
     alloc: Global,
     after: Option<&str>,

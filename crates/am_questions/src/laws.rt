@@ -1,5 +1,4 @@
-//! What holds of the definitions by themselves: each fact is the contract of a function with an
-//! empty body.
+//! Facts about the definitions alone: each is the contract of a function with an empty body.
 ghost use Rattle.std.specs.Prelude.{◌≡◌, ◌≢◌, ◌∷◌, ℕ, List, []};
 ghost use Rattle.am_config.specs.ConfigFile.{Configuration};
 ghost use Rattle.am_eval.specs.Tree.{Tree, Not, And, Or};
@@ -27,24 +26,25 @@ pub fn one_list_of_lexemes_a_text()
         → SpellsLexemes text us → ts ≡ us }
 {}
 
-/// A list of lexemes is at most one tree.
+/// A list of lexemes makes at most one tree.
 #[tactic(auto, using(crate::proofs::Fronts::one_tree))]
 pub fn one_tree_a_list_of_lexemes()
     ensures one { (lexemes : List Lexeme) (tree other : Tree Written) → IsQuestion lexemes tree
         → IsQuestion lexemes other → tree ≡ other }
 {}
 
-/// The simple parts of a question, from left to right, which is the order in which they are looked
-/// at, stand in its lexemes in that order, and between them stand the words and parentheses that
-/// join them, and nothing else.
+/// The simple parts of a question, from left to right, occur in its lexemes in that order, with
+/// nothing between them but the words and parentheses that join them.
+///
+/// They are checked in that order.
 #[tactic(auto, using(crate::proofs::PartsInOrder::parts_in_order))]
 pub fn parts_stand_in_the_order_of_their_lexemes()
     ensures order { (lexemes : List Lexeme) (tree : Tree Written) → IsQuestion lexemes tree
         → StandInOrder (parts_of tree) lexemes }
 {}
 
-/// Four questions made of `any`: `or` and `and` join to the left, `and` binds more tightly than
-/// `or`, and `not` than `and`.
+/// Four examples: `or` and `and` join to the left, `and` binds more tightly than `or`, and `not`
+/// more tightly than `and`.
 pub fn joins_to_the_left()
     ensures or { IsQuestion (any_word ∷ or_word ∷ any_word ∷ or_word ∷ any_word ∷ [])
         (Or (Or any_tree any_tree) any_tree) }
@@ -63,16 +63,17 @@ pub fn one_question_a_text()
         → ReadsQuestion c text p → ReadsQuestion c text q → p ≡ q }
 {}
 
-/// The inputs of a call, where they are accepted, mean one thing: they fix the space, the world,
-/// the question and the start.
+/// Inputs of a question that are accepted fix the space, the world, the question and the start.
 pub fn accepted_inputs_mean_one_thing()
     ensures one { (inputs : Inputs) (s t : Space) (w x : World) (q r : Question)
         (start other : Start) → AcceptsInputs inputs s w q start → AcceptsInputs inputs t x r other
         → (s ≡ t) × (w ≡ x) × (q ≡ r) × (start ≡ other) }
 {}
 
-/// A text that is read as a question about a configuration is refused at most for a pattern, which
-/// the engine may refuse. A text that is refused is refused with one kind, but for that.
+/// A text that is read as a question is not refused, and one that is refused is refused with one
+/// kind.
+///
+/// The exceptions are refusals of patterns, which are the engine's to make.
 pub fn a_question_is_not_read_and_refused()
     ensures accepted { (c : Configuration) (text : List ℕ) (q : Question) (kind : Kind)
         → ReadsQuestion c text q → QuestionRefusedFor c text kind → kind ≡ kinds.Pattern }
@@ -81,8 +82,8 @@ pub fn a_question_is_not_read_and_refused()
         → kind ≢ kinds.Pattern → other ≢ kinds.Pattern → kind ≡ other }
 {}
 
-/// Where the inputs of a question are accepted, they have no first fault, but for a pattern, which
-/// the engine may refuse.
+/// Inputs of a question that are accepted have no first fault, except a pattern that the engine may
+/// refuse.
 pub fn accepted_inputs_have_no_fault()
     ensures pattern { (inputs : Inputs) (s : Space) (w : World) (q : Question) (start : Start)
         (place : Place) (refusal : Refusal) → AcceptsInputs inputs s w q start
@@ -90,7 +91,7 @@ pub fn accepted_inputs_have_no_fault()
         → refusal.kind ≡ kinds.Pattern }
 {}
 
-/// The limit of questions.
+/// The limit of the lexemes of a question.
 pub fn questions_have_a_limit()
     ensures lexemes { MAX_LEXEMES ≡ 256 }
 {}

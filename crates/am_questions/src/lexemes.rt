@@ -21,7 +21,7 @@ pub enum Lexeme<'a> {
     Open,
     /// `)`
     Close,
-    /// A word, as it stands.
+    /// A word, as it is written.
     Word(&'a str),
     /// What a text in quotes stands for.
     Quoted(String),
@@ -29,7 +29,10 @@ pub enum Lexeme<'a> {
     Braces(&'a str),
 }
 
-/// The lexemes of a text, however many. `QuestionSyntax` where it has none; `Memory`.
+/// Reads the lexemes of a text, however many there are.
+///
+/// Fails with `QuestionSyntax` if the text is not made of lexemes, and with `Memory` if memory runs
+/// out.
 pub fn read_lexemes(alloc: Global, text: &str) -> Result<Vec<Lexeme<'_>>, Kind>
     ensures read { IfOk result (λ lexemes. SpellsLexemes text.now (map lexeme_view lexemes.items)) }
     ensures refused { IfErr result (λ kind. kind ≢ kinds.Memory → (kind ≡ kinds.QuestionSyntax)
@@ -45,7 +48,7 @@ pub fn read_lexemes(alloc: Global, text: &str) -> Result<Vec<Lexeme<'_>>, Kind>
     Ok(lexemes)
 }
 
-/// The first lexeme of a text that begins with no whitespace, and what stands behind it.
+/// The first lexeme of a text that does not begin with whitespace, and what follows it.
 #[tactic(auto, unfolding(crate::specs::LexemeReading::read_lexeme))]
 fn read_lexeme(alloc: Global, text: &str) -> Result<(Lexeme<'_>, &str), Kind>
     ensures read { IfOk result (λ x. read_lexeme text.now ≡ Some (lexeme_view x.0, x.1.now)) }
@@ -70,7 +73,7 @@ fn read_lexeme(alloc: Global, text: &str) -> Result<(Lexeme<'_>, &str), Kind>
     }
 }
 
-/// What the text behind an opening quote stands for, and what stands behind the closing one.
+/// What the text after an opening quote stands for, and what follows the closing quote.
 fn read_quoted(alloc: Global, text: &str) -> Result<(String, &str), Kind>
     ensures read { IfOk result (λ x. read_quoted text.now ≡ Some (string_bytes x.0, x.1.now)) }
     ensures refused { IfErr result (λ kind. kind ≢ kinds.Memory → (kind ≡ kinds.QuestionSyntax)
@@ -100,7 +103,7 @@ fn plain_len(text: &[u8]) -> usize
         .count()
 }
 
-/// What stands for a byte behind a backslash.
+/// The character for which a byte stands after a backslash.
 fn escape_of(byte: u8) -> Result<char, Kind>
     ensures read { IfOk result (λ character. (has_escape byte ≡ true)
         × (character ≡ byte_of_escape byte)) }

@@ -1,8 +1,8 @@
-//! The texts of questions, and what the inputs of a call that asks one mean.
+//! Reading questions, and all inputs of a call that asks one.
 //!
-//! [`parse_question`] reads a [`Question`](am_eval::Question) about a configuration, and
-//! [`read_inputs`] all that a question is asked over: the universe, the world, the question, and
-//! where the answers begin.
+//! [`parse_question`] reads a [`Question`](am_eval::Question) about a configuration.
+//! [`read_inputs`] reads all that a question is asked over: the universe, the world, the question,
+//! and where the answers begin.
 #![tactic(auto)]
 
 // How much there may be.

@@ -1,4 +1,4 @@
-//! The limit of questions. (This project's own.)
+//! The limit of questions. It is this project's own choice.
 
-/// The most lexemes of a question, and so the most parts that it can have.
+/// The most lexemes that a question may have, and so also the most parts.
 pub const MAX_LEXEMES: usize = 256;

@@ -21,10 +21,11 @@ use std::alloc::Global;
 
 /// Reads a question about a configuration.
 ///
-/// The first of: `QuestionSyntax` where the text has no lexemes; `Limit` for more than
-/// [`MAX_LEXEMES`]; `QuestionSyntax` where the lexemes are no question; then, part by part from
-/// left to right, `UnknownReceiver`, `UnknownRoute`, or what `parse_matchers` answers. `Memory`
-/// only where memory ran out.
+/// Fails with the first of: `QuestionSyntax`, the text is not made of lexemes; `Limit`, there are
+/// more than [`MAX_LEXEMES`] of them; `QuestionSyntax`, they do not make a question; and then, part
+/// by part from left to right, `UnknownReceiver`, the configuration does not declare the receiver,
+/// `UnknownRoute`, it has no such route, or a refusal of `parse_matchers`. `Memory` comes only if
+/// memory runs out.
 pub fn parse_question(alloc: Global, text: &str, config: &Config) -> Result<Question, Kind>
     ensures read { IfOk result (λ question.
         ReadsQuestion (config_view config.now) text.now (question_view question)) }
@@ -39,7 +40,7 @@ pub fn parse_question(alloc: Global, text: &str, config: &Config) -> Result<Ques
     question_of(alloc, config, &tree)
 }
 
-/// The question that a tree means. An `Err` is that of its first simple part that means nothing.
+/// The question that a tree means. Fails as its first simple part does that means nothing.
 fn question_of(alloc: Global, config: &Config, tree: &Tree<'_>) -> Result<Question, Kind>
     ensures meant { IfOk result (λ question.
         TreeMeans (config_view config.now) (tree_view tree.now) (question_view question)) }
@@ -82,7 +83,8 @@ fn part_of(alloc: Global, config: &Config, written: &Written<'_>) -> Result<Ques
     }
 }
 
-/// The path with this text, where there is a route. `UnknownRoute` where there is none.
+/// The path with this text, if the configuration has a route there. Fails with `UnknownRoute` if it
+/// has none.
 fn path_of_route(config: &Config, text: &str) -> Result<Path, Kind>
     ensures found { IfOk result (λ path.
         IsPathOfRoute (config_view config.now) text.now path) }

@@ -6,21 +6,22 @@ use am_judged_lists::Cube;
 use am_search::Labels;
 use am_universe::Choice;
 
-/// A literal: a list of matchers, as a cube, which a label set has to match or must not match. With
-/// it stand whether it is named as one of those that are to blame, and a number by which the caller
-/// knows it.
+/// A literal: the cube of a list of matchers, which a label set has to match or must not match.
+///
+/// `named` says whether it is named as one of those that are to blame. By `tag` the caller knows
+/// it.
 #[derive(Clone, Copy)]
 pub struct Candidate<'a> {
     pub cube: &'a Cube,
-    /// The label set has to match, and not: it must not.
+    /// Whether the label set has to match; if not, it must not match.
     pub wanted: bool,
     pub named: bool,
     pub tag: usize,
 }
 
 impl<'a> Candidate<'a> {
-    /// Why no completion of a prefix makes the literal true, where the cube says so. Of a whole
-    /// choice `None` says that it is true.
+    /// Why no completion of a prefix makes the literal true, if the cube says so. At a whole choice
+    /// `None` means that it is true.
     pub(crate) fn why_not(&self, prefix: &Choice) -> Option<Labels>
         ensures some { IfSome result (λ labels.
             IsReasonAgainst (λ c. holds_at c self.now) labels prefix.now) }

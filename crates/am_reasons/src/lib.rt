@@ -1,10 +1,11 @@
-//! Which literals are to blame that no label set of a space meets all of them.
+//! Which literals are to blame if no label set of a space meets all of them.
 //!
-//! A [`Candidate`] is a literal, a cube that has to match or must not match, which may be named or
-//! not. [`first_meeting`] finds the first label set that meets those that are named. Where there is
-//! none that meets all, [`find_reason`] names some of them: enough, so that no label set meets
-//! those that are named, and each of them needed. [`first_pair`] and [`find_pair_reason`] do the
-//! same for two label sets that share the values of some labels, each with literals of its own.
+//! A [`Candidate`] is a literal, a cube that a label set has to match or must not match. It may be
+//! named or not. [`first_meeting`] finds the first label set that meets those that are named. If no
+//! label set meets all literals, [`find_reason`] names enough of them that no label set meets those
+//! either. Beside those that the caller fixes, it names only what is needed. [`first_pair`] and
+//! [`find_pair_reason`] do the same for two label sets that share the values of some labels, each
+//! with literals of its own.
 #![tactic(auto)]
 
 // Literals, and the first label set that meets those that are named.

@@ -12,8 +12,10 @@ use am_first_sets::PossibleRefuter;
 use am_search::{Labels, Refuter, first_by_jumps};
 use am_universe::Choice;
 
-/// The first choice of a space, in declared order, that meets the literals that are named, if there
-/// is one. No memory is taken.
+/// Returns the first choice of a space, in declared order, that meets the named literals, if there
+/// is one.
+///
+/// Takes no memory.
 pub fn first_meeting(possible: &PossibleRefuter<'_>, candidates: &[Candidate<'_>]) -> Option<Choice>
     ensures first { result ≡ find (λ c. meets c candidates.now)
         (all_choices (possible_space possible.now)) }
@@ -26,7 +28,7 @@ pub fn first_meeting(possible: &PossibleRefuter<'_>, candidates: &[Candidate<'_>
     first_by_jumps(&refuter)
 }
 
-/// What refutes prefixes none of whose completions is possible and meets the literals.
+/// Refutes prefixes of which no completion is possible and meets the literals.
 #[derive(Drop)]
 struct MeetingRefuter<'a> {
     possible: &'a PossibleRefuter<'a>,
@@ -59,8 +61,8 @@ impl<'a> Refuter for MeetingRefuter<'a> {
     }
 }
 
-/// Why no completion of a prefix meets the literals that are named, where their cubes say so: the
-/// reason against the first that is not met.
+/// Why no completion of a prefix meets the named literals, if their cubes say so: the reason
+/// against the first that is not met.
 pub(crate) fn why_unmet(candidates: &[Candidate<'_>], prefix: &Choice) -> Option<Labels>
     ensures some { IfSome result (λ labels.
         IsReasonAgainst (λ c. meets c candidates.now) labels prefix.now) }

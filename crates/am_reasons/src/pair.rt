@@ -1,4 +1,7 @@
 //! Pairs of label sets that share the values of some labels, and meet the literals of two sides.
+//!
+//! For each label set that meets the first side, the search tries whether another meets the second
+//! side with the same values. Both searches jump.
 
 ghost use Rattle.std.specs.Prelude.{◌≡◌, ◌<◌, ◌≤◌, ℕ, true, false, length, IfSome, IfNone};
 ghost use Rattle.std.specs.List.{find, AllByRecursion};
@@ -19,9 +22,10 @@ use am_first_sets::PossibleRefuter;
 use am_search::{Labels, Refuter, first_by_jumps};
 use am_universe::Choice;
 
-/// Two choices of a space that have the same positions at some labels, of which the first meets the
-/// literals of one side that are named, and the second those of the other; if there are such. No
-/// memory is taken.
+/// Returns two choices of a space that meet the named literals of two sides, if there are such.
+///
+/// The first meets those of `first`, and the second those of `second`. Both have the same positions
+/// at the labels in `shared`, which the space has to declare. Takes no memory.
 pub fn first_pair(
     possible: &PossibleRefuter<'_>,
     shared: &[usize],
@@ -50,8 +54,8 @@ pub fn first_pair(
     }
 }
 
-/// What refutes prefixes none of whose completions is possible, meets the literals of the first
-/// side, and has a partner that meets those of the second.
+/// Refutes prefixes of which no completion is possible, meets the literals of the first side, and
+/// has a partner that meets those of the second.
 #[derive(Drop)]
 struct PairRefuter<'a> {
     possible: &'a PossibleRefuter<'a>,
@@ -121,7 +125,7 @@ fn shared_to_blame(
 }
 
 /// The first choice of a space that has the same positions as another at some labels, and meets the
-/// literals that are named, if there is one.
+/// named literals, if there is one.
 fn first_partner(
     possible: &PossibleRefuter<'_>,
     shared: &[usize],
@@ -143,8 +147,8 @@ fn first_partner(
     first_by_jumps(&refuter)
 }
 
-/// What refutes prefixes none of whose completions is possible, has the same positions as a whole
-/// choice at some labels, and meets the literals.
+/// Refutes prefixes of which no completion is possible, has the same positions as a whole choice at
+/// some labels, and meets the literals.
 #[derive(Drop)]
 struct PartnerRefuter<'a> {
     possible: &'a PossibleRefuter<'a>,

@@ -13,9 +13,11 @@ use crate::pair::first_pair;
 use crate::reason::set_named;
 use am_first_sets::PossibleRefuter;
 
-/// Takes the names off literals of two sides that are not needed, where there is no pair for those
-/// that are named: what is left named is enough, so that there is none, and without each of it
-/// there is one. No memory is taken.
+/// Finds which named literals of two sides are to blame that no pair of label sets meets them.
+///
+/// There must be no pair that meets the named literals. Those that are not needed lose their names.
+/// Those that are left named are enough: no pair meets them, and without any of them some pair
+/// meets the rest. Takes no memory.
 pub fn find_pair_reason(
     possible: &PossibleRefuter<'_>,
     shared: &[usize],

@@ -1,4 +1,7 @@
 //! The search for literals that are to blame.
+//!
+//! Each label set that is found names one more literal. So the number of searches grows with the
+//! number of literals that are named, and not with the number of all.
 
 ghost use Rattle.std.specs.Prelude.{◌≡◌, ◌⊎◌, ◌<◌, ℕ, true, false, length, slice_get, Some, IsTrue};
 ghost use Rattle.std.specs.Prelude.{IfSome, IfNone};
@@ -13,14 +16,16 @@ use crate::meeting::first_meeting;
 use am_first_sets::PossibleRefuter;
 use am_universe::Choice;
 
-/// Names the literals that are to blame where no label set of a space meets all of them: enough, so
-/// that none meets those that are named; the first `fixed` of them all, and of the others only such
-/// as are needed, so that without any of these some label set meets those that are left. No memory
-/// is taken.
+/// Finds which literals are to blame that no label set of a space meets all of them, and names
+/// those.
 ///
-/// It begins with the first `fixed` alone, and looks for a label set that meets what is named; the
-/// first other literal that this one does not meet is named next. Where there is no such label set
-/// any more, what is not needed is left out, one after the other.
+/// There must be no label set that meets all. The first `fixed` are named, and of the others enough
+/// that no label set meets those that are named. Each of these others is needed: without it, some
+/// label set meets the rest. Takes no memory.
+///
+/// The search begins with the first `fixed` alone. It looks for a label set that meets what is
+/// named, and then names the first other literal that this label set does not meet. Once there is
+/// no such label set, it leaves out what is not needed, one literal after the other.
 pub fn find_reason(possible: &PossibleRefuter<'_>, candidates: &mut [Candidate<'_>], fixed: usize)
     requires none { IsAnyMet (possible_space possible.now) candidates.old → ⊥ }
     ensures same { AreSameLiterals candidates.old candidates.new }
@@ -73,8 +78,8 @@ fn first_false(candidates: &[Candidate<'_>], choice: &Choice) -> Option<usize>
     None
 }
 
-/// Takes the names off literals that are not needed, from a position on: without one of those that
-/// are left named some label set of a space meets the others.
+/// Takes the names off literals that are not needed, from a position on. Without any one of those
+/// that are left named, some label set of a space meets the others.
 fn leave_out(possible: &PossibleRefuter<'_>, candidates: &mut [Candidate<'_>], from: usize)
     requires first { AreNamedBefore from candidates.old }
     requires enough { IsUnmet (possible_space possible.now) candidates.old }

@@ -60,6 +60,9 @@ pub record IsComparison (ascii : Bool) (s : Space) (old new : Configuration) (ch
 -- The inputs are accepted, at the labels that the universe file declares nothing is lacking, and
 -- the text is a comparison of the configurations, for every alert that is possible; with `--ascii`
 -- for every one of these whose values are printable ASCII.
+-- Source: own choice.
+-- Example: where the top-level route stands alone, and has the receiver `a` in the old file and `b`
+-- in the new one, the report is the lines `"a" -> "b" {}` and `# 1 change`.
 pub record ComparesFiles (inputs : CompareInputs) (changes : ℕ) (report : List ℕ)
     : Type 0 where
   pub space : Space

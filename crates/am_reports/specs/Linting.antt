@@ -92,6 +92,10 @@ pub record IsLinted (inputs : LintInputs) (s : Space) (w : World) (findings : â„
 -- the text is a report of what is wrong with the configuration, for every alert that is possible;
 -- with `--ascii` for every one of these whose values are printable ASCII. Whether it has a finding
 -- is told.
+-- Source: own choice.
+-- Example: where the top-level route stands alone and has the receiver `a`, and there is a receiver
+-- `b` beside it, the report is the lines `receiver "b" unmatched: no route names it` and
+-- `# 1 finding, 0 notes`.
 pub record LintsFiles (inputs : LintInputs) (found : Bool) (report : List â„•) : Type 0 where
   pub space : Space
   pub world : World

@@ -27,6 +27,9 @@ pub record IsOutcomesReport (ascii : Bool) (s : Space) (c : Configuration) (repo
 -- The inputs are accepted, at the labels that the universe file declares nothing is lacking, and
 -- the text is a report of the outcomes of the configuration, for every alert that is possible; with
 -- `--ascii` for every one of these whose values are printable ASCII.
+-- Source: own choice.
+-- Example: where the top-level route stands alone and has the receiver `a`, the report is the lines
+-- `"a" {}` and `# end`.
 pub record ReportsOutcomes (inputs : ReportInputs) (report : List ℕ) : Type 0 where
   pub space : Space
   pub configuration : Configuration

@@ -1,4 +1,10 @@
 //! What becomes of every alert.
+//!
+//! The space is made in memory, over all texts or over those of printable ASCII. Its universe is
+//! complete for the routes of all configurations of the call together, and for the impossible
+//! lists. So each alert has the receivers of a choice, under both configurations at once, and each
+//! choice is an alert. The labels stand in the order in which the files first ask about them, the
+//! old configuration before the new one.
 
 ghost use Rattle.std.specs.Prelude.{◌≡◌, ◌≢◌, IfOk, IfErr, option_copied};
 ghost use Rattle.am_universe.specs.declared.kind.Kind.TheVariants as kinds;
@@ -28,11 +34,11 @@ pub(crate) struct AllOutcomes {
     pub outcomes: Outcomes,
 }
 
-/// The outcomes of every alert that counts, under each of some configurations. The labels that a
-/// universe file declares, which says the space, are looked at first.
+/// Finds the outcomes of every alert that counts, under each of the configurations. The labels that
+/// the universe file declares are checked first.
 ///
-/// Refused as [`check_declared`] and [`universe_for_routes`] have it, and then with `Limit`, at
-/// `Universe`, where more states have to be told apart than there is room for; `Memory`.
+/// Fails as [`check_declared`] and [`universe_for_routes`] do; then with `Limit`, at `Universe`, if
+/// more states have to be told apart than there is room for; and with `Memory`.
 pub(crate) fn all_outcomes(
     alloc: Global,
     ascii: bool,
@@ -68,10 +74,10 @@ pub(crate) fn all_outcomes(
     })
 }
 
-/// The outcomes of the choices of a space.
+/// Finds the outcomes of the choices of a space.
 ///
-/// `Limit`, at `Universe`, where more states have to be told apart than there is room for;
-/// `Memory`.
+/// Fails with `Limit`, at `Universe`, if more states have to be told apart than there is room for,
+/// and with `Memory`.
 fn outcomes_told_apart(
     alloc: Global,
     space: &Space,

@@ -1,10 +1,10 @@
-//! What `compare` looks at.
+//! The inputs of `compare`.
 
 ghost use Rattle.std.specs.Prelude.{◌≡◌, IfOk, IfErr, option_copied};
 ghost use Rattle.am_json.specs.Reading.{IsRefusalAt};
 ghost use Rattle.am_config.specs.ConfigView.{config_view};
 ghost use Rattle.am_config.specs.ConfigFile.{FileSaysConfig};
-ghost use Rattle.am_config.specs.ConfigFaults.{ConfigFileRefusedFor};
+ghost use Rattle.am_config.specs.ConfigForm.{ConfigFileRefusedFor};
 ghost use Rattle.am_eval.specs.Faults.{IsFirstFault};
 ghost use Rattle.am_reports.specs.CompareInputs.{AcceptsCompareInputs, compare_input_stages};
 
@@ -15,16 +15,17 @@ use am_universe_command::read_universe_if_any;
 use std::alloc::Global;
 use std::marker::Model;
 
-/// What `compare` looks at.
+/// The inputs of `compare`.
 #[derive(Drop)]
 pub struct CompareInputs<'a> {
-    /// The bytes of a universe file, whose impossible lists count.
+    /// The bytes of a universe file. An alert that one of its impossible lists matches does not
+    /// count. Each label that it declares needs a value for every alert.
     pub universe: Option<&'a [u8]>,
-    /// The bytes of the configuration file that the other one is compared with.
+    /// The bytes of the old configuration file.
     pub old: &'a [u8],
-    /// The bytes of the configuration file that is compared with it.
+    /// The bytes of the new configuration file.
     pub new: &'a [u8],
-    /// Alerts whose values are printable ASCII count alone.
+    /// Whether only alerts whose values are printable ASCII count.
     pub ascii: bool,
 }
 
@@ -50,8 +51,8 @@ pub(crate) struct Compared {
     pub new: Config,
 }
 
-/// Reads the universe file, if there is one, and then the old and the new configuration file. The
-/// first fault is the one answered.
+/// Reads the universe file, if there is one, then the old and then the new configuration file.
+/// Fails with the first fault.
 pub(crate) fn read_compared(alloc: Global, inputs: &CompareInputs<'_>) -> Result<Compared, Fault>
     ensures accepts { IfOk result (λ read. AcceptsCompareInputs inputs.now read.space
         (config_view read.old) (config_view read.new)) }
@@ -63,7 +64,7 @@ pub(crate) fn read_compared(alloc: Global, inputs: &CompareInputs<'_>) -> Result
     Ok(Compared { space, old, new })
 }
 
-/// Reads a configuration file whose faults stand at a place of its own.
+/// Reads a configuration file. Its faults are at the given place.
 fn read_config_at(alloc: Global, place: Place, bytes: &[u8]) -> Result<Config, Fault>
     ensures says { IfOk result (λ config. FileSaysConfig bytes.now (config_view config)) }
     ensures refused { IfErr result (IsRefusalAt place (ConfigFileRefusedFor bytes.now)) }

@@ -1,4 +1,4 @@
-//! Saying what changes between two configurations.
+//! The command `compare`.
 
 ghost use Rattle.std.specs.Prelude.{◌≡◌, IfOk, IfErr, string_bytes};
 ghost use Rattle.am_config.specs.ConfigView.{config_view};
@@ -20,25 +20,33 @@ use am_outcomes::{Changes, changes_text};
 use am_universe::{Fault, Sink, answer_of_write, put_str};
 use std::alloc::Global;
 
-/// Writes what changes between two configurations, for every alert that is possible: a line for
-/// each pair of lists of receivers that some alert goes to and whose names differ, with the first
-/// label set that goes there, and then how many there are. The answer is how many changes there
-/// are.
+/// Writes which alerts go to other receivers under a new configuration than under an old one, for
+/// every possible alert.
 ///
-/// All input is read and all is found before the first byte is written.
+/// There is a line for each pair of receiver lists, an old one and a new one with other names, to
+/// which some alert goes. It ends with the first label set that goes there. Then comes the number
+/// of changes, which is also returned. All input is read and all results are found before the first
+/// byte is written.
 ///
-/// The first fault is the one answered: a fault of the universe file, at `Universe`, as
-/// `read_universe` has it; of the old configuration file, at `Old`, and then of the new one, at
-/// `New`, as `read_config` has it; and then as `outcomes` has it, where a route of the old
-/// configuration stands at `Old`, and one of the new one at `New`. A label that the routes of both
-/// ask of is first asked of in the old one.
+/// Fails with the first of these faults:
+///
+/// - at `Universe`, those of `read_universe`;
+/// - at `Old`, those of `read_config` for the old configuration;
+/// - at `New`, those of `read_config` for the new configuration;
+/// - what [`outcomes`](crate::outcomes()) refuses after reading its files, with a route of the old
+///   configuration at `Old` and one of the new configuration at `New`; if routes of both ask about
+///   a label, the old configuration asks about it first;
+/// - `Write`.
+///
+/// `Memory` may come at any point. After any fault but `Write` the sink is unchanged; after `Write`
+/// it has taken a prefix of the report.
 pub fn compare<W: Sink>(
     alloc: Global,
     inputs: &CompareInputs<'_>,
     out: &mut W,
 ) -> Result<usize, Fault>
-    // Each alert goes to receivers of the same names under both, or has one of the lines, and each
-    // line has an alert.
+    // Each alert goes to receivers of the same names under both, or one of the lines is about it,
+    // and each line shows an alert.
     ensures kept { IsKept (compare_promise inputs.now) W.taken W.failures out.old out.new result }
 {
     let read = read_compared(alloc, inputs)?;
@@ -49,7 +57,7 @@ pub fn compare<W: Sink>(
     )
 }
 
-/// The comparison of what inputs say.
+/// Compares the configurations that were read.
 fn changes_of_inputs(
     alloc: Global,
     inputs: &CompareInputs<'_>,

@@ -1,4 +1,4 @@
-//! The configurations that a call is about.
+//! The configurations of a call.
 
 ghost use Rattle.std.specs.Prelude.{◌≡◌, ◌≢◌, IfOk};
 ghost use Rattle.std.specs.List.{list_any};
@@ -19,15 +19,15 @@ use am_universe::{Fault, Place};
 use am_universe_command::unproved_fault;
 use std::alloc::{AllocError, Global};
 
-/// One configuration; or an old one, and a new one that is compared with it.
+/// One configuration, or an old one and a new one that is compared with it.
 #[derive(Clone, Copy)]
 pub(crate) enum Configs<'a> {
     One(&'a Config),
     Pair(&'a Config, &'a Config),
 }
 
-/// The labels that the routes of configurations ask of, and then those that the impossible lists of
-/// a space do. An `Err` only where memory was refused.
+/// The labels that the routes of the configurations ask about, and then those that the impossible
+/// lists of a space ask about. Fails only if memory runs out.
 pub(crate) fn labels_asked<'a>(
     alloc: Global,
     configs: Configs<'a>,
@@ -44,8 +44,8 @@ pub(crate) fn labels_asked<'a>(
     }
 }
 
-/// Why nothing is made where a label of this name is unproved, which is first asked of there. It
-/// fails only where memory ran out.
+/// The fault of an unproved label that `origin` asks about first. It is `Memory` only if memory
+/// runs out here.
 pub(crate) fn unproved_label(
     alloc: Global,
     configs: Configs<'_>,
@@ -67,8 +67,8 @@ pub(crate) fn unproved_label(
     }
 }
 
-/// Whether the routes of a configuration ask of a label of this name. An `Err` only where memory
-/// was refused.
+/// Whether the routes of a configuration ask about the label of this name. Fails only if memory
+/// runs out.
 fn asks_of(alloc: Global, config: &Config, name: &str) -> Result<bool, AllocError>
     ensures { IfOk result (λ asks. asks ≡ asks_of (config_view config.now) name.now) }
 {

@@ -1,4 +1,4 @@
-//! What a report says of inhibition rules, of silences, and of values that no alert has.
+//! The sections of a report on inhibition rules, on silences, and on values that no alert has.
 
 ghost use Rattle.std.specs.Prelude.{◌≡◌, ◌≢◌, [], length, string_bytes, IfOk, IfErr, OnOk};
 ghost use Rattle.std.specs.List.{AllZip};
@@ -26,11 +26,11 @@ use am_universe_command::pointer_to;
 use am_unseen::{push_unseen, unseen_values};
 use std::alloc::{AllocError, Global};
 
-/// What is to be said of inhibition rules, for every alert over an alphabet that the impossible
-/// lists of a space do not match. The space declares no label, before and after.
+/// Makes the section on inhibition rules, for every alert over an alphabet that no impossible list
+/// of a space matches. The space declares no label, before and after.
 ///
-/// `Limit` or `Unproved`, at `Config` and the pointer of the first rule for whose matchers no
-/// universe can be made; `Memory`.
+/// Fails with `Limit` or `Unproved`, at `Config` and with the pointer of the first rule for whose
+/// matchers no universe can be made, and with `Memory`.
 pub(crate) fn rule_section(
     alloc: Global,
     alphabet: Alphabet,
@@ -63,7 +63,7 @@ pub(crate) fn rule_section(
     }
 }
 
-/// The lines of rules. An `Err` only where memory was refused.
+/// The lines of rules. Fails only if memory runs out.
 fn rule_lines(
     alloc: Global,
     rules: &[Rule],
@@ -81,11 +81,11 @@ fn rule_lines(
     Ok(lines)
 }
 
-/// What is to be said of the silences of a world, for the same alerts. Whether one hides none of
-/// the alerts that fire is said where a file of these is given.
+/// Makes the section on the silences of a world, for the same alerts. If `given`, there is a file
+/// of firing alerts, and the section also says which active silences hide none of them.
 ///
-/// `Limit` or `Unproved`, at `Silences` and the pointer of the first silence for whose matchers no
-/// universe can be made; `Memory`.
+/// Fails with `Limit` or `Unproved`, at `Silences` and with the pointer of the first silence for
+/// whose matchers no universe can be made, and with `Memory`.
 pub(crate) fn silence_section(
     alloc: Global,
     alphabet: Alphabet,
@@ -117,7 +117,7 @@ pub(crate) fn silence_section(
     }
 }
 
-/// The lines of silences. An `Err` only where memory was refused.
+/// The lines of silences. Fails only if memory runs out.
 fn silence_lines(
     alloc: Global,
     silences: &Silences,
@@ -134,8 +134,8 @@ fn silence_lines(
     Ok(lines)
 }
 
-/// Which values matchers of a world name that none of its alerts has, where a file of alerts is
-/// given. An `Err` only where memory was refused.
+/// Makes the section on values that matchers of a world name and that none of its alerts has. It
+/// has no line unless a file of alerts is `given`. Fails only if memory runs out.
 pub(crate) fn value_section(
     alloc: Global,
     world: &World,
@@ -160,8 +160,8 @@ pub(crate) fn value_section(
     })
 }
 
-/// Why nothing is said: for what stands there in a file no universe can be made. Where the kind is
-/// neither `Limit` nor `Unproved`, and where memory runs out here, it is that memory ran out.
+/// The fault of matchers for which no universe can be made. It is `Memory` if `kind` is neither
+/// `Limit` nor `Unproved`, or if memory runs out here.
 fn fault_at(alloc: Global, kind: Kind, place: Place, origin: &Origin) -> Fault
     ensures refusal { result.kind ≢ kinds.Memory → (result.place ≡ place)
         × (refusal_of result ≡ record { kind = kind; pointer = origin_pointer origin.now }) }

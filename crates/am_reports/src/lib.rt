@@ -1,10 +1,10 @@
-//! The commands that speak of every alert, as functions over bytes and a
-//! [`Sink`](am_universe::Sink).
+//! The commands `lint`, `compare` and `outcomes`, which speak of every alert, as functions over
+//! bytes and a [`Sink`](am_universe::Sink).
 //!
-//! [`lint`] says what is wrong with the routes and receivers of a configuration, and why.
-//! [`outcomes`] lists to which receivers alerts go, and [`compare`] what changes between two
-//! configurations. They need no universe file: they make the universes that stand for every alert
-//! by themselves.
+//! [`lint`] says what is wrong with a configuration, with silences, and with the values that
+//! matchers name, and why. [`outcomes`] lists to which receivers alerts go, and [`compare`] what
+//! changes between two configurations. They need no universe file: each makes the universes that
+//! stand for every alert itself.
 #![tactic(auto)]
 
 // What is handed in.

@@ -1,4 +1,4 @@
-//! What `lint` looks at.
+//! The inputs of `lint`.
 
 ghost use Rattle.std.specs.Prelude.{◌≡◌, is_some, IfOk, IfErr};
 ghost use Rattle.am_eval.specs.Faults.{IsFirstFault};
@@ -11,15 +11,16 @@ use am_universe_command::read_universe_if_any;
 use std::alloc::Global;
 use std::marker::Model;
 
-/// What `lint` looks at.
+/// The inputs of `lint`.
 #[derive(Drop)]
 pub struct LintInputs<'a> {
-    /// The bytes of a universe file, whose impossible lists count.
+    /// The bytes of a universe file. An alert that one of its impossible lists matches does not
+    /// count. Each label that it declares needs a value for every alert.
     pub universe: Option<&'a [u8]>,
-    /// The configuration file; the silences and the alerts, as far as there are such; and the
-    /// instant at which silences are looked at.
+    /// The configuration, the silences, the firing alerts, and the instant at which silences are
+    /// looked at. Each is optional, but silences need an instant.
     pub files: &'a Files<'a>,
-    /// Alerts whose values are printable ASCII count alone.
+    /// Whether only alerts whose values are printable ASCII count.
     pub ascii: bool,
 }
 
@@ -52,7 +53,7 @@ impl<'a> LintInputs<'a> {
         files.alerts.is_some()
     }
 
-    /// Whether ordinary alerts count alone.
+    /// Whether only alerts whose values are printable ASCII count.
     pub(crate) fn is_ascii(&self) -> bool
         ensures { result ≡ self.now.ascii }
     {
@@ -67,8 +68,8 @@ pub(crate) struct ReadWorld {
     pub world: World,
 }
 
-/// Reads the universe file, if there is one, and then what the world is made of. The first fault is
-/// the one answered.
+/// Reads the universe file, if there is one, and then the files of the world. Fails with the first
+/// fault.
 pub(crate) fn read_lint_inputs(alloc: Global, inputs: &LintInputs<'_>) -> Result<ReadWorld, Fault>
     ensures accepts { IfOk result (λ read. AcceptsLintInputs inputs.now read.space read.world) }
     ensures first { IfErr result (IsFirstFault (lint_input_stages inputs.now)) }

@@ -1,4 +1,4 @@
-//! Saying what is wrong with a configuration.
+//! The command `lint`.
 
 ghost use Rattle.std.specs.Prelude.{IfOk, IfErr, string_bytes};
 ghost use Rattle.am_eval.specs.Faults.{IsFirstFault};
@@ -16,26 +16,35 @@ use crate::section::{LintReport, report_of};
 use am_universe::{Fault, Sink, Universe, answer_of_write, put_str};
 use std::alloc::Global;
 
-/// Writes what is wrong with a configuration, for every alert that is possible: a line for each
-/// finding and each note on its routes, receivers and inhibition rules; with silences, on those
-/// that are not over at the instant; and with alerts, on values that none of them has. Then comes
-/// how many findings and notes there are. The answer is whether there is a finding.
+/// Writes what is wrong with a configuration, for every possible alert.
 ///
-/// All input is read and all is found before the first byte is written.
+/// There is a line for each finding and each note on routes, receivers and inhibition rules; with
+/// silences, on those that are not over at the instant; and with firing alerts, on values in
+/// matchers that none of them has. The last line has the numbers of findings and notes. Returns
+/// whether there is a finding. All input is read and all results are found before the first byte is
+/// written.
 ///
-/// The first fault is the one answered: a fault of the universe file, at `Universe`, as
-/// `read_universe` has it; of the other files and the instant, as `read_world` has it;
-/// `Incomplete`, at `Universe` and the pointer of the first label that the universe file declares
-/// and that lacks a value, or `Unproved`, where that is not known of an earlier one; `Limit`, at
-/// `Universe` and with no pointer, where the routes ask of more labels, or of more values of one,
-/// than a universe may have; `Unproved`, where the classes of a label could not be computed, or it
-/// needs a value and its name is no label name, at the file and with the pointer of the route or
-/// impossible list that first asks of it; `Limit` or `Unproved` in the same cases of a rule, at
-/// `Config`, and then of a silence that is not over, at `Silences`, with the pointer of the first
-/// of these; `Write`. `Memory` comes wherever memory ran out. After any but `Write` the sink is as
-/// it was.
+/// Fails with the first of these faults:
+///
+/// - at `Universe`, those of `read_universe`;
+/// - at `Config`, `Silences`, `Alerts` or `Instant`, those of `read_world`;
+/// - for the first label of the universe file that is not known to have a value for every alert:
+///   `Incomplete`, at `Universe` and with the label's pointer, if a value is missing; `Unproved`,
+///   at the file and with the pointer of the route or impossible list that first asks about the
+///   label, if its classes could not be computed;
+/// - `Limit`, at `Universe` and with no pointer, if the routes and impossible lists need more
+///   labels, or more values of one label, than a universe may have;
+/// - `Unproved`, at the file and with the pointer of the route or impossible list that first asks
+///   about a label, if the classes of the label could not be computed, or if it needs a value and
+///   its name is no label name;
+/// - `Limit` or `Unproved`, for the same reasons, at `Config` and with the pointer of the first
+///   such rule; then at `Silences` and with the pointer of the first such silence that is not over;
+/// - `Write`.
+///
+/// `Memory` may come at any point. After any fault but `Write` the sink is unchanged; after `Write`
+/// it has taken a prefix of the report.
 pub fn lint<W: Sink>(alloc: Global, inputs: &LintInputs<'_>, out: &mut W) -> Result<bool, Fault>
-    // What is said of each route, receiver, rule, silence and value is so.
+    // What the report says of each route, receiver, rule, silence and value is so.
     ensures kept { IsKept (lint_promise inputs.now) W.taken W.failures out.old out.new result }
 {
     let read = read_lint_inputs(alloc, inputs)?;
@@ -46,7 +55,7 @@ pub fn lint<W: Sink>(alloc: Global, inputs: &LintInputs<'_>, out: &mut W) -> Res
     )
 }
 
-/// The report on what inputs say.
+/// Makes the report on the inputs that were read.
 fn lint_report(alloc: Global, inputs: &LintInputs<'_>, read: ReadWorld) -> Result<LintReport, Fault>
     ensures reports { IfOk result (λ report. AcceptsLintInputs inputs.now read.space read.world
         → IsLinted inputs.now read.space read.world report.findings (string_bytes report.text)) }

@@ -17,7 +17,7 @@ use am_labels::Space;
 use am_universe::{Fault, Kind, Place, Universe};
 use std::alloc::Global;
 
-/// Which texts the labels of alerts may have.
+/// The alphabet of the alerts that count.
 pub(crate) fn alphabet_of(ascii: bool) -> Alphabet
     ensures { result ≡ alphabet_of ascii }
 {
@@ -28,12 +28,13 @@ pub(crate) fn alphabet_of(ascii: bool) -> Alphabet
     }
 }
 
-/// A universe that stands for every alert over an alphabet, for the matchers of the routes and of
-/// the impossible lists of a space that declares no label.
+/// Makes a universe that stands for every alert over an alphabet, for the matchers of the routes
+/// and of the impossible lists of a space that declares no label.
 ///
-/// `Limit`, at `Universe`, where there is no room for the labels that are asked of; `Unproved`, at
-/// the file and with the pointer of the route or list that first asks of the first label whose
-/// classes could not be computed, or which needs a value and has no label name; `Memory`.
+/// Fails with the first of: `Limit`, at `Universe`, if there is no room for the labels that are
+/// asked about; `Unproved`, at the file and with the pointer of the route or list that first asks
+/// about the first label whose classes could not be computed, or which needs a value and has no
+/// label name. `Memory` may come at any point.
 pub(crate) fn universe_for_routes(
     alloc: Global,
     alphabet: Alphabet,
@@ -61,12 +62,13 @@ pub(crate) fn universe_for_routes(
     Ok(made.universe)
 }
 
-/// Refuses a space that lacks a value at one of its labels, for the matchers of the routes and of
-/// the impossible lists.
+/// Checks that no label of a space lacks a value, for the matchers of the routes and of the
+/// impossible lists.
 ///
-/// `Incomplete`, at `Universe` and the pointer of the first label that lacks one; `Unproved`, at
-/// the file and with the pointer of the route or list that first asks of a label before that, where
-/// the classes of this label could not be computed; `Memory`.
+/// Fails for the first label of which this is not known: with `Incomplete`, at `Universe` and with
+/// the label's pointer, if it lacks a value; with `Unproved`, at the file and with the pointer of
+/// the route or list that first asks about it, if its classes could not be computed; and with
+/// `Memory`.
 pub(crate) fn check_declared(
     alloc: Global,
     alphabet: Alphabet,
@@ -91,8 +93,7 @@ pub(crate) fn check_declared(
     Ok(())
 }
 
-/// Refuses the state of the label at a position if a value is lacking there, or where that is not
-/// known.
+/// Checks the state of the label at a position: it lacks no value, and that is known.
 fn check_state(
     alloc: Global,
     configs: Configs<'_>,
@@ -115,7 +116,8 @@ fn check_state(
     }
 }
 
-/// That a value is lacking at the label at a position. It fails only where memory ran out.
+/// The fault of the label at a position, which lacks a value. It is `Memory` only if memory runs
+/// out here.
 fn incomplete_fault(alloc: Global, position: usize) -> Fault
     ensures refusal { result.kind ≢ kinds.Memory → (result.place ≡ places.Universe)
         × (refusal_of result

@@ -1,4 +1,4 @@
-//! Saying to which receivers alerts go.
+//! The command `outcomes`.
 
 ghost use Rattle.std.specs.Prelude.{◌≡◌, IfOk, IfErr, string_bytes};
 ghost use Rattle.am_config.specs.ConfigView.{config_view};
@@ -19,24 +19,34 @@ use am_outcomes::outcomes_text;
 use am_universe::{Fault, Sink, answer_of_write, put_str};
 use std::alloc::Global;
 
-/// Writes to which receivers alerts go under a configuration, for every alert that is possible: a
-/// line for each list of receivers that some alert goes to, with the first label set that does, and
-/// then `# end`.
+/// Writes to which receivers alerts go under a configuration, for every possible alert.
 ///
-/// All input is read and all is found before the first byte is written.
+/// There is a line for each list of receivers to which some alert goes, with the first label set
+/// that goes there, and then `# end`. Alerts are routed as in the Alertmanager configuration
+/// reference 0.25, "<route>". All input is read and all results are found before the first byte is
+/// written.
 ///
-/// The first fault is the one answered: a fault of the universe file, at `Universe`, as
-/// `read_universe` has it; of the configuration file, at `Config`, as `read_config` has it;
-/// `Incomplete`, at `Universe` and the pointer of the first label that the universe file declares
-/// and that lacks a value, or `Unproved`, where that is not known of an earlier one; `Limit`, at
-/// `Universe` and with no pointer, where the routes ask of more labels, or of more values of one,
-/// than a universe may have; `Unproved`, where the classes of a label could not be computed, or it
-/// needs a value and its name is no label name, at the file and with the pointer of the route or
-/// impossible list that first asks of it; `Limit` again, where more states have to be told apart
-/// than there is room for; `Write`. `Memory` comes wherever memory ran out. After any but `Write`
-/// the sink is as it was.
+/// Fails with the first of these faults:
+///
+/// - at `Universe`, those of `read_universe`;
+/// - at `Config`, those of `read_config`;
+/// - for the first label of the universe file that is not known to have a value for every alert:
+///   `Incomplete`, at `Universe` and with the label's pointer, if a value is missing; `Unproved`,
+///   at the file and with the pointer of the route or impossible list that first asks about the
+///   label, if its classes could not be computed;
+/// - `Limit`, at `Universe` and with no pointer, if the routes and impossible lists need more
+///   labels, or more values of one label, than a universe may have;
+/// - `Unproved`, at the file and with the pointer of the route or impossible list that first asks
+///   about a label, if the classes of the label could not be computed, or if it needs a value and
+///   its name is no label name;
+/// - `Limit`, at `Universe` and with no pointer, if more states have to be told apart than there is
+///   room for;
+/// - `Write`.
+///
+/// `Memory` may come at any point. After any fault but `Write` the sink is unchanged; after `Write`
+/// it has taken a prefix of the report.
 pub fn outcomes<W: Sink>(alloc: Global, inputs: &ReportInputs<'_>, out: &mut W) -> Result<(), Fault>
-    // Each alert goes to the receivers of one of the lines, and each line has an alert.
+    // Each alert goes to the receivers of one of the lines, and each line shows an alert.
     ensures kept { IsKept (outcomes_promise inputs.now) W.taken W.failures out.old out.new result }
 {
     let read = read_inputs(alloc, inputs)?;
@@ -44,7 +54,7 @@ pub fn outcomes<W: Sink>(alloc: Global, inputs: &ReportInputs<'_>, out: &mut W) 
     answer_of_write(alloc, put_str(out, text.as_str()))
 }
 
-/// The report on what inputs say.
+/// Makes the report on the inputs that were read.
 fn outcomes_of_inputs(
     alloc: Global,
     inputs: &ReportInputs<'_>,

@@ -1,4 +1,4 @@
-//! What a report on one configuration is made of.
+//! The inputs of `outcomes`.
 
 ghost use Rattle.std.specs.Prelude.{◌≡◌, IfOk, IfErr, option_copied};
 ghost use Rattle.am_config.specs.ConfigView.{config_view};
@@ -12,14 +12,15 @@ use am_universe_command::read_universe_if_any;
 use std::alloc::Global;
 use std::marker::Model;
 
-/// What a report on one configuration is made of: the input of `lint` and `outcomes`.
+/// The inputs of `outcomes`.
 #[derive(Drop)]
 pub struct ReportInputs<'a> {
-    /// The bytes of a universe file, whose impossible lists count.
+    /// The bytes of a universe file. An alert that one of its impossible lists matches does not
+    /// count. Each label that it declares needs a value for every alert.
     pub universe: Option<&'a [u8]>,
     /// The bytes of the configuration file.
     pub config: &'a [u8],
-    /// Alerts whose values are printable ASCII count alone.
+    /// Whether only alerts whose values are printable ASCII count.
     pub ascii: bool,
 }
 
@@ -43,8 +44,8 @@ pub(crate) struct ReadInputs {
     pub config: Config,
 }
 
-/// Reads the universe file, if there is one, and then the configuration file. The first fault is
-/// the one answered.
+/// Reads the universe file, if there is one, and then the configuration file. Fails with the first
+/// fault.
 pub(crate) fn read_inputs(alloc: Global, inputs: &ReportInputs<'_>) -> Result<ReadInputs, Fault>
     ensures accepts { IfOk result (λ read.
         AcceptsReportInputs inputs.now read.space (config_view read.config)) }

@@ -1,4 +1,4 @@
-//! What a report says of routes and receivers.
+//! The section of a report on routes and receivers.
 
 ghost use Rattle.std.specs.Prelude.{◌≡◌, ◌≢◌, [], IfOk, IfErr, OnOk, IfSome, IfNone, false, true};
 ghost use Rattle.std.specs.Prelude.{is_none};
@@ -23,8 +23,8 @@ use am_lint::{
 use am_universe::{Fault, Universe};
 use std::alloc::{AllocError, Global};
 
-/// What is to be said of the routes and receivers of a configuration, for every alert of a space
-/// that declares no label; with `ascii` for the ordinary ones alone.
+/// Makes the section on the routes and receivers of a configuration, for every alert of a space
+/// that declares no label; if `ascii`, for the ordinary ones alone.
 pub(crate) fn route_section(
     alloc: Global,
     ascii: bool,
@@ -71,8 +71,8 @@ fn every_universe(
     Ok(Some(universe_for_routes(alloc, Alphabet::Unicode, space, configs)?))
 }
 
-/// What is to be said of them over a universe for ordinary alerts, and one for every alert, if
-/// others count; beside what a space calls impossible.
+/// Makes the section over a universe for ordinary alerts and, if others count, one for every alert.
+/// The impossible lists are those of `space`.
 fn section_over(
     alloc: Global,
     space: &mut Space,

@@ -7,7 +7,7 @@ use am_lint::push_count;
 use std::alloc::{AllocError, Global};
 use std::marker::Model;
 
-/// What a report says of things of one kind: the lines, and how many findings and notes these tell.
+/// A section of a report: its lines, and how many findings and notes they tell.
 #[derive(Drop)]
 pub(crate) struct Section {
     pub lines: String,
@@ -28,14 +28,14 @@ impl Model for Section {
     } };
 }
 
-/// A report, with how many findings stand in it.
+/// A report, and how many findings it has.
 #[derive(Drop)]
 pub(crate) struct LintReport {
     pub text: String,
     pub findings: u128,
 }
 
-/// The report that sections make. An `Err` only where memory was refused.
+/// Joins sections to a report. Fails only if memory runs out.
 pub(crate) fn report_of(
     alloc: Global,
     routes: &Section,
@@ -64,7 +64,7 @@ pub(crate) fn report_of(
     Ok(LintReport { text, findings })
 }
 
-/// How many these are together. No sum of so few sizes is too large for the type.
+/// The sum of four sizes, which always fits.
 fn total(routes: usize, rules: usize, silences: usize, values: usize) -> u128
     ensures { result ≡ sum (routes ∷ rules ∷ silences ∷ values ∷ []) }
 {

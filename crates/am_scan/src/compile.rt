@@ -9,7 +9,7 @@ use regex_syntax::{Config, ErrorKind, Parsed};
 use std::alloc::{AllocError, Global};
 
 /// Compiles a pattern that is anchored at both ends. `None` where the grammar does not read it, or
-/// it is too large. An `Err` only where memory was refused.
+/// it is too large. Fails only if memory runs out.
 pub(crate) fn compile_anchored(alloc: Global, pattern: &str) -> Result<Option<Nfa>, AllocError>
     ensures { IfOk result (λ found. IfSome found (λ nfa. IsSearchFor nfa pattern.now)) }
 {
@@ -27,8 +27,8 @@ pub(crate) fn compile_anchored(alloc: Global, pattern: &str) -> Result<Option<Nf
     }
 }
 
-/// Reads a text by the grammar of patterns. `None` where it does not read it. An `Err` only where
-/// memory was refused.
+/// Reads a text by the grammar of patterns. `None` where it does not read it. Fails only if memory
+/// runs out.
 fn read_pattern(alloc: Global, source: &str) -> Result<Option<Parsed>, AllocError>
     ensures { IfOk result (λ found. IfSome found (λ parsed. Reads default_config source.now
         parsed.hir (map (option_map string_bytes) parsed.names.items))) }

@@ -1,9 +1,9 @@
 //! What a pattern makes of a text, read byte by byte from its end.
 //!
-//! A [`PatternAutomaton`] is a pattern as a table. It gives each text a number, and that is all
-//! that matters of a text of which only the end has been read: whether the pattern finds it, with
-//! whatever bytes in front, depends on nothing else. So texts that lead to one number need not be
-//! told apart, and whoever follows the numbers that there are has followed all texts.
+//! A [`PatternAutomaton`] is a pattern as a table. It gives each text a number, and that number is
+//! all that matters of a text of which only the end has been read: whether the pattern finds the
+//! whole text, with any bytes before the end, depends on nothing else. So texts with one number
+//! need not be told apart, and whoever follows all numbers has followed all texts.
 #![tactic(auto)]
 
 // How much there may be.

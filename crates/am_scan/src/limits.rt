@@ -1,9 +1,9 @@
-//! The most that there may be of what this crate counts.
+//! The limits of the patterns that are followed.
 
-/// The most states of a compiled pattern that is followed.
+/// The most states of a compiled pattern.
 pub const MAX_STATES: usize = 16_384;
 
-/// The most bytes that the tables of a compiled pattern may take.
+/// The most bytes of the tables of a compiled pattern.
 pub const MAX_TABLE_BYTES: usize = 1_048_576;
 
 /// The most states of texts that a pattern may tell apart.

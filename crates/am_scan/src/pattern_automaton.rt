@@ -1,3 +1,15 @@
+//! A pattern as a table that reads texts from their end.
+//!
+//! A text is read byte by byte from its end. What matters of the part that has been read is a
+//! *state*: for each state of the pattern's compiled automaton, whether the automaton, begun there,
+//! would accept the part; and whether a match begins at a later character. A byte before the part
+//! leads to the next state, by the compiled automaton's own edges. Each state is kept once, and
+//! known by its number. Bytes that the pattern treats the same share a class. So a step is a look
+//! at a table.
+//!
+//! The assertions `^`, `$`, `\A`, `\z` and those of `(?m)` ask only which byte is before a place
+//! and which is after it, so they are followed too. `\b` asks about characters. Over ASCII a byte
+//! is a character, and `\b` is followed there; over Unicode it is not.
 ghost use Rattle.std.specs.Prelude.{◌≡◌, ℕ, ◌∷◌, [], List, true, IfOk, IfSome, IsTrue, slice_index};
 ghost use Rattle.std.specs.Prelude.{string_bytes};
 ghost use Rattle.am_labels.specs.Pattern.{finds};
@@ -10,8 +22,8 @@ use crate::pattern_scan::PatternScan;
 use crate::row::Row;
 use std::alloc::{AllocError, Global};
 
-/// A pattern as an automaton that reads texts from their end: all texts that lead to one number are
-/// the same to the pattern, whatever stands in front of them.
+/// A pattern as an automaton that reads texts from their end. The pattern treats all texts with one
+/// number the same, whatever comes before them.
 #[derive(Drop)]
 pub struct PatternAutomaton {
     pattern: String,
@@ -29,10 +41,11 @@ pub struct PatternAutomaton {
 impl PatternAutomaton {
     ghost use Rattle.am_scan.specs.Automaton.{number_of, class_of, is_ascii, pattern_of};
 
-    /// Makes the automaton of a pattern, for texts of ASCII alone or for any. `None` where there is
-    /// none: the engine's grammar does not read the pattern, it or its automaton is too large, or
-    /// it asks whether a word begins or ends (as `\b` does) in texts that may have other characters
-    /// than those of ASCII. An `Err` only where memory was refused.
+    /// Makes the automaton of a pattern, for texts of ASCII alone if `ascii`, and else for any
+    /// text. Returns `None` if there is none: the engine's grammar does not read the pattern; the
+    /// pattern or its automaton is too large; or the pattern asks whether a word begins or ends, as
+    /// `\b` does, in texts that may have other characters than those of ASCII. Fails only if memory
+    /// runs out.
     pub fn of(
         alloc: Global,
         pattern: &str,
@@ -60,15 +73,15 @@ impl PatternAutomaton {
         }))
     }
 
-    /// The number of the empty text.
+    /// Returns the number of the empty text.
     pub fn end(&self) -> u32
         ensures { result ≡ number_of self.now [] }
     {
         0
     }
 
-    /// The number of a text with one byte more in front, from the number of the text, which this
-    /// automaton gave. Of a number that it gives to no text nothing is promised.
+    /// Returns the number of a text with one more byte before it, from the number of the text,
+    /// which must come from this automaton. For any other number nothing is promised.
     pub fn step(&self, number: u32, byte: u8) -> u32
         ensures { (text : List ℕ) → number ≡ number_of self.now text
             → result ≡ number_of self.now (byte ∷ text) }
@@ -82,8 +95,8 @@ impl PatternAutomaton {
         }
     }
 
-    /// Whether the pattern finds the texts of a number that this automaton gave, of those that it
-    /// reads. Of a number that it gives to no text nothing is promised.
+    /// Whether the pattern finds a text that the automaton reads, by its number, which must come
+    /// from this automaton. For any other number nothing is promised.
     pub fn finds(&self, number: u32) -> bool
         ensures { (text : List ℕ) → number ≡ number_of self.now text
             → IsScanned (is_ascii self.now) text → result ≡ finds (pattern_of self.now) text }
@@ -94,7 +107,7 @@ impl PatternAutomaton {
         }
     }
 
-    /// The class of a byte.
+    /// Returns the class of a byte.
     pub fn class_of(&self, byte: u8) -> u8
         ensures { result ≡ class_of self.now byte }
     {
@@ -104,8 +117,8 @@ impl PatternAutomaton {
         }
     }
 
-    /// Whether two bytes are of one class. `true` promises that they lead to the same numbers;
-    /// `false` promises nothing.
+    /// Whether two bytes are of one class. If so, they lead to the same numbers; if not, nothing is
+    /// promised.
     pub fn are_alike(&self, one: u8, other: u8) -> bool
         ensures { IsTrue result → (text : List ℕ)
             → number_of self.now (one ∷ text) ≡ number_of self.now (other ∷ text) }

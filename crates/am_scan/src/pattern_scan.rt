@@ -45,8 +45,8 @@ impl PatternScan {
 
     /// Compiles a pattern, to scan texts of ASCII alone or any. `None` where it cannot be followed:
     /// the engine's grammar does not read it, it is too large, or it asks whether a word begins or
-    /// ends (as `\b` does) in texts that may have other characters than those of ASCII. An `Err`
-    /// only where memory was refused.
+    /// ends (as `\b` does) in texts that may have other characters than those of ASCII. Fails only
+    /// if memory runs out.
     pub(crate) fn of(
         alloc: Global,
         pattern: &str,

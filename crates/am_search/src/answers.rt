@@ -21,20 +21,20 @@ use am_universe::{Choice, History, Position};
 /// How far answers have come.
 #[derive(Clone, Copy, Debug, PartialEq, Eq)]
 pub enum State {
-    /// `next` has not answered `None` yet.
+    /// `next` has not returned `None` yet.
     Running,
-    /// Every answer has been given.
+    /// All answers have been returned.
     Ended,
-    /// The budget is used, and every answer has been given that the judged prefixes give. This is
-    /// the prefix that would be judged next.
+    /// The budget is used up, and all answers have been returned that the judged prefixes give.
+    /// This is the prefix that would be judged next.
     Stopped(Choice),
 }
 
 /// The true choices of a judge from a start on, in declared order, each once.
 ///
-/// Prefixes are judged, and not whole choices one by one: what is below a `No` is left out, and
-/// what is below a `Yes` is given with no further judgement. A budget limits how many prefixes are
-/// judged; where more would be, the answers stop. No memory is taken.
+/// The judge is asked about prefixes, and not about each whole choice. What is below a `No` is left
+/// out, and what is below a `Yes` is returned without asking again. A budget limits how many
+/// prefixes are judged; if more would be, the answers stop. Takes no memory.
 #[derive(Drop)]
 pub struct Answers<'a, J: Judge> {
     judge: &'a J,
@@ -65,8 +65,10 @@ impl<'a, J: Judge> Answers<'a, J> {
     ghost use Rattle.am_search.specs.Visits.{given_under};
     ghost use Rattle.am_search.specs.Visits.{IsPartOfSearch, IsWholeSearch, IsStoppedSearch};
 
-    /// The answers from a start on, which is one over the sizes of the judge. With a budget of
-    /// steps at most so many prefixes are judged, and the answers are what these give.
+    /// Starts a search for the answers from a start on.
+    ///
+    /// The start must be one over the sizes of the judge. With `steps`, at most so many prefixes
+    /// are judged, and the answers are those that these give.
     pub fn from(judge: &'a J, start: Start, steps: Option<u64>) -> Answers<'a, J>
         requires { IsStart (J.sizes judge.now) start }
         ensures left { steps ≡ None → answers_left result
@@ -96,8 +98,7 @@ impl<'a, J: Judge> Answers<'a, J> {
         }
     }
 
-    /// `Running` until `next` first answers `None`, and from then on `Ended`, or `Stopped` with the
-    /// prefix that would be judged next.
+    /// `Running` until `next` first returns `None`, and from then on `Ended` or `Stopped`.
     pub fn state(&self) -> State
         ensures state { result ≡ answers_state self.now }
         ensures ended { result ≡ Ended → IsWholeSearch (J.sizes (answers_judge self.now))
@@ -114,8 +115,7 @@ impl<'a, J: Judge> Answers<'a, J> {
         self.state
     }
 
-    /// Judges the prefix at which the search stands, and goes on to where it stands then. Nothing
-    /// else asks the judge.
+    /// Judges the prefix at which the search is, and moves on. Nothing else asks the judge.
     fn judge_next(&mut self)
         requires stage { self.old.stage ≡ Judging }
         requires left { self.old.left ≢ Some 0 }
@@ -148,7 +148,7 @@ impl<'a, J: Judge> Answers<'a, J> {
         }
     }
 
-    /// Gives the choice at which the search stands, and goes on to the next. Its first `depth`
+    /// Returns the choice at which the search is, and moves to the next. Its first `depth`
     /// positions were judged `Yes`.
     fn give_next(&mut self, depth: usize) -> Choice
         requires { self.old.stage ≡ Giving depth }
@@ -188,8 +188,10 @@ impl<'a, J: Judge> Iterator for Answers<'a, J> {
 
     ghost remaining = { item_count answers_left };
 
-    /// The next answer. After the first `None` there is none: all have come, or the budget is used
-    /// and another prefix would be judged.
+    /// Returns the next answer.
+    ///
+    /// After the first `None` there are no more: all have come, or the budget is used up and
+    /// another prefix would have to be judged.
     fn next(&mut self) -> Option<Choice>
         ensures first { YieldsFirst answers_left self.old result self.new }
         ensures fewer { MakesProgress (λ _. ⊤) (item_count answers_left) self.old result self.new }
@@ -226,8 +228,9 @@ impl<'a, J: Judge> Iterator for Answers<'a, J> {
     }
 }
 
-/// The first true choice, if there is one. Nothing is judged past it: the choice begins with the
-/// prefix that is judged last. No memory is taken.
+/// Returns the first true choice in declared order, if there is one.
+///
+/// It begins with the prefix that is judged last, so nothing after it is judged. Takes no memory.
 pub fn first<J: Judge>(judge: &J) -> Option<Choice>
     ensures whole { IfSome result (IsWhole (J.sizes judge.now)) }
     ensures first { result ≡ find (J.truth judge.now) (choices (J.sizes judge.now)) }
@@ -236,7 +239,7 @@ pub fn first<J: Judge>(judge: &J) -> Option<Choice>
     answers.next()
 }
 
-/// The first stage of a search. Nothing is left where its start begins at no choice.
+/// The first stage of a search. Nothing is left if its start has no choices.
 fn first_stage(first: &Option<Choice>) -> Stage
     ensures { MatchOption first.now (result ≡ Done) (λ _. result ≡ Judging) }
 {

@@ -6,7 +6,7 @@ ghost use Rattle.am_search.specs.Judge.{IsJudge};
 use crate::Verdict;
 use am_universe::Choice;
 
-/// What says which choices over some labels are true.
+/// What says which choices over some labels are true, and what is known at a prefix.
 pub trait Judge {
     /// How many values each label has, in declared order.
     ghost sizes: { Self → List ℕ };
@@ -14,7 +14,7 @@ pub trait Judge {
     /// Whether a whole choice is true.
     ghost truth: { Self → List ℕ → Bool };
 
-    /// What `judge` answers at a prefix.
+    /// What `judge` returns at a prefix.
     ghost verdict: { Self → List ℕ → Verdict };
 
     /// How many labels there are, at most `MAX_LABELS`.
@@ -26,8 +26,10 @@ pub trait Judge {
         requires { i < length (sizes self.now) }
         ensures size { slice_get (sizes self.now) i ≡ Some result };
 
-    /// What is known of the completions of a prefix: `Yes`, all are true; `No`, none is. A whole
-    /// choice, which is its own one completion, is never `Open`.
+    /// What is known of the completions of a prefix: `Yes`, all are true; `No`, none is.
+    ///
+    /// The prefix must be one that the sizes admit. At a whole choice, which is its only
+    /// completion, the verdict is never `Open`.
     fn judge(&self, prefix: &Choice) -> Verdict
         requires { IsTrue (admits (sizes self.now) prefix.now) }
         ensures verdict { result ≡ verdict self.now prefix.now };

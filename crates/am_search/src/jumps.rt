@@ -1,3 +1,14 @@
+//! The search for the first true choice alone.
+//!
+//! Only its answer is promised, and not which prefixes it asks about. It asks a refuter. A
+//! refutation says more than a `No`. It is a *conflict*: labels such that no choice is true that
+//! has the prefix's positions at them.
+//!
+//! The search goes down the labels in declared order. If the conflict below a position leaves out
+//! the label of that position, the other positions of the label are refuted for the same reason,
+//! and the search goes back past it. Otherwise it tries the next position. If all are refuted, the
+//! labels that were to blame for any of them, without this one, are a conflict of the prefix before
+//! it. The search keeps the prefix, a set of labels for each label of it, and nothing else.
 ghost use Rattle.std.specs.Prelude.{◌≡◌, IfSome, IsTrue};
 ghost use Rattle.std.specs.List.{find};
 ghost use Rattle.am_universe.specs.Choice.{admits, IsWhole, choices};
@@ -14,10 +25,10 @@ enum Outcome {
     Refuted(Labels),
 }
 
-/// The first choice of all that is true, in declared order, if there is one. No memory is taken.
+/// Returns the first true choice in declared order, if there is one. Takes no memory.
 ///
-/// Where each position of a label is refuted, the search goes back to the last label that is to
-/// blame for that, and leaves out the labels between, whose other positions do not help.
+/// If each position of a label is refuted, the search goes back to the last label that is to blame
+/// for that. It skips the labels between, because their other positions do not help.
 pub fn first_by_jumps<R: Refuter>(refuter: &R) -> Option<Choice>
     ensures whole { IfSome result (IsWhole (R.sizes refuter.now)) }
     ensures first { result ≡ find (R.truth refuter.now) (choices (R.sizes refuter.now)) }

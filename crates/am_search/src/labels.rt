@@ -7,7 +7,7 @@ const ROOM: usize = 64;
 
 const _: () = prove!(MAX_LABELS <= ROOM);
 
-/// A set of labels, by their positions. How it is kept is known in this file alone.
+/// A set of labels, by their positions. Only this file knows how it is stored.
 #[derive(Clone, Copy, Debug)]
 pub struct Labels {
     bits: u64,
@@ -16,7 +16,7 @@ pub struct Labels {
 impl Labels {
     ghost use Rattle.am_search.specs.Labels.{has_label};
 
-    /// The set without labels.
+    /// The empty set.
     #[tactic(auto, using(crate::proofs::LabelBits::has_none))]
     pub fn none() -> Labels
         ensures none { (i : ℕ) → has_label result i ≡ false }
@@ -24,7 +24,7 @@ impl Labels {
         Labels { bits: 0 }
     }
 
-    /// The set with one label more.
+    /// The set with this label added. Its position must be below `MAX_LABELS`.
     #[tactic(auto, using(crate::proofs::LabelBits::has_with))]
     pub fn with(self, label: usize) -> Labels
         requires room { label < MAX_LABELS }
@@ -35,7 +35,7 @@ impl Labels {
         }
     }
 
-    /// The labels that are in one of two sets.
+    /// The labels that are in either set, or in both.
     #[tactic(auto, using(crate::proofs::LabelBits::has_either))]
     pub fn union(self, other: Labels) -> Labels
         ensures either { (i : ℕ) → has_label result i ≡ (has_label self i || has_label other i) }
@@ -45,7 +45,7 @@ impl Labels {
         }
     }
 
-    /// The labels of the set that come before a label.
+    /// The labels of the set that come before this label. Its position must be below `MAX_LABELS`.
     pub fn before(self, label: usize) -> Labels
         requires room { label < MAX_LABELS }
         ensures before { (i : ℕ) → has_label result i ≡ (has_label self i && nat_lt i label) }
@@ -55,7 +55,7 @@ impl Labels {
         }
     }
 
-    /// Whether a label is in the set.
+    /// Whether a label is in the set. Its position must be below `MAX_LABELS`.
     #[tactic(auto, using(crate::proofs::LabelBits::tested))]
     pub fn contains(self, label: usize) -> bool
         requires room { label < MAX_LABELS }

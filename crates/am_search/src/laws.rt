@@ -32,13 +32,15 @@ ghost use Rattle.am_search.specs.Conflict.{IsConflict};
 ghost use Rattle.am_search.specs.VisitsExample.{example_verdict};
 ghost use Rattle.am_search.specs.declared.verdict.Verdict.{Verdict};
 
-/// The sizes of a universe are such as a judge may have.
+/// The sizes of a universe are sizes that a judge may have.
 pub fn sizes_of_a_universe()
     ensures sizes { (u : List Label) → IsUniverse u → AreSizes (sizes u) }
 {}
 
-/// At a prefix begin the choices that do not stand before it in the order of a dictionary. There is
-/// at least one.
+/// A start at a prefix has the choices that do not come before the prefix in the order of a
+/// dictionary.
+///
+/// There is at least one.
 #[tactic(auto, using(crate::proofs::Pages::choices_at, crate::proofs::Pages::some_at))]
 pub fn choices_at_a_prefix()
     ensures choices { (ns prefix : List ℕ) → AreSizes ns → IsTrue (admits ns prefix)
@@ -47,20 +49,20 @@ pub fn choices_at_a_prefix()
         → 0 < length (choices_from ns (At prefix)) }
 {}
 
-/// At the empty prefix begin all choices.
+/// A start at the empty prefix has all choices.
 #[tactic(auto, using(crate::proofs::Walks::first_of_all))]
 pub fn choices_from_the_first_on()
     ensures all { (ns : List ℕ) → choices_from ns (At []) ≡ choices ns }
 {}
 
-/// After a choice come those that it stands before in the order of a dictionary.
+/// A start after a choice has the choices that come after it in the order of a dictionary.
 #[tactic(auto, using(crate::proofs::Pages::choices_after))]
 pub fn choices_after_a_choice()
     ensures choices { (ns c : List ℕ)
         → choices_from ns (After c) ≡ filter (comes_before c) (choices ns) }
 {}
 
-/// A start begins at a whole choice, where it begins at all, and goes on with those after that one.
+/// The choices of a start, if it has any, are a whole choice and those after that one.
 pub fn a_start_begins_with_its_first_choice()
     ensures none { (ns : List ℕ) (start : Start) → first_of_start ns start ≡ None
         → choices_from ns start ≡ [] }
@@ -68,14 +70,14 @@ pub fn a_start_begins_with_its_first_choice()
         → IsWhole ns c × (choices_from ns start ≡ c ∷ choices_from ns (After c)) }
 {}
 
-/// The answers from a start on are the true choices among those from there on, and no others.
+/// The answers from a start on are exactly the true choices from there on.
 pub fn answers_are_the_true_choices()
     ensures exactly { (ns c : List ℕ) (truth : List ℕ → Bool) (start : Start)
         → Contains (answers_from ns truth start) c
         ↔ (Contains (choices_from ns start) c × IsTrue (truth c)) }
 {}
 
-/// Which choices are answers is decided at whole choices alone.
+/// Two judgements that agree at all whole choices give the same answers.
 #[tactic(auto, using(crate::proofs::Pages::same_answers))]
 pub fn answers_are_decided_at_whole_choices()
     ensures same { (ns : List ℕ) (f g : List ℕ → Bool) (start : Start)
@@ -83,14 +85,14 @@ pub fn answers_are_decided_at_whole_choices()
         → answers_from ns f start ≡ answers_from ns g start }
 {}
 
-/// Each answer comes before those after it in the order of a dictionary, so none stands twice.
+/// The answers are in the order of a dictionary, so none occurs twice.
 #[tactic(auto, using(crate::proofs::Pages::answers_sorted))]
 pub fn answers_ascend()
     ensures ascending { (ns : List ℕ) (truth : List ℕ → Bool) (start : Start)
         → IsStrictlySortedBy (slice_cmp nat_cmp) (answers_from ns truth start) }
 {}
 
-/// A page has no more choices than its limit, and exactly so many where it leaves answers.
+/// A page has no more choices than its limit, and exactly as many if it leaves answers.
 #[tactic(auto, using(crate::proofs::Pages::within_limit, crate::proofs::Pages::limit_reached))]
 pub fn a_page_keeps_its_limit()
     ensures within { (ns : List ℕ) (truth : List ℕ → Bool) (start : Start) (n : ℕ)
@@ -100,8 +102,8 @@ pub fn a_page_keeps_its_limit()
         → length (page_from ns truth start (Some n)).choices ≡ n }
 {}
 
-/// The text of a trailer behind which a page begins is `# next` or `# stopped` and the token of the
-/// start of that page; that of a trailer behind which none does is `# end`.
+/// The line of a trailer is `# next` or `# stopped` and the token at which the next page begins, or
+/// `# end` if there is no next page.
 #[tactic(auto, using(crate::proofs::Pages::trailer_next, crate::proofs::Pages::trailer_stopped, crate::proofs::Pages::trailer_end))]
 pub fn a_trailer_has_the_token_of_its_start()
     ensures next { (fingerprint c : List ℕ) (start : Start) → start_after (Next c) ≡ Some start
@@ -115,8 +117,8 @@ pub fn a_trailer_has_the_token_of_its_start()
         → trailer_text fingerprint trailer ≡ codes "# end\n" }
 {}
 
-/// A page has the answers from its start on up to the choice of its trailer, that one included, or
-/// to the end.
+/// A page has the answers from its start up to the choice of its trailer, that one included, or to
+/// the end.
 pub fn a_page_ends_at_its_trailer()
     ensures up_to { (ns c : List ℕ) (truth : List ℕ → Bool) (start : Start) (page : AnswerPage)
         → IsPage ns truth start page → page.trailer ≡ Next c
@@ -126,8 +128,11 @@ pub fn a_page_ends_at_its_trailer()
         → page.choices ≡ answers_from ns truth start }
 {}
 
-/// The answers from the start of a page on are its choices, and then those that its trailer leaves:
-/// those from the trailer's start on, or none.
+/// The answers from the start of a page on are its choices, and then the answers that its trailer
+/// leaves.
+///
+/// These are the answers from the trailer's start on, or none if it has no start. `Next` leaves at
+/// least one.
 pub fn a_page_and_its_rest_are_the_answers()
     ensures rest { (ns : List ℕ) (truth : List ℕ → Bool) (start : Start) (page : AnswerPage)
         → IsPage ns truth start page
@@ -139,7 +144,7 @@ pub fn a_page_and_its_rest_are_the_answers()
         → 0 < length (answers_from ns truth (After c)) }
 {}
 
-/// A page under a budget that ends with `Next` or with `End` is the page without the budget.
+/// A page under a budget that ends with `Next` or `End` is the page without the budget.
 pub fn a_page_that_does_not_stop_is_the_page_without_a_budget()
     ensures unlimited { (ns : List ℕ) (truth : List ℕ → Bool) (verdict : List ℕ → Verdict)
         (start : Start) (limit : Option ℕ) → IsJudge ns truth verdict
@@ -156,8 +161,10 @@ pub fn a_page_that_does_not_stop_is_the_page_without_a_budget()
         → page_under ns verdict start limit budget ≡ page_from ns truth start limit }
 {}
 
-/// A page that stops at a prefix has exactly those answers from its start on that come before the
-/// prefix, and so before its first completion.
+/// A page that stops at a prefix has exactly the answers from its start on that come before the
+/// prefix.
+///
+/// So it has those before the first completion of the prefix.
 pub fn a_stopped_page_has_the_answers_before_its_prefix()
     ensures before { (ns prefix : List ℕ) (truth : List ℕ → Bool) (verdict : List ℕ → Verdict)
         (start : Start) (limit budget : Option ℕ) → IsJudge ns truth verdict
@@ -178,8 +185,10 @@ pub fn a_search_keeps_its_budget()
         → IfSome budget (λ n. length judged ≤ n) }
 {}
 
-/// The answers from the start of a page on are its choices, and then those that its trailer leaves,
-/// also where a budget stops it that is enough: one of more steps than there are labels.
+/// The answers from the start of a page on are its choices and those that its trailer leaves, even
+/// if a budget stops it.
+///
+/// The budget must be enough: more steps than there are labels.
 pub fn a_page_under_a_budget_and_its_rest_are_the_answers()
     ensures rest { (ns : List ℕ) (truth : List ℕ → Bool) (verdict : List ℕ → Verdict)
         (start : Start) (page : AnswerPage) → IsJudge ns truth verdict
@@ -191,8 +200,10 @@ pub fn a_page_under_a_budget_and_its_rest_are_the_answers()
         → IsStart ns next }
 {}
 
-/// The page behind another begins later, where the budget is enough. So pages in a row come to an
-/// end: there are no more of them than choices.
+/// If the budget is enough, the page after another begins later, so consecutive pages come to an
+/// end.
+///
+/// There are no more of them than choices.
 pub fn pages_under_budgets_come_to_an_end()
     ensures later { (ns : List ℕ) (truth : List ℕ → Bool) (verdict : List ℕ → Verdict)
         (start next : Start) (page : AnswerPage) → IsJudge ns truth verdict
@@ -203,8 +214,10 @@ pub fn pages_under_budgets_come_to_an_end()
         → IsSearchChain ns verdict start pages → length pages ≤ length (choices ns) }
 {}
 
-/// The choices of pages in a row, joined, are the answers from the first page's start on, whatever
-/// the limits of the pages are, and whatever their budgets, where these are enough.
+/// The choices of consecutive pages, joined, are the answers from the first page's start on,
+/// whatever the limits and budgets.
+///
+/// The budgets must be enough: more steps than there are labels.
 #[tactic(auto, using(crate::proofs::SearchChains::search_chain_joined))]
 pub fn pages_under_budgets_are_the_answers()
     ensures joined { (ns : List ℕ) (truth : List ℕ → Bool) (verdict : List ℕ → Verdict)
@@ -213,16 +226,18 @@ pub fn pages_under_budgets_are_the_answers()
         → all_choices_of pages ≡ answers_from ns truth start }
 {}
 
-/// The choices of pages in a row, joined, are the answers from the first page's start on.
+/// The choices of consecutive pages without budgets, joined, are the answers from the first page's
+/// start on.
 #[tactic(auto, using(crate::proofs::Pages::chain_joined))]
 pub fn pages_in_a_row_are_the_answers()
     ensures joined { (ns : List ℕ) (truth : List ℕ → Bool) (start : Start) (pages : List AnswerPage)
         → IsChain ns truth start pages → all_choices_of pages ≡ answers_from ns truth start }
 {}
 
-/// Two different starts have different tokens, of the old form as of the other, also where they are
-/// starts over different sizes, and a token that is written is made under one fingerprint alone. So
-/// a text is read as one start at most, whatever the inputs and whatever their labels.
+/// A token stands for one start, and a token that is written is made under one fingerprint.
+///
+/// This holds for both forms of tokens, and also for starts over different sizes. So a text is read
+/// as at most one start, whatever the inputs and their labels.
 #[tactic(auto, using(crate::proofs::TokenForms::same_old, crate::proofs::TokenForms::same_written, crate::proofs::TokenForms::same_start, crate::proofs::TokenForms::same_fingerprint))]
 pub fn one_start_a_token()
     ensures old { (ns ms : List ℕ) (s t : Start) → AreSizes ns → AreSizes ms
@@ -238,9 +253,10 @@ pub fn one_start_a_token()
         → (text ≡ old_token_text s) ⊎ (h ≡ k) }
 {}
 
-/// A token of a start over some sizes is no token over other sizes of which that is no start,
-/// whatever the inputs are. Where it is a start over these too, a token that was written for it is
-/// refused under any other fingerprint.
+/// A token is refused over sizes of which its start is none, whatever the inputs.
+///
+/// If its start is one over these sizes too, a token that was written is refused under any other
+/// fingerprint.
 #[tactic(auto, using(crate::proofs::TokenForms::no_start_there, crate::proofs::TokenForms::of_other_inputs))]
 pub fn a_token_of_another_universe_is_refused()
     ensures no_start_there { (ns ms h k text : List ℕ) (start : Start) → AreSizes ns → AreSizes ms
@@ -251,8 +267,10 @@ pub fn a_token_of_another_universe_is_refused()
         → RefusesToken ms k (token_text h start) kinds.OtherInputs }
 {}
 
-/// A start has two tokens for inputs with a fingerprint: the one that is written, and another, that
-/// of the old form. Both are read as the start, and no other text is.
+/// A start has two tokens for inputs with a fingerprint: the one that is written, and that of the
+/// old form.
+///
+/// Both are read as the start, and no other text is.
 pub fn two_tokens_a_start()
     ensures written { (ns fingerprint : List ℕ) (start : Start) → IsStart ns start
         → ReadsToken ns fingerprint (token_text fingerprint start) start }
@@ -265,7 +283,7 @@ pub fn two_tokens_a_start()
         → token_text fingerprint s ≢ old_token_text t }
 {}
 
-/// A text that is read as a start is not refused, and one that is refused is so for one cause.
+/// A text that is read as a start is not refused, and one that is refused has one cause.
 pub fn one_answer_a_token()
     ensures not_refused { (ns fingerprint text : List ℕ) (start : Start) (kind : Kind)
         → AreSizes ns → IsFingerprint fingerprint → ReadsToken ns fingerprint text start
@@ -275,23 +293,22 @@ pub fn one_answer_a_token()
         → first ≡ second }
 {}
 
-/// All prefixes are those that the sizes admit.
+/// All prefixes are exactly those that the sizes admit.
 #[tactic(auto, using(crate::proofs::VisitedPrefixes::prefixes_admitted))]
 pub fn prefixes_are_those_admitted()
     ensures exactly { (ns prefix : List ℕ)
         → Contains (all_prefixes ns) prefix ↔ IsTrue (admits ns prefix) }
 {}
 
-/// The prefixes that are judged come in the order of a dictionary, a prefix before those that begin
-/// with it, so none is judged twice.
+/// The judged prefixes are in the order of a dictionary, in which a prefix comes before those that
+/// begin with it. So none is judged twice.
 #[tactic(auto, using(crate::proofs::VisitedPrefixes::visited_sorted))]
 pub fn judged_prefixes_ascend()
     ensures ascending { (ns : List ℕ) (verdict : List ℕ → Verdict) (start : Start)
         → IsStrictlySortedBy (slice_cmp nat_cmp) (visited ns verdict start) }
 {}
 
-/// The prefixes that are judged give exactly the answers from the start on: the true choices among
-/// those from there on, in order, each once.
+/// The judged prefixes give exactly the answers from the start on, in order, each once.
 #[tactic(auto, using(crate::proofs::VisitsGive::visited_give))]
 pub fn judged_prefixes_give_the_answers()
     ensures exactly { (ns : List ℕ) (truth : List ℕ → Bool) (verdict : List ℕ → Verdict)
@@ -299,10 +316,11 @@ pub fn judged_prefixes_give_the_answers()
         → given_under ns verdict start None ≡ answers_from ns truth start }
 {}
 
-/// With an exact judge few prefixes are judged. Let `n` be the number of answers from the start on,
-/// and `z` the number of values that all labels have together: then at most `1 + (n + 1) * z`
-/// prefixes are judged. From the first choice on it is at most `1 + n * z`, so no more than one
-/// where there is no answer.
+/// With an exact judge, at most `1 + (n + 1) * z` prefixes are judged.
+///
+/// `n` is the number of answers from the start on, and `z` the number of values of all labels
+/// together. From the first choice on, at most `1 + n * z` are judged, so at most one if there are
+/// no answers.
 #[tactic(auto, using(crate::proofs::VisitsBound::visited_at_most, crate::proofs::VisitsBound::visited_from_first))]
 pub fn judged_prefixes_are_few()
     ensures at_most { (ns : List ℕ) (truth : List ℕ → Bool) (verdict : List ℕ → Verdict)
@@ -315,22 +333,24 @@ pub fn judged_prefixes_are_few()
         ≤ 1 + length (answers_from ns truth (At [])) * sum ns }
 {}
 
-/// That bound can be reached. The judge of the example below is exact. From the first choice on six
-/// prefixes are judged, where one choice is true and the labels have five values together.
+/// An example in which as many prefixes are judged as the bound `1 + n * z` allows.
+///
+/// Its judge is exact. From the first choice on it judges six prefixes. One choice is true, and the
+/// labels have five values together.
 pub fn an_example_of_the_most_prefixes()
     ensures exact { IsExactJudge (3 ∷ 2 ∷ []) (λ c. is_yes (example_verdict c)) example_verdict }
     ensures reached { length (visited (3 ∷ 2 ∷ []) example_verdict (At []))
         ≡ 1 + 1 * sum (3 ∷ 2 ∷ []) }
 {}
 
-/// Where some labels are a conflict of a prefix, no completion of the prefix is true.
+/// If some labels are a conflict of a prefix, no completion of the prefix is true.
 pub fn a_conflict_refutes_all_completions()
     ensures none { (ns prefix : List ℕ) (truth : List ℕ → Bool) (labels : Labels)
         → IsConflict ns truth labels prefix
         → AllByRecursion (λ c. truth c ≡ false) (completions ns prefix) }
 {}
 
-/// What is visited and given in an example, over the sizes 3 and 2.
+/// An example over the sizes 3 and 2: which prefixes are visited, and which choices are returned.
 pub fn an_example_of_a_search()
     ensures from_the_first { visited (3 ∷ 2 ∷ []) example_verdict (At [])
         ≡ [] ∷ (0 ∷ []) ∷ (0 ∷ 0 ∷ []) ∷ (0 ∷ 1 ∷ []) ∷ (1 ∷ []) ∷ (2 ∷ []) ∷ [] }

@@ -1,11 +1,12 @@
-//! The search: which choices of a universe are answers, from a start on, page by page.
+//! The search for the choices of a universe that are answers, from a start on, page by page.
 //!
 //! A [`Judge`] says of each whole choice whether it is true, and of each prefix what is known of
 //! its completions. [`Answers`] are the true choices from a [`Start`] on, in declared order, and
-//! [`first`] is the first of all. Where nothing but the first is wanted, a [`Refuter`] says why no
-//! completion of a prefix is true, and [`first_by_jumps`] skips what fails for the same reason. A
-//! start is written as a token, by which a page says where the next one begins, and from which
-//! inputs it was made: [`write_token`] and [`parse_token`].
+//! [`first`] returns the first of all. [`first_by_jumps`] returns it too: it asks a [`Refuter`] why
+//! no completion of a prefix is true, and skips what fails for the same reason.
+//!
+//! A page ends with a token, if answers may be left. The token says where the next page begins, and
+//! from which inputs it was made: [`write_token`] and [`parse_token`].
 #![tactic(auto)]
 
 // What a search asks.

@@ -13,12 +13,14 @@ use crate::trailer::Trailer;
 use crate::trailer_text::write_trailer;
 use am_universe::{Choice, Kind, LineTable, Sink};
 
-/// Writes a page of the answers that are left: a line for each, up to a limit, and then the
-/// trailer, which is the answer. Where there are more answers than the limit, that is `Next`; else
-/// it says whether the search stopped. The table is that of the universe whose choices the answers
-/// are. The fingerprint is that of the inputs, and stands in the token of the trailer. The only
-/// `Err` is `Kind::Write`, after a part of the page from its front. Each line is written before the
-/// next answer is looked for. No memory is taken.
+/// Writes a page, and returns its trailer: a line for each answer up to a limit, and then the
+/// trailer.
+///
+/// The table must be that of the universe whose choices the answers are. A limit must be at least
+/// 1. If there are more answers than the limit, the trailer is `Next`; otherwise it says whether
+/// the search ended or stopped. Its token has the fingerprint, which is that of the inputs. Each
+/// line is written before the search for the next answer. Fails only with `Kind::Write`; what was
+/// written is then a proper prefix of the page. Takes no memory.
 pub fn write_page<J: Judge, W: Sink>(
     table: &mut LineTable,
     answers: &mut Answers<'_, J>,
@@ -38,7 +40,7 @@ pub fn write_page<J: Judge, W: Sink>(
     Ok(trailer)
 }
 
-/// Writes the lines of a page. The answer is its trailer, which is not written.
+/// Writes the lines of a page, and returns its trailer, which is not written.
 fn write_lines<J: Judge, W: Sink>(
     table: &mut LineTable,
     answers: &mut Answers<'_, J>,
@@ -68,7 +70,7 @@ fn write_lines<J: Judge, W: Sink>(
     Ok(trailer_of(answers.state()))
 }
 
-/// The trailer of a page with all answers that there are, by how far the search has come.
+/// The trailer of a page that has all answers that there are, by how far the search has come.
 fn trailer_of(state: State) -> Trailer
     ensures { (stop : Option (List ℕ)) → state ≡ state_at stop → result ≡ trailer_at stop }
 {

@@ -17,13 +17,15 @@ use crate::Start;
 use crate::digits::{digits_of, parse_digits};
 use am_universe::{Choice, Kind, Position, Sink, Universe, put_all, put_str};
 
-/// The start of the universe with this token: `t2:` and the positions of a whole choice, or `s2:`
-/// and those of a prefix, joined by `.`, in decimal with no zero in front. Between stand the digits
-/// of the fingerprint of the inputs that the token was made from, and `:`. A token of the old form,
-/// `t1:` or `s1:` and positions, says nothing of inputs, and is read for all.
+/// Reads a token, and returns the start that it stands for.
 ///
-/// `BadToken` where the text is no token of the universe, whatever the inputs; `OtherInputs` where
-/// it is one that was written under another fingerprint than this one. No memory is taken.
+/// A token is `t2:` for a start after a whole choice, or `s2:` for one at a prefix; the fingerprint
+/// of the inputs that it was made from, as 32 digits `0` to `9` and `a` to `f`; `:`; and the
+/// positions in decimal, without leading zeros, joined by `.`. A token of the old form is `t1:` or
+/// `s1:` and the positions. It has no fingerprint, and is accepted for any inputs.
+///
+/// Fails with `BadToken` if the text is not a token of the universe, whatever the inputs, and with
+/// `OtherInputs` if it is one that was written under another fingerprint. Takes no memory.
 pub fn parse_token(text: &str, universe: &Universe, fingerprint: &[u8; 16]) -> Result<Start, Kind>
     ensures ok { IfOk result (ReadsToken (sizes universe.now) fingerprint.now text.now) }
     ensures refused { IfErr result (RefusesToken (sizes universe.now) fingerprint.now text.now) }
@@ -35,8 +37,7 @@ pub fn parse_token(text: &str, universe: &Universe, fingerprint: &[u8; 16]) -> R
     }
 }
 
-/// The start of the universe with this token, and the fingerprint that the token has, if it is not
-/// of the old form.
+/// Reads a token of the universe: its start, and its fingerprint, which the old form does not have.
 fn parse_spelled(text: &str, universe: &Universe) -> Option<(Start, Option<[u8; 16]>)>
     ensures { MatchOption result (IsNoToken (sizes universe.now) text.now)
         (λ (start, form). IsStart (sizes universe.now) start × IfSome form IsFingerprint
@@ -52,7 +53,7 @@ fn parse_spelled(text: &str, universe: &Universe) -> Option<(Start, Option<[u8; 
     Some((Start::After(choice), form))
 }
 
-/// What stands behind the letter of a token: the fingerprint, if the form is not the old one, and
+/// Reads what follows the letter of a token: the fingerprint, which the old form does not have, and
 /// the text of the positions.
 fn parse_form(text: &str) -> Option<(Option<[u8; 16]>, &str)>
     ensures { MatchOption result
@@ -68,7 +69,7 @@ fn parse_form(text: &str) -> Option<(Option<[u8; 16]>, &str)>
     Some((Some(parse_digits(digits)?), positions))
 }
 
-/// The whole choice of these positions that the universe admits, if there is one.
+/// Reads the positions of a whole choice that the universe admits.
 fn parse_whole(text: &str, universe: &Universe) -> Option<Choice>
     ensures { MatchOption result
         ((c : List ℕ) → IsWhole (sizes universe.now) c → positions_text c ≢ text.now)
@@ -82,7 +83,7 @@ fn parse_whole(text: &str, universe: &Universe) -> Option<Choice>
     }
 }
 
-/// The choice of these positions that the universe admits, if there is one.
+/// Reads the positions of a choice that the universe admits.
 fn parse_positions(text: &str, universe: &Universe) -> Option<Choice>
     ensures { MatchOption result
         ((c : List ℕ) → IsTrue (admits (sizes universe.now) c) → positions_text c ≢ text.now)
@@ -105,7 +106,7 @@ fn parse_positions(text: &str, universe: &Universe) -> Option<Choice>
     Some(prefix)
 }
 
-/// The position that the text is in decimal, if it is one.
+/// Reads a position in decimal, without leading zeros.
 fn parse_position(text: &str) -> Option<Position>
     ensures { MatchOption result ((n : ℕ) → n < 2 ^ 16 → decimal n ≢ text.now)
         (λ position. decimal position ≡ text.now) }
@@ -121,8 +122,9 @@ fn parse_position(text: &str) -> Option<Position>
     }
 }
 
-/// Writes the token of a start, for inputs with this fingerprint. The only `Err` is `Kind::Write`,
-/// after a part of it from its front. No memory is taken.
+/// Writes the token of a start, for inputs with this fingerprint.
+///
+/// Fails only with `Kind::Write`; what was written is then a proper prefix of it. Takes no memory.
 pub fn write_token<W: Sink>(start: &Start, fingerprint: &[u8; 16], out: &mut W) -> Result<(), Kind>
     ensures written { Writes W.taken W.failures out.old out.new
         (token_text fingerprint.now start.now) result }

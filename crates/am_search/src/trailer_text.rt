@@ -8,8 +8,10 @@ use crate::token::write_token;
 use crate::trailer::Trailer;
 use am_universe::{Kind, Sink, put_all};
 
-/// Writes the line of a trailer, for inputs with this fingerprint. The only `Err` is `Kind::Write`,
-/// after a part of it from its front.
+/// Writes the line of a trailer: `# end`, or `# next` or `# stopped` and a token.
+///
+/// The token is for inputs with this fingerprint. Fails only with `Kind::Write`; what was written
+/// is then a proper prefix of the line.
 pub fn write_trailer<W: Sink>(
     trailer: &Trailer,
     fingerprint: &[u8; 16],

@@ -5,9 +5,6 @@ use Rattle.std.specs.Prelude.{ℕ}
 abbrev pub line_feed : ℕ
 line_feed = 10
 
-abbrev pub exclamation_mark : ℕ
-exclamation_mark = 33
-
 abbrev pub double_quote : ℕ
 double_quote = 34
 
@@ -28,9 +25,6 @@ slash = 47
 
 abbrev pub colon : ℕ
 colon = 58
-
-abbrev pub equals_sign : ℕ
-equals_sign = 61
 
 abbrev pub question_mark : ℕ
 question_mark = 63

@@ -1,12 +1,13 @@
--- Choices: which value each label of a universe takes. A choice is a list of positions, one for
--- each label, which count from 0; a shorter list is a prefix of a choice.
+-- Choices: which value each label of a universe takes. A choice is a list of positions of values,
+-- which count from 0. A *whole* choice has a position for each label. A shorter list is a *prefix*
+-- of a choice.
 use Rattle.std.specs.Prelude.{◌≡◌, ℕ, List, [], ◌∷◌, length, map, Bool, true, false}
 use Rattle.std.specs.Prelude.{nat_lt, ◌&&◌, IsTrue}
 use Rattle.std.specs.List.{flat_map, range_with_len}
 
--- All whole choices over labels of these sizes, in declared order: as in a dictionary, the first
--- label weighing most. For no labels there is one, the empty choice. No code forms this list: it is
--- what answers are measured by.
+-- All whole choices over labels of these sizes, in declared order: as in a dictionary, in which the
+-- first label weighs most. Without labels there is one, the empty choice. No code makes this list.
+-- It is what answers are compared with.
 -- Source: own choice.
 -- Example: for the sizes 2 and 3 they are 0 0, 0 1, 0 2, 1 0, 1 1 and 1 2.
 abbrev pub choices : List ℕ → List (List ℕ)
@@ -19,6 +20,6 @@ admits sizes [] = true
 admits [] (p ∷ c) = false
 admits (size ∷ sizes) (p ∷ c) = nat_lt p size && admits sizes c
 
--- A choice that says a value for each label.
+-- A whole choice: it has a position for each label, below the size of the label.
 abbrev pub IsWhole : List ℕ → List ℕ → Type 0
 IsWhole sizes c = IsTrue (admits sizes c) × (length c ≡ length sizes)

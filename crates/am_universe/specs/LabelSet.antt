@@ -1,4 +1,4 @@
--- Label sets: maps from names to texts that are not empty. A label without a value is no label.
+-- Label sets: maps from names to values. A value is a text that is not empty.
 use Rattle.std.specs.Prelude.{◌≢◌, ℕ, List, [], ◌∷◌, Option, Some, None}
 use Rattle.std.specs.Prelude.{option_and_then, unwrap_or, slice_get}
 use Rattle.std.specs.Ordering.{nat_cmp}
@@ -6,12 +6,12 @@ use Rattle.std.specs.Cmp.Lexicographic.{slice_cmp}
 use Rattle.std.specs.FinMap.{FinMap, get, insert, remove, from_entries}
 use Rattle.am_universe.specs.Universe.{Label}
 
--- Names in the order of their bytes, each with its text.
+-- A label set: names in the order of their bytes, each with its value.
 abbrev pub LabelMap : Type 0
 LabelMap = FinMap (slice_cmp nat_cmp) (List ℕ)
 
--- The value of a label, the empty text where it is missing: a missing label and a label with an
--- empty value are the same thing.
+-- The value of a label, or the empty text if the label is missing. A missing label and a label with
+-- an empty value are the same thing.
 -- Source: Alertmanager configuration reference 0.25, "Inhibition-related settings".
 -- Example: in `{team="db"}` the value of `team` is `db`, and that of `severity` is empty.
 abbrev pub value_of : LabelMap → List ℕ → List ℕ
@@ -31,16 +31,16 @@ abbrev pub with_label : List ℕ → Option (List ℕ) → List (List ℕ × Lis
 with_label name None pairs = pairs
 with_label name (Some value) pairs = (name, value) ∷ pairs
 
--- The labels that have a text under a choice, with that text, in declared order.
+-- The labels for which a choice takes a text, each with that text, in declared order.
 abbrev pub label_pairs : List Label → List ℕ → List (List ℕ × List ℕ)
 label_pairs [] c = []
 label_pairs (label ∷ u) [] = []
 label_pairs (label ∷ u) (p ∷ c) = with_label label.name (value_at label p) (label_pairs u c)
 
--- The label set of a choice: each label whose value is a text.
+-- The label set of a choice: the labels for which the choice takes a text, each with that text.
 -- Source: own choice.
--- Example: `team` may be `db` or `web`, and `severity` may be absent or `warning`; then the choice
--- 1 0 has the set `{team="web"}`.
+-- Example: let `team` be `db` or `web`, and let `severity` be absent or `warning`. Then the choice
+-- 1 0 has the label set `{team="web"}`.
 abbrev pub label_set_of : List Label → List ℕ → LabelMap
 label_set_of u c = from_entries (label_pairs u c)
 

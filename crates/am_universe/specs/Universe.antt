@@ -1,5 +1,5 @@
--- Universes of label sets: labels, each with the values that it may have; and why a label may not
--- stand behind the labels of a universe.
+-- Universes: labels, each with the values that it may have. And why a label cannot be added to a
+-- universe.
 use Rattle.std.specs.Prelude.{◌≡◌, ℕ, ◌<◌, ◌≤◌, List, [], ◌∷◌, ◌++◌, length, map}
 use Rattle.std.specs.Prelude.{Bool, true, false, not, nat_le, nat_lt, ◌==◌, ◌&&◌, ◌||◌}
 use Rattle.std.specs.Prelude.{if◌then◌else◌, Option, Some, None, option_map, unwrap_or}
@@ -16,8 +16,8 @@ use Rattle.am_universe.specs.declared.label_fault.LabelPart.TheVariants as parts
 use Rattle.am_universe.specs.Bytes.{underscore}
 use Rattle.am_universe.specs.Text.{same_text}
 
--- What a label may be, in declared order: texts, and absence, which is `None`: a label set without
--- that label.
+-- The values of a label, in declared order. Each is a text or absence, which is `None`: then the
+-- label set does not have the label.
 abbrev pub Values : Type 0
 Values = List (Option (List ℕ))
 
@@ -33,9 +33,9 @@ begins_label_name c = is_ascii_alphabetic c || c == underscore
 abbrev pub continues_label_name : ℕ → Bool
 continues_label_name c = begins_label_name c || is_ascii_digit c
 
--- A label name: `[a-zA-Z_][a-zA-Z0-9_]*`.
+-- A text is a label name: `[a-zA-Z_][a-zA-Z0-9_]*`.
 -- Source: Prometheus data model, "Metric names and labels".
--- Example: `_job2` is one; `2job` and `job-name` are none.
+-- Example: `_job2` is one. `2job` and `job-name` are not.
 abbrev pub is_label_name : List ℕ → Bool
 is_label_name [] = false
 is_label_name (c ∷ cs) = begins_label_name c && list_all continues_label_name cs
@@ -57,7 +57,7 @@ is_empty_text (Some (c ∷ cs)) = false
 abbrev pub names : List Label → List (List ℕ)
 names u = map (λ l. l.name) u
 
--- How many values each label has.
+-- How many values each label has, in declared order.
 abbrev pub sizes : List Label → List ℕ
 sizes u = map (λ l. length l.values) u
 
@@ -69,8 +69,8 @@ label_position u name = position (λ l. same_text l.name name) u
 abbrev pub values_at : List Label → ℕ → Values
 values_at u i = unwrap_or (option_map (λ l. l.values) (slice_get u i)) []
 
--- A label by itself: a label name, and 1 to `MAX_VALUES` distinct values, none of them the empty
--- text.
+-- A label by itself: it has a label name, and 1 to `MAX_VALUES` values. No value is the empty text,
+-- and no two are the same.
 pub record IsLabel (l : Label) : Type 0 where
   pub name : IsTrue (is_label_name l.name)
   pub some_value : 0 < length l.values
@@ -78,7 +78,8 @@ pub record IsLabel (l : Label) : Type 0 where
   pub texts : AllByRecursion (λ v. is_empty_text v ≡ false) l.values
   pub distinct : IsDistinct same_value l.values
 
--- A universe: at most `MAX_LABELS` labels, each of them a label by itself, with distinct names.
+-- Some labels are a universe: there are at most `MAX_LABELS`, each is a label by itself, and no two
+-- have the same name.
 -- Source: own choice.
 -- Example: `team`, which may be `db` or `web`, and `severity`, which may be absent or `warning`.
 pub record IsUniverse (u : List Label) : Type 0 where
@@ -88,12 +89,12 @@ pub record IsUniverse (u : List Label) : Type 0 where
 
 -- ---- What keeps a label out, the first fault first.
 
--- A kind of fault, where there is one, at a part of a label.
+-- The fault of a kind at a part of a label, if there is such a kind.
 abbrev pub fault_at : LabelPart → Option Kind → Option LabelFault
 fault_at part found = option_map (λ kind. record { kind = kind; part = part }) found
 
--- Why a name may not stand beside the labels of a universe. The empty text: `Empty`. Any other:
--- `Shape` where it is no label name, and `Duplicate` where it is one that a label has.
+-- Why a name cannot be added to the names of a universe: `Empty` for the empty text, `Shape` for
+-- another text that is no label name, and `Duplicate` for the name of a label that is there.
 abbrev pub name_fault : List Label → List ℕ → Option Kind
 name_fault u [] = Some kinds.Empty
 name_fault u (c ∷ cs) =
@@ -108,15 +109,15 @@ count_fault count =
     else if nat_lt MAX_VALUES count then Some kinds.Limit
     else None
 
--- Why a value may not stand behind others: `Empty` for the empty text, `Duplicate` for one that
--- stands already.
+-- Why a value cannot be added to others: `Empty` for the empty text, `Duplicate` for a value that
+-- is there.
 abbrev pub value_fault : Values → Option (List ℕ) → Option Kind
 value_fault before value =
     if is_empty_text value then Some kinds.Empty
     else if list_any (λ other. same_value other value) before then Some kinds.Duplicate
     else None
 
--- The first value at fault, where those before stand already.
+-- The first value at fault, behind those that are there.
 abbrev pub values_fault : Values → Values → Option LabelFault
 values_fault before [] = None
 values_fault before (value ∷ values) =
@@ -124,16 +125,16 @@ values_fault before (value ∷ values) =
     (fault_at (parts.Value (length before)) (value_fault before value))
     (values_fault (before ++ value ∷ []) values)
 
--- The first fault of the values of a label: their count, and then each of them.
+-- The first fault of the values of a label: of their count, and then of each value, in order.
 abbrev pub label_values_fault : Values → Option LabelFault
 label_values_fault values =
     option_or (fault_at parts.Values (count_fault (length values))) (values_fault [] values)
 
--- The first fault of a label behind the labels of a universe: `Limit` where there are `MAX_LABELS`
--- already, then its name, then its values.
+-- Why a label cannot be added to a universe, the first fault first: `Limit` if there are
+-- `MAX_LABELS` labels already, then the fault of its name, then that of its values.
 -- Source: own choice.
--- Example: behind a label `team` a second `team` with no value is refused for `Duplicate`, at its
--- name.
+-- Example: behind a label `team`, a second label `team` without values is refused as `Duplicate`,
+-- at its name.
 abbrev pub label_fault : List Label → Label → Option LabelFault
 label_fault u label =
     if nat_le MAX_LABELS (length u) then Some (record { kind = kinds.Limit; part = parts.Label })

@@ -7,11 +7,11 @@ use crate::{Kind, Place};
 use std::alloc::Global;
 use thiserror::Error;
 
-/// A refusal: why, where, and at which part of a file.
+/// Why something was refused, where, and at which part of a file.
 ///
-/// `pointer` is a JSON Pointer (RFC 6901), empty where no part of a file is meant. `Memory` stands
-/// at the place `Memory` and `Write` at `Output`, both with the empty pointer, whatever was looked
-/// at: no other such fault can be made.
+/// `pointer` is a JSON Pointer (RFC 6901), which is empty if no part of a file is meant. A fault of
+/// the kind `Memory` always has the place `Memory`, and one of the kind `Write` the place `Output`,
+/// both with the empty pointer.
 #[derive(Debug, Drop, Error)]
 #[error("{kind:?} at {place:?} {pointer}")]
 pub struct Fault {
@@ -22,7 +22,9 @@ pub struct Fault {
 }
 
 impl Fault {
-    /// A fault at a place as a whole: its pointer is empty. No memory is taken.
+    /// Makes a fault at a place as a whole, with the empty pointer.
+    ///
+    /// `Memory` and `Write` have places of their own, whatever `place` is. Takes no memory.
     pub fn at(alloc: Global, kind: Kind, place: Place) -> Fault
         ensures kind { result.kind ≡ kind }
         ensures place { kind ≢ kinds.Memory → kind ≢ kinds.Write → result.place ≡ place }
@@ -31,7 +33,10 @@ impl Fault {
         Fault::within(kind, place, String::new(alloc))
     }
 
-    /// A fault at a part of the file at a place. No memory is taken.
+    /// Makes a fault at a part of the file at a place.
+    ///
+    /// `Memory` and `Write` have places of their own and the empty pointer, whatever is given.
+    /// Takes no memory.
     pub fn within(kind: Kind, place: Place, pointer: String) -> Fault
         ensures kind { result.kind ≡ kind }
         ensures part { kind ≢ kinds.Memory → kind ≢ kinds.Write → (result.place ≡ place)
@@ -57,14 +62,14 @@ impl Fault {
         }
     }
 
-    /// Memory ran out. No memory is taken.
+    /// The fault that memory ran out. Takes no memory.
     pub fn memory(alloc: Global) -> Fault
         ensures kind { result.kind ≡ kinds.Memory }
     {
         Fault::at(alloc, Kind::Memory, Place::Memory)
     }
 
-    /// Writing failed. No memory is taken.
+    /// The fault that writing failed. Takes no memory.
     pub fn write(alloc: Global) -> Fault
         ensures kind { result.kind ≡ kinds.Write }
     {

@@ -12,7 +12,9 @@ use std::io::Write;
 
 /// Writes the line for a fault, as `amcover: universe: /labels/0/name: shape`.
 ///
-/// The only `Err` is `Kind::Write`. No memory is taken.
+/// A fault of memory or of writing has only its word, as `amcover: memory`. In a pointer, `\` is
+/// written `\\` and a line feed `\n`. Fails only with `Kind::Write`; what was written is then a
+/// proper prefix of the line. Takes no memory.
 pub fn write_fault<W: Sink>(fault: &Fault, out: &mut W) -> Result<(), Kind>
     ensures written { Writes W.taken W.failures out.old out.new (fault_text fault.now) result }
 {
@@ -22,7 +24,7 @@ pub fn write_fault<W: Sink>(fault: &Fault, out: &mut W) -> Result<(), Kind>
     put_all(out, b"\n")
 }
 
-/// Writes where a fault stands, and nothing for a fault of writing or of memory.
+/// Writes where a fault is, and nothing for a fault of writing or of memory.
 fn write_place_part<W: Sink>(fault: &Fault, out: &mut W) -> Result<(), Kind>
     ensures { Writes W.taken W.failures out.old out.new (place_part fault.now) result }
 {
@@ -34,7 +36,7 @@ fn write_place_part<W: Sink>(fault: &Fault, out: &mut W) -> Result<(), Kind>
     write_pointer(fault.pointer.as_str(), out)
 }
 
-/// Whether a fault stands at no part of the input.
+/// Whether a fault is at no part of the input.
 fn has_no_place(kind: Kind) -> bool
     ensures { result ≡ has_no_place kind }
 {
@@ -66,8 +68,8 @@ fn write_pointer_byte<W: Sink>(byte: u8, out: &mut W) -> Result<(), Kind>
     }
 }
 
-/// The exit status of the program after a fault: 4 where writing failed, 3 where memory ran out, 1
-/// where input was refused.
+/// The exit status of the program after a fault: 4 if writing failed, 3 if memory ran out, and 1 if
+/// input was refused.
 pub fn status(fault: &Fault) -> u8
     ensures status { result ≡ status_of fault.now.kind }
 {
@@ -78,8 +80,10 @@ pub fn status(fault: &Fault) -> u8
     }
 }
 
-/// Writes the line for a fault on `err`, in one write where there is memory for the line and `err`
-/// takes it whole. The answer is the exit status.
+/// Writes the line for a fault to `err`, and returns the exit status.
+///
+/// The line is one write if there is memory for it and `err` takes it whole. A failure to write it
+/// is ignored.
 pub fn report<E: Write>(alloc: Global, fault: &Fault, err: &mut E) -> u8
     ensures status { result ≡ status_of fault.now.kind }
 {
@@ -92,7 +96,7 @@ pub fn report<E: Write>(alloc: Global, fault: &Fault, err: &mut E) -> u8
     status(fault)
 }
 
-/// The line for a fault, in memory. An `Err` only where memory ran out.
+/// The line for a fault, in memory. Fails only if memory runs out.
 fn fault_line(alloc: Global, fault: &Fault) -> Result<Vec<u8>, AllocError>
     ensures { IfOk result (λ line. line.items ≡ fault_text fault.now) }
 {

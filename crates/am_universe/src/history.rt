@@ -3,7 +3,7 @@ ghost use Rattle.std.specs.Borrow.{ftrue};
 
 use std::marker::{Model, PhantomData};
 
-/// What has come so far, in order: a list that only clauses see. It takes no bytes.
+/// A list of what has come so far, in order. Only clauses see it, and it takes no bytes.
 #[derive(Drop)]
 pub struct History<T> {
     of: PhantomData<T>,
@@ -15,14 +15,14 @@ impl<T> Model for History<T> {
 }
 
 impl<T> History<T> {
-    /// Nothing has come yet.
+    /// The empty history.
     pub fn new() -> History<T>
         ensures nothing { result.items ≡ [] }
     {
         History { of: PhantomData }
     }
 
-    /// This history, and then these items.
+    /// This history, followed by these items.
     pub fn followed_by(&self, _items: &[T]) -> History<T>
         ensures joined { result.items ≡ self.now.items ++ _items.now }
     {

@@ -4,45 +4,46 @@ ghost use Rattle.am_universe.specs.declared.kind.Kind.TheVariants.{Memory};
 
 use std::alloc::{AllocError, AllocFailed};
 
-/// Why something was refused. Each kind has a number, and a text, which the program prints.
+/// Why something was refused. Each kind has a number, and a word that the program prints.
 #[derive(Clone, Copy, Debug, PartialEq, Eq)]
 pub enum Kind {
-    /// The bytes have no reading as JSON (RFC 8259), or are not UTF-8, or nest too deep.
+    /// The bytes are not JSON (RFC 8259), are not UTF-8, or nest too deep.
     NotJson,
-    /// A value of the wrong kind, a required field missing, or a label name not of its form.
+    /// A value is of the wrong kind, a required field is missing, or a name is not a label name.
     Shape,
-    /// A field that the form does not have.
+    /// An object has a field that its form does not have.
     UnknownField,
-    /// The text spells no list of matchers.
+    /// A text does not spell a list of matchers, or that of a label set has an operator other than
+    /// `=`.
     BadMatcher,
-    /// A pattern outside the profile, which leaves out forms that Go's engine and the crate `regex`
-    /// are known to refuse or to read differently.
+    /// A pattern is outside the profile. The profile leaves out forms that Go's engine and the
+    /// crate `regex` are known to refuse or to read differently.
     PatternProfile,
-    /// A pattern that the engine refuses.
+    /// The engine refuses a pattern of the profile.
     Pattern,
-    /// A name or a value that stands a second time.
+    /// A name or a value occurs a second time.
     Duplicate,
-    /// An empty text or list where one may not stand.
+    /// A text or a list is empty that must not be.
     Empty,
     /// A route names a receiver that is not declared.
     UndefinedReceiver,
     /// The top-level route has matchers.
     RootMatchers,
-    /// A text that is no instant.
+    /// A text is not an instant.
     BadTime,
-    /// A limit is passed.
+    /// A limit is exceeded.
     Limit,
-    /// The question is not of the grammar.
+    /// A text is not a question.
     QuestionSyntax,
     /// The question names a receiver that is not declared.
     UnknownReceiver,
-    /// The question names a path that is not there.
+    /// The question names a route that the configuration does not have.
     UnknownRoute,
-    /// The token is not one of this universe.
+    /// The text is not a token of this universe.
     BadToken,
     /// The token was made from other inputs.
     OtherInputs,
-    /// Silences were handed in without an instant.
+    /// Silences were given without an instant.
     NeedAt,
     /// The writer failed, or took nothing.
     Write,
@@ -50,7 +51,7 @@ pub enum Kind {
     Memory,
     /// A file could not be read.
     Read,
-    /// It was not found which values of a label its matchers tell apart.
+    /// The program could not find out which values of a label its matchers tell apart.
     Unproved,
     /// A label of a universe lacks a value that alerts may have.
     Incomplete,

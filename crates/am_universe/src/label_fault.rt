@@ -4,7 +4,7 @@ use thiserror::Error;
 /// The part of a label that is at fault.
 #[derive(Clone, Copy, Debug, PartialEq, Eq)]
 pub enum LabelPart {
-    /// The label as a whole: there are as many as there may be, or memory ran out.
+    /// The label as a whole: the universe has as many labels as it may have, or memory ran out.
     Label,
     /// Its name.
     Name,

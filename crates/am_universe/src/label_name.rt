@@ -1,4 +1,4 @@
-//! What a label name is made of.
+//! Label names.
 
 ghost use Rattle.std.specs.Prelude.{◌≡◌};
 ghost use Rattle.std.specs.List.{list_all};
@@ -21,14 +21,15 @@ fn all_continue_label_name(bytes: &[u8]) -> bool
     bytes.iter().all(|byte| continues_label_name(*byte))
 }
 
-/// Whether a label name may begin with the byte: a letter of ASCII, or `_`.
+/// Whether a label name may begin with the byte: an ASCII letter or `_` (Prometheus data model).
 pub fn begins_label_name(byte: u8) -> bool
     ensures begins { result ≡ begins_label_name byte }
 {
     byte.is_ascii_alphabetic() || byte == b'_'
 }
 
-/// Whether a label name may go on with the byte: a letter or a digit of ASCII, or `_`.
+/// Whether a label name may have the byte after its first: an ASCII letter, an ASCII digit or `_`
+/// (Prometheus data model).
 pub fn continues_label_name(byte: u8) -> bool
     ensures continues { result ≡ continues_label_name byte }
 {

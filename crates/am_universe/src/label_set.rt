@@ -41,8 +41,9 @@ impl LabelSet {
         }
     }
 
-    /// Gives the label this value. The empty value takes the label out. An `Err` comes only where
-    /// memory ran out; then nothing has changed.
+    /// Sets the value of a label; the empty value removes the label.
+    ///
+    /// Fails only if memory runs out; then nothing has changed.
     pub fn put(&mut self, name: String, value: String) -> Result<(), AllocError>
         ensures ok { OnOk result (
             self.new ≡ with_value self.old (string_bytes name) (string_bytes value)) }
@@ -56,7 +57,7 @@ impl LabelSet {
         Ok(())
     }
 
-    /// The value of a label: the empty text where it is missing.
+    /// The value of a label, or the empty text if the label is missing.
     pub fn get(&self, name: &str) -> &str
         ensures value { result.now ≡ value_of self.now name.now }
     {
@@ -66,7 +67,7 @@ impl LabelSet {
         }
     }
 
-    /// The map from the names to their texts.
+    /// The map from names to values.
     pub(crate) fn values(&self) -> &BTreeMap<String, String>
         ensures { label_map_of result.now.entries ≡ self.now }
     {
@@ -89,8 +90,9 @@ impl LabelSet {
     }
 }
 
-/// The label set of a whole choice: each label whose value is a text. An `Err` comes only where
-/// memory ran out.
+/// Returns the label set of a whole choice: each label that has a value, with that value.
+///
+/// Fails only if memory runs out.
 pub fn set_of(alloc: Global, universe: &Universe, choice: &Choice) -> Result<LabelSet, AllocError>
     requires { IsWhole (sizes universe.now) choice.now }
     ensures set { IfOk result (λ set. set ≡ label_set_of universe.now choice.now) }

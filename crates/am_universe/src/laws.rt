@@ -15,15 +15,15 @@ ghost use Rattle.am_universe.specs.Choice.{choices, IsWhole};
 ghost use Rattle.am_universe.specs.LabelSet.{value_of, value_at, label_set_of};
 ghost use Rattle.am_universe.specs.WrittenLabelSet.{line};
 
-/// How much there may be: labels of a universe, values of a label, positions of a choice.
+/// The limits of a universe: labels, values of a label, and positions of a choice.
 pub fn limits_of_universes()
     ensures labels { MAX_LABELS ≡ 64 }
     ensures values { MAX_VALUES ≡ 1024 }
     ensures positions { MAX_POSITIONS ≡ 64 }
 {}
 
-/// A fault of memory stands at the place `Memory`, and one of writing at `Output`, both with no
-/// pointer: there is no other such fault.
+/// Every fault of memory is at the place `Memory`, and every fault of writing at `Output`, both
+/// with the empty pointer.
 pub fn memory_and_writing_have_places_of_their_own()
     ensures memory { (fault : Fault) → fault.kind ≡ kinds.Memory
         → (fault.place ≡ places.Memory) × (string_bytes fault.pointer ≡ []) }
@@ -31,37 +31,38 @@ pub fn memory_and_writing_have_places_of_their_own()
         → (fault.place ≡ places.Output) × (string_bytes fault.pointer ≡ []) }
 {}
 
-/// The test whether two texts are the same is true where they are equal, and only there.
+/// `same_text` is true of two texts exactly if they are equal.
 pub fn same_text_decides()
     ensures decided { (a b : List ℕ) → (IsTrue (same_text a b) ↔ (a ≡ b)) }
 {}
 
-/// All choices over labels of some sizes are the whole choices and no others.
+/// The choices over labels of some sizes are exactly the whole choices.
 pub fn choices_are_the_whole_choices()
     ensures exactly { (sizes c : List ℕ) → (Contains (choices sizes) c ↔ IsWhole sizes c) }
 {}
 
-/// Each choice comes before those after it in the order of a dictionary, so none stands twice.
+/// The choices are in the order of a dictionary, so none occurs twice.
 pub fn choices_ascend()
     ensures ascending { (sizes : List ℕ) → IsStrictlySortedBy (slice_cmp nat_cmp) (choices sizes) }
 {}
 
-/// In the label set of a choice a declared label has the value at its position, and the empty text
-/// where that is absence.
+/// In the label set of a choice, a declared label has the value at its position, or the empty text
+/// if that is absence.
 pub fn declared_value()
     ensures value { (u : List Label) (c : List ℕ) (i : ℕ) (label : Label) (position : ℕ)
         → IsUniverse u → slice_get u i ≡ Some label → slice_get c i ≡ Some position
         → value_of (label_set_of u c) label.name ≡ unwrap_or (value_at label position) [] }
 {}
 
-/// In the label set of a choice a label that is not declared has the empty text.
+/// In the label set of a choice, a label that is not declared has the empty text.
 pub fn undeclared_value()
     ensures value { (u : List Label) (c name : List ℕ)
         → ¬ Contains (names u) name → value_of (label_set_of u c) name ≡ [] }
 {}
 
-/// A label has no fault behind a universe exactly if the labels with it are one: no fault is
-/// missing, and none is needless.
+/// A label may be added to a universe exactly if the labels are then still a universe.
+///
+/// So no fault is missing, and none is needless.
 pub fn a_label_is_added_exactly_to_a_universe()
     ensures exactly { (u : List Label) (label : Label) → IsUniverse u
         → (label_fault u label ≡ None ↔ IsUniverse (u ++ label ∷ [])) }

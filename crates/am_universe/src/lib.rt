@@ -1,8 +1,8 @@
-//! Universes of labels, the choices and label sets that they have, and how those are written.
+//! Universes of labels, their choices and label sets, and how label sets and faults are written.
 //!
 //! A [`Universe`] declares labels and the values that each may have. A [`Choice`] picks one value
-//! of each label, and [`set_of`] gives the [`LabelSet`] that it stands for. What is written goes to
-//! a [`Sink`], as an [`Out`] over a writer is one. A [`Fault`] says why something was refused, and
+//! of each label, and [`set_of`] returns the [`LabelSet`] that it stands for. Output goes to a
+//! [`Sink`]; an [`Out`] is one over a writer. A [`Fault`] says why something was refused, and
 //! where.
 #![tactic(auto)]
 

@@ -1,10 +1,10 @@
-//! The most that there may be of each thing that this crate counts.
+//! The limits of universes. They are this project's own choice.
 
-/// The most labels of a universe.
+/// The most labels that a universe may have.
 pub const MAX_LABELS: usize = 64;
 
-/// The most values of a label.
+/// The most values that a label may have.
 pub const MAX_VALUES: usize = 1024;
 
-/// The most positions of a choice: one for each label that a universe may have.
+/// The most positions that a choice may have: one for each label of the largest universe.
 pub const MAX_POSITIONS: usize = 64;

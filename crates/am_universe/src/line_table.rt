@@ -15,10 +15,10 @@ use std::alloc::{AllocError, Global};
 use std::marker::Model;
 use std::snapshot::Snapshot;
 
-/// The lines of a universe's choices, in pieces: each label with each of its values, written once,
-/// so that a line is a few copies.
+/// A table by which the lines of a universe's choices are written fast.
 ///
-/// To contracts a table is the universe that it was made from.
+/// It keeps the text of each label with each of its values, so a line is a few copies. To contracts
+/// it is the universe that it was made from.
 #[derive(Drop)]
 pub struct LineTable {
     universe: Snapshot<Universe>,
@@ -40,7 +40,7 @@ impl Model for LineTable {
 }
 
 impl LineTable {
-    /// The table of a universe. An `Err` only where memory was refused.
+    /// Makes the table of a universe. Fails only if memory runs out.
     pub fn of(alloc: Global, universe: &Universe) -> Result<LineTable, AllocError>
         ensures universe { IfOk result (λ table. table ≡ universe.now) }
     {
@@ -62,9 +62,10 @@ impl LineTable {
         })
     }
 
-    /// Writes the line of a whole choice: its set, as `write_set` writes it, and a line feed. The
-    /// only `Err` is `Kind::Write`, after a part of that from its front. No memory is taken, and no
-    /// text is searched for what to escape.
+    /// Writes the line of a whole choice: its label set, as `write_set` writes it, and a line feed.
+    ///
+    /// Fails only with `Kind::Write`; what was written is then a proper prefix of the line. Takes
+    /// no memory, and looks for nothing to escape.
     pub fn write_line<W: Sink>(&mut self, choice: &Choice, out: &mut W) -> Result<(), Kind>
         requires { IsWhole (sizes self.old) choice.now }
         ensures written { Writes W.taken W.failures out.old out.new

@@ -3,10 +3,10 @@ ghost use Rattle.std.specs.Prelude.{◌≡◌, []};
 use crate::{History, Kind, Sink};
 use std::alloc::Global;
 
-/// A sink in memory. A take fails only where memory ran out.
+/// A sink in memory. A take fails only if memory runs out.
 ///
-/// What an `Out` says of its writer speaks of the writer at its start, which a call over any sink
-/// does not say it keeps; here the bytes taken are those in memory.
+/// The bytes taken are those in memory. An `Out` promises less: it speaks of its writer at the
+/// start, and a call over any sink does not promise to keep that.
 #[derive(Drop)]
 pub struct MemorySink {
     pub bytes: Vec<u8>,
@@ -14,7 +14,7 @@ pub struct MemorySink {
 }
 
 impl MemorySink {
-    /// A sink that has taken nothing yet. No memory is taken.
+    /// A sink that has taken nothing yet. Takes no memory.
     pub fn new(alloc: Global) -> MemorySink
         ensures nothing { result.bytes.items ≡ [] }
     {

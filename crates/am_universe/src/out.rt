@@ -5,10 +5,10 @@ use crate::{History, Kind, Sink};
 use std::io::Write;
 use std::snapshot::Snapshot;
 
-/// A sink over any writer. A write that answers an error or takes no byte is a failed take.
+/// A sink over any writer. A write that returns an error or takes no byte is a failed take.
 ///
-/// What it has taken is what its writer says it took, and what the writer itself holds where it
-/// tells.
+/// The bytes taken are those that the writer said it took. If the writer's contracts tell what it
+/// holds, that has grown by exactly these bytes.
 #[derive(Drop)]
 pub struct Out<W: Write> {
     writer: W,
@@ -45,7 +45,7 @@ impl<W: Write> Out<W> {
         &self.writer
     }
 
-    /// The writer.
+    /// Returns the writer as it is now.
     pub fn into_inner(self) -> W
         ensures contents { IfSome (W.contents (out_start self)) (λ held.
             W.contents result ≡ Some (held ++ out_taken self)) }

@@ -1,22 +1,22 @@
 ghost use Rattle.std.specs.Prelude.{◌≡◌};
 ghost use Rattle.am_universe.specs.Place.{place_text};
 
-/// Where a fault stands.
+/// Where a fault is.
 #[derive(Clone, Copy, Debug, PartialEq, Eq)]
 pub enum Place {
     /// The universe file.
     Universe,
     /// The configuration file.
     Config,
-    /// The configuration file that another one is compared with.
+    /// The old configuration file of a comparison.
     Old,
-    /// The configuration file that is compared with that.
+    /// The new configuration file of a comparison.
     New,
-    /// The export of silences.
+    /// The file of silences.
     Silences,
-    /// The list of firing alerts.
+    /// The file of firing alerts.
     Alerts,
-    /// The instant at which silences count.
+    /// The instant that is asked about.
     Instant,
     /// The question.
     Question,

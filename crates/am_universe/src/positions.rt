@@ -31,7 +31,7 @@ impl Model for Positions {
 }
 
 impl Positions {
-    /// The list with no position.
+    /// The empty list.
     pub fn empty() -> Positions
         ensures no_position { result ≡ [] }
     {
@@ -66,14 +66,14 @@ impl Positions {
         self.positions[i]
     }
 
-    /// The positions in a row.
+    /// The positions as a slice.
     pub fn as_slice(&self) -> &[Position]
         ensures positions { result.now ≡ self.now }
     {
         &self.positions[..self.len]
     }
 
-    /// Adds a position at the end.
+    /// Adds a position at the end. The list must have fewer than [`MAX_POSITIONS`].
     pub fn push(&mut self, position: Position)
         requires { length self.old < MAX_POSITIONS }
         ensures added { self.new ≡ self.old ++ position ∷ [] }
@@ -82,7 +82,7 @@ impl Positions {
         self.len += 1;
     }
 
-    /// Takes the last position off. With none there is `None`, and nothing changes.
+    /// Removes the last position and returns it; `None` if there is none, and then nothing changes.
     pub fn pop(&mut self) -> Option<Position>
         ensures last { IfSome result (λ position. self.old ≡ self.new ++ position ∷ []) }
         ensures none { IfNone result ((self.old ≡ []) × (self.new ≡ [])) }
@@ -118,5 +118,5 @@ impl Eq for Positions {
     ghost laws = { nat_list_eq_equiv };
 }
 
-/// One position for each label of a universe, a whole choice, or a prefix of one.
+/// A whole choice, which has one position for each label of a universe, or a prefix of one.
 pub type Choice = Positions;

@@ -12,9 +12,10 @@ pub trait Sink {
     /// How many takes failed so far.
     ghost failures: { Self → ℕ };
 
-    /// Takes some of the bytes from their front, and answers how many: at least one.
+    /// Takes a prefix of the bytes, and returns how many it took: at least one.
     ///
-    /// An `Err` is `Kind::Write`; then nothing was taken, and one more take has failed.
+    /// `bytes` must not be empty. Fails only with `Kind::Write`; then nothing was taken, and one
+    /// more take has failed.
     fn take(&mut self, bytes: &[u8]) -> Result<usize, Kind>
         requires { 0 < length bytes.now }
         ensures count { IfOk result (λ n. (0 < n) × (n ≤ length bytes.now)) }

@@ -54,7 +54,7 @@ impl Model for Universe {
 }
 
 impl Universe {
-    /// The universe with no labels, which has one label set, the empty one. It keeps the allocator.
+    /// The universe without labels, whose one label set is the empty one. It keeps the allocator.
     pub fn empty(alloc: Global) -> Universe
         ensures no_label { result ≡ [] }
     {
@@ -63,10 +63,11 @@ impl Universe {
         }
     }
 
-    /// Why a label of this name may not be added; `None` where it may, if its values may too.
+    /// Why a label may not be added under this name; `None` if it may.
     ///
-    /// The first of: `Empty`, the empty text; `Shape`, not `[a-zA-Z_][a-zA-Z0-9_]*`; `Duplicate`,
-    /// the name of a label here.
+    /// The first of: `Empty`, the name is the empty text; `Shape`, it is not
+    /// `[a-zA-Z_][a-zA-Z0-9_]*` (Prometheus data model); `Duplicate`, a label of the universe has
+    /// it.
     pub fn name_fault(&self, name: &str) -> Option<Kind>
         ensures fault { result ≡ name_fault self.now name.now }
     {
@@ -82,9 +83,9 @@ impl Universe {
         None
     }
 
-    /// Why a label may not have so many values; `None` where it may.
+    /// Why a label may not have so many values; `None` if it may.
     ///
-    /// `Empty` for no value, `Limit` for more than [`MAX_VALUES`].
+    /// `Empty` for no value, and `Limit` for more than [`MAX_VALUES`].
     pub fn count_fault(count: usize) -> Option<Kind>
         ensures fault { result ≡ count_fault count }
     {
@@ -97,9 +98,10 @@ impl Universe {
         }
     }
 
-    /// Why a value may not stand behind those before it; `None` where it may.
+    /// Why a label may not have this value after those before it; `None` if it may.
     ///
-    /// The first of: `Empty`, the empty text; `Duplicate`, a value as one before it.
+    /// The first of: `Empty`, the value is the empty text; `Duplicate`, it is the same as one
+    /// before it. The value `None` is absence.
     pub fn value_fault(before: &[Option<String>], value: Option<&str>) -> Option<Kind>
         ensures fault { result
             ≡ value_fault (texts_of before.now) (option_map (λ t. t.now) value.entry) }
@@ -113,14 +115,12 @@ impl Universe {
         None
     }
 
-    /// Adds a label behind the others, with its values in declared order.
+    /// Adds a label after the others, with its values in declared order.
     ///
-    /// The first fault is the one answered: `Limit` at `Label` where there are [`MAX_LABELS`]
-    /// already; the faults of the name, at `Name`, as `name_fault` has them; those of the count of
-    /// values, at `Values`, as `count_fault` has them; and those of a value, at the first such
-    /// value, as `value_fault` has them.
-    /// `Memory` at `Label` comes only for a label with no fault, where memory ran out. After an
-    /// `Err` nothing has changed.
+    /// Fails with the first fault of the label, and then nothing has changed: `Limit` at `Label` if
+    /// there are [`MAX_LABELS`] already; the faults of `name_fault`, at `Name`; those of
+    /// `count_fault`, at `Values`; and those of `value_fault`, at the first value that has one.
+    /// `Memory`, at `Label`, comes only for a label without a fault.
     pub fn add(&mut self, name: String, values: Vec<Option<String>>) -> Result<(), LabelFault>
         ensures ok { OnOk result (self.new ≡ self.old ++ label_of name values ∷ []) }
         ensures accepted { OnOk result (label_fault self.old (label_of name values) ≡ None) }
@@ -139,7 +139,7 @@ impl Universe {
         }
     }
 
-    /// The first fault of a label behind those here.
+    /// The first fault of a label that is to follow the others.
     fn label_fault(&self, name: &str, values: &[Option<String>]) -> Option<LabelFault>
         ensures { result
             ≡ label_fault self.now (record { name = name.now; values = texts_of values.now }) }
@@ -200,7 +200,7 @@ impl Universe {
         }
     }
 
-    /// The position of the label of this name, if there is one.
+    /// The position of the label of this name; `None` if the universe does not declare it.
     pub fn position(&self, name: &str) -> Option<usize>
         ensures found { IfSome result (λ i. slice_get (names self.now) i ≡ Some name.now) }
         ensures none { IfNone result (¬ Contains (names self.now) name.now) }

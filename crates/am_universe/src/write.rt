@@ -12,8 +12,10 @@ ghost use Rattle.am_universe.specs.WriteAnswer.{IsAnswerOfWrite};
 use crate::{Choice, Fault, Kind, LabelSet, Sink, Universe};
 use std::alloc::Global;
 
-/// Writes the bytes, all of them, unless a take fails: then the answer is `Kind::Write`, the bytes
-/// before it have gone out, and it is not tried again.
+/// Writes all of the bytes.
+///
+/// Fails only with `Kind::Write`, at the first take that fails; what was written is then a proper
+/// prefix.
 pub fn put_all<W: Sink>(out: &mut W, bytes: &[u8]) -> Result<(), Kind>
     ensures written { Writes W.taken W.failures out.old out.new bytes.now result }
 {
@@ -24,14 +26,14 @@ pub fn put_all<W: Sink>(out: &mut W, bytes: &[u8]) -> Result<(), Kind>
     Ok(())
 }
 
-/// Writes a text as it stands. The only `Err` is `Kind::Write`, as `put_all` has it.
+/// Writes a text as it is. Fails as `put_all` does.
 pub fn put_str<W: Sink>(out: &mut W, text: &str) -> Result<(), Kind>
     ensures written { Writes W.taken W.failures out.old out.new text.now result }
 {
     put_all(out, text.as_bytes())
 }
 
-/// How a byte is written between quotes, where it does not stand for itself.
+/// How a byte is written between quotes, if it does not stand for itself.
 fn escape_of(byte: u8) -> Option<&'static [u8]>
     ensures some { IfSome result (λ escape. escape.now ≡ label_value_escape byte) }
     ensures none { IfNone result (label_value_escape byte ≡ byte ∷ []) }
@@ -44,8 +46,9 @@ fn escape_of(byte: u8) -> Option<&'static [u8]>
     }
 }
 
-/// Writes a text between quotes, with `\` as `\\`, `"` as `\"` and a line feed as `\n`. The only
-/// `Err` is `Kind::Write`, after a part of that from its front.
+/// Writes a text in quotes, with `\` as `\\`, `"` as `\"` and a line feed as `\n`.
+///
+/// Fails only with `Kind::Write`; what was written is then a proper prefix of that.
 pub fn write_text<W: Sink>(out: &mut W, text: &str) -> Result<(), Kind>
     ensures written { Writes W.taken W.failures out.old out.new (quoted_text text.now) result }
 {
@@ -70,9 +73,10 @@ fn write_escaped<W: Sink>(out: &mut W, bytes: &[u8]) -> Result<(), Kind>
     put_all(out, &bytes[start..])
 }
 
-/// Writes the set of a whole choice, as `{team="db",severity="critical"}`: the labels that have a
-/// text, in declared order. The only `Err` is `Kind::Write`, after a part of that from its front.
-/// No memory is taken.
+/// Writes the label set of a whole choice in declared order, as `{team="db",severity="critical"}`.
+///
+/// Labels that are absent are left out. Fails only with `Kind::Write`; what was written is then a
+/// proper prefix of that. Takes no memory.
 pub fn write_set<W: Sink>(universe: &Universe, choice: &Choice, out: &mut W) -> Result<(), Kind>
     requires { IsWhole (sizes universe.now) choice.now }
     ensures written { Writes W.taken W.failures out.old out.new
@@ -90,6 +94,8 @@ pub fn write_set<W: Sink>(universe: &Universe, choice: &Choice, out: &mut W) -> 
 }
 
 /// Writes a label set in the order of the bytes of its names, as `{severity="critical",team="db"}`.
+///
+/// Fails only with `Kind::Write`; what was written is then a proper prefix of that.
 pub fn write_map<W: Sink>(set: &LabelSet, out: &mut W) -> Result<(), Kind>
     ensures written { Writes W.taken W.failures out.old out.new (map_text set.now) result }
 {
@@ -102,7 +108,7 @@ pub fn write_map<W: Sink>(set: &LabelSet, out: &mut W) -> Result<(), Kind>
     put_all(out, b"}")
 }
 
-/// Writes what separates a label from those before it, its name and its value.
+/// Writes a separator, and then a label: its name, `=`, and its value in quotes.
 pub fn write_pair<W: Sink>(
     out: &mut W,
     separator: &[u8],
@@ -118,7 +124,7 @@ pub fn write_pair<W: Sink>(
     write_text(out, value)
 }
 
-/// What a call answers that ends with a write: what the write did, or that it failed.
+/// Returns what a write returned, with its failure as a fault of writing.
 pub fn answer_of_write<T: Drop>(alloc: Global, written: Result<T, Kind>) -> Result<T, Fault>
     ensures answer { IsAnswerOfWrite written result }
 {

@@ -7,7 +7,7 @@ use Rattle.am_universe.specs.declared.place.Place.TheVariants as places
 use Rattle.am_labels.specs.Space.{Space}
 use Rattle.am_json.specs.Pointer.{Refusal}
 use Rattle.am_list_files.specs.UniverseFile.{FileSaysUniverse, FileHasImpossibleTexts}
-use Rattle.am_list_files.specs.UniverseFaults.{UniverseFileRefusedFor}
+use Rattle.am_list_files.specs.UniverseForm.{UniverseFileRefusedFor}
 use Rattle.am_config.specs.ConfigFile.{Configuration, FileSaysConfig}
 use Rattle.am_eval.specs.Files.{Files, config_of}
 use Rattle.am_eval.specs.World.{World}

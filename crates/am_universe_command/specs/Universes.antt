@@ -90,6 +90,9 @@ pub record IsMadeUniverse (form : UniverseForm) (s : Space) (lists : List (List 
   pub made : IsMadeBeside form s (deciding_conditions form.routes w questions s.impossible) labels
 
 -- The inputs are accepted, and the text is that of a universe file made for what they say.
+-- Source: own choice.
+-- Example: for a configuration of which one route asks `team=db`, and nothing else asks of a label,
+-- the universe file `{"labels": [{"name": "team", "values": [null, "db"]}]}` may be written.
 pub record MakesUniverse (inputs : UniverseInputs) (form : UniverseForm) (text : List ℕ)
     : Type 0 where
   pub space : Space
@@ -249,6 +252,10 @@ pub record IsCheckOf (a : Alphabet) (s : Space) (w : World) (questions : List Qu
 
 -- The inputs are accepted, and the text says how the space of the universe file stands in the world
 -- and for the questions that they say.
+-- Source: own choice.
+-- Example: of the universe file `{"labels": [{"name": "team", "values": ["db"]}]}`, and a
+-- configuration with the top-level route alone, the report is the lines `team unasked`,
+-- `1 label sets` and `# complete`.
 pub record ChecksUniverse (a : Alphabet) (inputs : UniverseInputs) (routes : Bool)
     (report : List ℕ) : Type 0 where
   pub space : Space

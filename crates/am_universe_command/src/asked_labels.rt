@@ -1,4 +1,4 @@
-//! Which labels are asked of.
+//! The labels that matchers ask about.
 
 ghost use Rattle.std.specs.Prelude.{◌≡◌, map, IfOk};
 ghost use Rattle.am_eval.specs.QuestionView.{question_view};
@@ -12,8 +12,8 @@ use am_eval::{Question, World};
 use am_labels::Matchers;
 use std::alloc::{AllocError, Global};
 
-/// The labels that matchers ask of: those of the routes alone, or all that decide in a world; then
-/// those of questions; and then those of impossible lists. An `Err` only where memory was refused.
+/// The labels that matchers ask about: those of the routes alone, or all that decide in a world;
+/// then those of questions; and then those of impossible lists. Fails only if memory runs out.
 pub(crate) fn labels_asked<'m>(
     alloc: Global,
     world: &'m World,

@@ -1,4 +1,4 @@
-//! What is written of a universe that is checked.
+//! The text that is written of a checked universe.
 
 ghost use Rattle.std.specs.Prelude.{◌≡◌, ◌≤◌, ◌^◌, ◌++◌, string_bytes, decimal, codes, MatchOption};
 ghost use Rattle.std.specs.Prelude.{IfOk, OnOk};
@@ -17,8 +17,8 @@ use am_universe::Universe;
 use std::alloc::{AllocError, Global};
 
 /// How a universe stands, as a text: a line for each label, the number of its label sets and
-/// whether all of them are impossible, and whether nothing is missing. An `Err` only where memory
-/// was refused.
+/// whether all of them are impossible, and whether nothing is missing. Fails only if memory runs
+/// out.
 pub(crate) fn text_of_check(
     alloc: Global,
     universe: &Universe,

@@ -1,4 +1,4 @@
-//! Saying what a universe lacks to stand for every alert.
+//! Checking what a universe lacks to stand for every alert.
 
 ghost use Rattle.std.specs.Prelude.{◌≡◌, map, option_map, string_bytes, IfOk};
 ghost use Rattle.am_eval.specs.QuestionView.{question_view};
@@ -18,17 +18,18 @@ use am_list_files::Alerts;
 use am_universe::{Fault, Sink, answer_of_write, put_str};
 use std::alloc::{AllocError, Global};
 
-/// Writes how a universe stands, as one that is to stand for every alert: a line for each of its
-/// labels and for each other one that is asked of, the number of label sets and whether all of them
-/// are impossible, and whether nothing is missing.
+/// Writes whether a universe stands for every alert, and what it lacks.
 ///
-/// The impossible lists of the universe file ask too; a text of a label that such a list of this
-/// label alone matches need not stand there, nor one that is not over `alphabet`. With `routes` the
-/// matchers of routes, those of questions, and those lists are asked alone. All input is read and
-/// all is found before the first byte is written.
+/// There is a line for each label of the universe and for each other label that matchers ask about.
+/// Then come the number of label sets, whether all of them are impossible, and whether anything is
+/// missing. The matchers are those of the files, of the questions and of the impossible lists; with
+/// `routes`, those of silences and inhibition rules do not count. A text need not be in the
+/// universe if it is not over `alphabet`, or if an impossible list that asks about its label alone
+/// matches it. All input is read and all results are found before the first byte is written.
 ///
-/// The first fault is the one answered: one of the inputs, as for [`universe`](crate::universe());
-/// `Write`. `Memory` comes wherever memory ran out. After any but `Write` the sink is as it was.
+/// Fails with the first fault of the inputs, as [`universe`](crate::universe()) does, or with
+/// `Write`. `Memory` may come at any point. After any fault but `Write` the sink is unchanged;
+/// after `Write` it has taken a prefix of the text.
 pub fn check_universe<W: Sink>(
     alloc: Global,
     inputs: &UniverseInputs<'_>,
@@ -36,7 +37,7 @@ pub fn check_universe<W: Sink>(
     alphabet: Alphabet,
     out: &mut W,
 ) -> Result<(), Fault>
-    // Each line says what is so, and where nothing is missing the space is complete.
+    // What each line says is so. If nothing is missing, the space is complete.
     ensures kept { IsKept (check_promise alphabet inputs.now routes)
         W.taken W.failures out.old out.new result }
 {
@@ -49,8 +50,7 @@ pub fn check_universe<W: Sink>(
     answer_of_write(alloc, put_str(out, text.as_str()))
 }
 
-/// The text that says how a space stands for what inputs say. An `Err` only where memory was
-/// refused.
+/// Makes the text that says what a space lacks for the inputs. Fails only if memory runs out.
 fn checked_text(
     alloc: Global,
     alphabet: Alphabet,

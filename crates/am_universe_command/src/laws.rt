@@ -8,8 +8,8 @@ ghost use Rattle.am_list_files.specs.UniverseFile.{FileSaysUniverse, FileHasImpo
 ghost use Rattle.am_list_files.specs.UniverseFile.{AreTextsOfLists};
 ghost use Rattle.am_universe_command.specs.UniverseText.{universe_text};
 
-/// The text of a universe and of texts of lists is that of a file which says the universe and, as
-/// impossible, these lists. The texts stand in it word for word.
+/// The text of a universe and of impossible lists is that of a universe file that says them, if it
+/// is UTF-8 and not longer than a file may be. The texts of the lists are in it word for word.
 pub fn the_text_of_a_universe_says_it()
     ensures says { (u : List Label) (texts : List (List ℕ)) (lists : List (List Condition))
         → IsUniverse u → AreTextsOfLists texts lists → IsUtf8 (universe_text u texts)

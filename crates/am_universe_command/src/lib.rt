@@ -1,7 +1,7 @@
 //! The command `amcover universe`, as functions over bytes and a [`Sink`](am_universe::Sink).
 //!
-//! [`universe`](universe()) makes a universe that stands for every alert, as a [`UniverseForm`] has
-//! it, and [`check_universe`] says what another one lacks.
+//! [`universe`](universe()) makes a universe that stands for every alert, in a [`UniverseForm`],
+//! and [`check_universe`] says what another universe lacks.
 #![tactic(auto)]
 
 // What the calls are handed, and what that says.

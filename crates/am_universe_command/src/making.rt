@@ -25,33 +25,46 @@ use am_json::limits::MAX_FILE_BYTES;
 use am_universe::{Fault, Kind, Place, Sink, Universe, answer_of_write, put_str};
 use std::alloc::Global;
 
-/// Writes the file of a universe that stands for every alert whose texts are over the form's
-/// alphabet: the labels, values and impossible lists of the universe file, if there is one, and
-/// what that lacks. Of each label that the matchers of the files and of the questions ask of, it
-/// has a value for each class of texts that these cannot tell apart.
+/// Writes the file of a universe that stands for every alert whose texts are over the alphabet of
+/// the form.
 ///
-/// All input is read and all of the universe is made before the first byte is written.
+/// The universe keeps the labels, values and impossible lists of the universe file, if there is
+/// one. For each label that the matchers of the files, of the questions and of the impossible lists
+/// ask about, it has a value for each class of texts that these cannot tell apart. With `routes` in
+/// the form, matchers of silences and inhibition rules do not count. If the form is open, the
+/// universe may lack values of unproved labels. All input is read and the whole universe is made
+/// before the first byte is written.
 ///
-/// The first fault is the one answered: a fault of the universe file, at `Universe`, as
-/// `read_universe` has it; of the configuration file, at `Config`, as `read_config` has it; of the
-/// file of silences, at `Silences`, as `read_silences` has it; of the file of alerts, at `Alerts`,
-/// as `read_alerts` has it; of the pairs of rules and alerts, at `Alerts`, as `World::new` has it;
-/// of a question, at `Question` and with its position as the pointer, as `parse_question` has it;
-/// `Limit`, at `Universe` and with no pointer, where a label needs more values than a label may
-/// have, or more labels have to be declared than a universe may have; `Unproved`, unless the form
-/// is open, where the classes of a label could not be computed, or it needs a value and its name is
-/// no label name, at the file and with the pointer of the route, rule, silence, question or
-/// impossible list that first asks of the first such label; `Limit` again, where the universe's
-/// file has more bytes than one that is read may have; `Write`. `Memory` comes wherever memory ran
-/// out. After any but `Write` the sink is as it was.
+/// Fails with the first of these faults:
+///
+/// - at `Universe`, those of `read_universe`;
+/// - at `Config`, those of `read_config`;
+/// - at `Silences`, those of `read_silences`;
+/// - at `Alerts`, those of `read_alerts`;
+/// - at `Alerts`, with no pointer: `Limit`, as `World::new` counts pairs of rules and alerts;
+/// - at `Question`, those of `parse_question`, with `/` and the position of the question as the
+///   pointer;
+/// - `Limit`, at `Universe` and with no pointer, if a label needs more values than a label may
+///   have, or if more labels have to be declared than a universe may have;
+/// - `Unproved`, unless the form is open, if the classes of a label could not be computed, or if a
+///   label needs a value and its name is no label name; at the file, or at `Question`, and with the
+///   pointer of the route, rule, silence, question or impossible list that first asks about the
+///   first such label;
+/// - `Limit`, at `Universe` and with no pointer, if the file of the universe would have more bytes
+///   than a file may have;
+/// - `Write`.
+///
+/// `Memory` may come at any point. After any fault but `Write` the sink is unchanged; after `Write`
+/// it has taken a prefix of the file.
 pub fn universe<W: Sink>(
     alloc: Global,
     inputs: &UniverseInputs<'_>,
     form: UniverseForm,
     out: &mut W,
 ) -> Result<(), Fault>
-    // The file says a universe that keeps what was given and is complete, with what is impossible,
-    // for the matchers that decide, unless it is open. No value is added that is not needed.
+    // The file says a universe that keeps what was given and, unless it is open, is complete for
+    // the matchers that decide, with the same impossible lists. No value is added that is not
+    // needed.
     ensures kept { IsKept (universe_promise inputs.now form)
         W.taken W.failures out.old out.new result }
 {
@@ -60,7 +73,7 @@ pub fn universe<W: Sink>(
     answer_of_write(alloc, put_str(out, text.as_str()))
 }
 
-/// The text of the universe file that is made for what inputs say.
+/// Makes the text of the universe file for the inputs.
 fn made_text(alloc: Global, read: &ReadInputs, form: UniverseForm) -> Result<String, Fault>
     requires { AreTextsOfLists (map string_bytes read.now.texts.items) read.now.space.impossible }
     ensures made { IfOk result (λ text. IsMadeUniverse form read.now.space
@@ -81,7 +94,7 @@ fn made_text(alloc: Global, read: &ReadInputs, form: UniverseForm) -> Result<Str
     Ok(text)
 }
 
-/// The universe that is made for what inputs say.
+/// Makes the universe for the inputs.
 fn made_universe(alloc: Global, read: &ReadInputs, form: UniverseForm) -> Result<Universe, Fault>
     ensures made { IfOk result (IsMadeBeside form read.now.space (deciding_conditions form.routes
         read.now.world (map question_view read.now.questions.items) read.now.space.impossible)) }
@@ -141,8 +154,9 @@ fn first_unproved<'a, 'm>(
     }
 }
 
-/// Why nothing is made where a label is unproved that is first asked of there. It fails only where
-/// memory ran out.
+/// Returns the fault `Unproved` of a label that `origin` asks about first, with the pointer to
+/// `origin`. Its place is the file of `origin`, or `Question`. It is `Memory` only if memory runs
+/// out here.
 pub fn unproved_fault(alloc: Global, origin: &Origin) -> Fault
     ensures refusal { result.kind ≢ kinds.Memory → (result.place ≡ origin_place origin.now)
         × (refusal_of result
@@ -154,7 +168,7 @@ pub fn unproved_fault(alloc: Global, origin: &Origin) -> Fault
     }
 }
 
-/// The file in which a matcher stands, or that it stands in a question.
+/// The file in which a matcher stands, or `Question`.
 fn place_of(origin: &Origin) -> Place
     ensures { result ≡ origin_place origin.now }
 {

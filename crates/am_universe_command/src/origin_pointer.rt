@@ -1,4 +1,4 @@
-//! The JSON Pointer to what a matcher stands in.
+//! The JSON Pointer (RFC 6901) to the part of an input in which a matcher stands.
 
 ghost use Rattle.std.specs.Prelude.{◌≡◌, ◌++◌, string_bytes, decimal, codes, IfOk, OnOk};
 ghost use Rattle.std.specs.List.{flat_map};
@@ -8,8 +8,9 @@ use am_complete::Origin;
 use am_config::Path;
 use std::alloc::{AllocError, Global};
 
-/// The pointer to what a matcher stands in, as `/route/routes/0` or `/inhibit_rules/2`, in the file
-/// that has it. An `Err` only where memory was refused.
+/// Returns the JSON Pointer (RFC 6901) to the route, rule, silence or impossible list in which a
+/// matcher stands, in its file, such as `/route/routes/0` or `/inhibit_rules/2`. For a question it
+/// is `/` and the position of the question. Fails only if memory runs out.
 pub fn pointer_to(alloc: Global, origin: &Origin) -> Result<String, AllocError>
     ensures pointer { IfOk result (λ pointer. string_bytes pointer ≡ origin_pointer origin.now) }
 {

@@ -1,4 +1,4 @@
-//! Reading what a universe is made for, or checked for.
+//! Reading the inputs for which a universe is made or checked.
 
 ghost use Rattle.std.specs.Prelude.{◌≡◌, ◌≢◌, ◌++◌, [], ◌∷◌, map, codes, decimal, string_bytes};
 ghost use Rattle.std.specs.Prelude.{option_copied, IfOk, IfErr, OnOk};
@@ -36,7 +36,7 @@ pub(crate) struct ReadInputs {
 }
 
 /// Reads the inputs: the universe file, if there is one, the other files, and then the questions.
-/// The first fault is the one answered.
+/// Fails with the first fault.
 pub(crate) fn read_inputs(alloc: Global, inputs: &UniverseInputs<'_>) -> Result<ReadInputs, Fault>
     ensures accepts { IfOk result (λ read. AcceptsUniverseInputs inputs.now
         read.space read.world (map question_view read.questions.items)) }
@@ -57,8 +57,8 @@ pub(crate) fn read_inputs(alloc: Global, inputs: &UniverseInputs<'_>) -> Result<
     })
 }
 
-/// The space of a universe file, with the texts of its impossible lists; without one there is no
-/// label, and nothing is impossible.
+/// Reads the space of a universe file, with the texts of its impossible lists. Without a file the
+/// space has no label, and nothing is impossible. Fails as `read_universe` does.
 pub fn read_universe_if_any(
     alloc: Global,
     file: Option<&[u8]>,
@@ -92,7 +92,7 @@ fn read_questions(alloc: Global, texts: &[&str], config: &Config) -> Result<Vec<
     Ok(questions)
 }
 
-/// Adds a question. It fails only where memory ran out.
+/// Adds a question. Fails only if memory runs out.
 fn add_question(
     alloc: Global,
     questions: &mut Vec<Question>,

@@ -14,8 +14,8 @@ use std::alloc::{AllocError, Global};
 
 /// The text of the universe file that says a universe and, by these texts, the lists of matchers
 /// that are impossible: JSON, with one label and one list a line. It is read back as them, as long
-/// as each text is that of a list and it has no more than `MAX_FILE_BYTES` bytes. An `Err` only
-/// where memory was refused.
+/// as each text is that of a list and it has no more than `MAX_FILE_BYTES` bytes. Fails only if
+/// memory runs out.
 pub(crate) fn universe_text(
     alloc: Global,
     universe: &Universe,

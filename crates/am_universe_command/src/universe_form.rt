@@ -3,11 +3,12 @@ use am_classes::Alphabet;
 /// Which universe is made.
 #[derive(Clone, Copy, Debug, PartialEq, Eq)]
 pub struct UniverseForm {
-    /// The matchers of routes count alone.
+    /// Whether only the matchers of routes count, beside those of questions and impossible lists.
     pub routes: bool,
-    /// The texts that the labels of alerts may have.
+    /// Which texts the labels of alerts may have.
     pub alphabet: Alphabet,
-    /// It is made also where the classes of a label could not be computed, with texts that were
-    /// found for that label.
+    /// Whether it is made even if a label is unproved: the classes of its texts could not be
+    /// computed, or it needs a value and its name is no label name. Such a label has the values
+    /// that were found, or none.
     pub open: bool,
 }

@@ -1,13 +1,13 @@
 use am_eval::Files;
 use std::marker::Model;
 
-/// What a universe is made for, or checked for.
+/// What a universe is made for or checked for.
 #[derive(Drop)]
 pub struct UniverseInputs<'a> {
-    /// The bytes of a universe file. What is made keeps its labels, values and impossible lists;
-    /// without one there are none.
+    /// The bytes of a universe file, whose labels, values and impossible lists the made universe
+    /// keeps, or which is checked. Without one there are none of these.
     pub universe: Option<&'a [u8]>,
-    /// The configuration, the silences and the alerts. The instant is not looked at.
+    /// The configuration, the silences and the firing alerts. The instant is ignored.
     pub files: &'a Files<'a>,
     /// The texts of questions, whose matchers count too.
     pub questions: &'a [&'a str],

@@ -9,8 +9,8 @@ ghost use Rattle.am_complete.specs.FoundState.{has_label};
 ghost use Rattle.am_unseen.specs.declared.limits.TheConstants.{MOST_EDITS};
 ghost use Rattle.am_unseen.specs.Unseen.{names_unseen_value, most_similar, edits_between};
 
-/// A matcher that names an unseen value matches no alert, though some alert has its label. And a
-/// matcher with `=` and a value of which this is so names an unseen value.
+/// A matcher with an unseen value matches no alert, though some alert has its label. Conversely, a
+/// matcher with `=` and a value that is not empty, of which both are so, has an unseen value.
 pub fn a_matcher_of_an_unseen_value_matches_no_alert()
     ensures matches_none { (alerts : List LabelMap) (m : Condition)
         → IsTrue (names_unseen_value alerts m)
@@ -23,8 +23,8 @@ pub fn a_matcher_of_an_unseen_value_matches_no_alert()
         → IsTrue (names_unseen_value alerts m) }
 {}
 
-/// The most similar of some values is one of them, at most `MOST_EDITS` edits away, and no other is
-/// fewer edits away. Where there is none, all are more edits away than that.
+/// The most similar of some values is at most `MOST_EDITS` edits away, and no other value is fewer
+/// edits away. If there is none, all values are more than `MOST_EDITS` edits away.
 pub fn the_most_similar_value_is_the_nearest()
     ensures nearest { (text : List ℕ) (values : List (List ℕ)) (similar : List ℕ)
         → most_similar text values ≡ Some similar

@@ -1,8 +1,9 @@
-//! Which values matchers name that no firing alert has.
+//! Which values in matchers no firing alert has.
 //!
-//! [`unseen_values`] finds the matchers with `=` of a world whose value none of its alerts has,
-//! though some alert has the label: most often a slip of the pen. Each comes with its place and
-//! with the most similar value that an alert has. [`push_unseen`] writes them, a line each.
+//! [`unseen_values`] finds the matchers of a world with `=` and a value that none of its alerts
+//! has, though some alert has the label. Most often such a value is misspelled. Each comes with its
+//! origin and with the most similar value that an alert has. [`push_unseen`] writes a line for
+//! each.
 #![tactic(auto)]
 
 // How much there may be.

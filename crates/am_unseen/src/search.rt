@@ -15,8 +15,8 @@ use std::alloc::{AllocError, Global};
 use std::collections::BTreeMap;
 use std::marker::Model;
 
-/// The unseen values that matchers have named so far. The values that alerts have for a label are
-/// gathered once, when a matcher first asks of it.
+/// The unseen values in the matchers that were visited so far. The values that alerts have for a
+/// label are gathered once, when a matcher first asks about it.
 #[derive(Drop)]
 pub(crate) struct Search<'w> {
     alloc: Global,
@@ -39,7 +39,7 @@ impl<'w> Model for Search<'w> {
 }
 
 impl<'w> Search<'w> {
-    /// A search among these alerts that has looked at no matcher yet.
+    /// A search among these alerts that has visited no matcher yet.
     pub(crate) fn among(alloc: Global, alerts: &'w Alerts) -> Search<'w>
         ensures { result ≡ record { alerts = alerts.now; found = [] } }
     {
@@ -51,7 +51,7 @@ impl<'w> Search<'w> {
         }
     }
 
-    /// What a matcher with `=` and a value says of a value that no alert has, if it does.
+    /// The unseen value of a matcher with `=` and a value, if no alert has that value.
     fn unseen_value(
         &mut self,
         origin: &Origin,

@@ -1,4 +1,4 @@
-//! What is written of unseen values.
+//! The lines of unseen values.
 
 ghost use Rattle.std.specs.Prelude.{◌≡◌, ◌++◌, string_bytes, option_map, OnOk};
 ghost use Rattle.am_unseen.specs.UnseenText.{unseen_lines, unseen_line, place_text, similar_text};
@@ -8,7 +8,7 @@ use am_complete::Origin;
 use am_report_texts::{push_path, push_quoted};
 use std::alloc::{AllocError, Global};
 
-/// Adds a line for each unseen value, in their order. An `Err` only where memory was refused.
+/// Adds a line for each unseen value, in their order. Fails only if memory runs out.
 pub fn push_unseen(
     alloc: Global,
     text: &mut String,

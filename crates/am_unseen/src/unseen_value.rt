@@ -4,8 +4,8 @@ ghost use Rattle.std.specs.Prelude.{◌≡◌, option_map};
 use am_complete::Origin;
 use std::marker::Model;
 
-/// A value that a matcher names with `=`, and that no firing alert has for the label, though some
-/// alert has this label.
+/// A value in a matcher with `=` that no firing alert has for the label, though some alert has the
+/// label.
 #[derive(Drop)]
 pub struct UnseenValue<'w> {
     pub(crate) origin: Origin,
@@ -29,28 +29,29 @@ impl<'w> Model for UnseenValue<'w> {
 }
 
 impl<'w> UnseenValue<'w> {
-    /// Where the matcher stands: at a route, in a rule or in a silence.
+    /// Returns the origin of the matcher: a route, a rule or a silence.
     pub fn origin(&self) -> &Origin
         ensures origin { result.now ≡ self.now.origin }
     {
         &self.origin
     }
 
-    /// The name of the label.
+    /// Returns the name of the label.
     pub fn name(&self) -> &'w str
         ensures name { result.now ≡ self.now.name }
     {
         self.name
     }
 
-    /// The value that no alert has.
+    /// Returns the value that no alert has.
     pub fn value(&self) -> &'w str
         ensures value { result.now ≡ self.now.value }
     {
         self.value
     }
 
-    /// The most similar value that an alert has for the label, if one is similar.
+    /// Returns the most similar value that an alert has for the label, if one is at most
+    /// `MOST_EDITS` edits away.
     pub fn similar(&self) -> Option<&'w str>
         ensures similar { option_map (λ v. v.now) result ≡ self.now.similar }
     {

@@ -11,9 +11,9 @@ use am_complete::Origin;
 use am_eval::World;
 use std::alloc::{AllocError, Global};
 
-/// The values that matchers of a world name with `=`, and that none of its alerts has, though some
-/// alert has the label: those of the routes in preorder, then those of both sides of the rules, and
-/// then those of the silences that are not over. An `Err` only where memory was refused.
+/// Finds the values in matchers of a world with `=` that none of its alerts has, though some alert
+/// has the label. The matchers are those of the routes in preorder, then those of both sides of the
+/// rules, and then those of the silences that are not over. Fails only if memory runs out.
 pub fn unseen_values<'w>(
     alloc: Global,
     world: &'w World,

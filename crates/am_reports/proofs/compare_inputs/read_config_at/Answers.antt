@@ -3,7 +3,7 @@ use Rattle.std.proofs.Common.{◌≡◌, ◌≢◌, sym, ◌∙◌, subst}
 use Rattle.am_universe.specs.declared.kind.Kind.TheVariants as kinds
 use Rattle.am_universe.specs.declared.place.Place.TheVariants as places
 use Rattle.am_json.specs.Reading.{refusal_of}
-use Rattle.am_config.specs.ConfigFaults.{ConfigFileRefusedFor}
+use Rattle.am_config.specs.ConfigForm.{ConfigFileRefusedFor}
 use Rattle.am_reports.proofs.compare_inputs.read_config_at.Goals as goal
 
 pub returns-in-Err-clause-refused : goal.returns-in-Err-clause-refused
