@@ -37,7 +37,9 @@ class Document:
 
 
 def documents():
-    return [Document(it) for it in [ROOT / "README.md", *sorted(ROOT.glob("docs/*.md"))]]
+    """Returns README.md, the documents of docs/, and those that stand beside what they are about."""
+    found = [it for pattern in ("docs/*.md", "crates/*/*.md") for it in sorted(ROOT.glob(pattern))]
+    return [Document(it) for it in [ROOT / "README.md", *found]]
 
 
 def files():
