@@ -1,4 +1,4 @@
--- The alerts of which a question is true, and that their lines are one text.
+-- The alerts of which a question is true, and that the inputs fix the text of their lines.
 use Rattle.std.proofs.Common.{◌≡◌, ◌↔◌, ℕ, List, Option, Some, map, refl, ap, sym, ◌∙◌, subst, arith, Contains}
 use Rattle.std.specs.Prelude.{slice_get, IsTrue}
 use Rattle.std.specs.List.{enumerate_from}

@@ -1,4 +1,4 @@
--- A step of the loop over alerts: what is left is the alert at a position, and what is behind it.
+-- A step of the loop over alerts: what is left are the alert at a position, and those after it.
 use Rattle.std.proofs.Common.{◌≡◌, ℕ, ◌+◌, ◌≤◌, List, [], ◌∷◌, ◌++◌, Some, true, false, map, length, drop, refl, ap, ◌∙◌, append_assoc, append-nil}
 use Rattle.std.specs.Prelude.{slice_get}
 use Rattle.std.specs.List.{filter, enumerate_from}
@@ -30,7 +30,7 @@ module _ (w : World) (q : Question) (found : List Found) (i : ℕ) {s : LabelMap
       → map line_view found ++ lines_left w q (i + 1) ≡ map line_view found ++ lines_left w q i
   no_line fails = rw (left_at w.alerts i s here, fails) refl
 
--- none is left
+-- no alert is left
 pub all_lines : (w : World) (q : Question) (found : List Found) (i : ℕ) → length w.alerts ≤ i
     → map line_view found ++ lines_left w q i ≡ map line_view found
 all_lines w q found i all =

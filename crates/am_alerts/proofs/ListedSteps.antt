@@ -1,4 +1,4 @@
--- What is written of a list, one thing after the other, each behind its gap.
+-- The text of a list, one item after another, each after its separator.
 use Rattle.std.proofs.Common.{◌≡◌, ◌<◌, ◌+◌, take, drop, get_or, List, [], ◌∷◌, ◌++◌, ℕ, length, suc, Bool, true, false, cond, ◌==◌, refl, append_assoc, codes, arith}
 use Rattle.std.proofs.lemmas.List.{length-take}
 use Rattle.std.proofs.lemmas.Bool.Decides.{nat_tests}
@@ -17,7 +17,7 @@ listed_among front f (y ∷ xs) x ys =
     let later : (suc (length xs) == 0) ≡ false = grind (arith, nat_tests) in
     rw (later, listed_among (codes ",") f xs x ys, either (length xs == 0) (codes ",")) (simp append_assoc)
 
--- a list around the item at a position that a loop has come to
+-- a list around the item at the position of a loop
 pub around_taken : {X : Type 0} (xs : List X) (i : ℕ) → i < length xs
     → (take i xs ≡ take i xs) × ((x : X) × (xs ≡ take i xs ++ (x ∷ drop (i + 1) xs)))
 around_taken [] i within = absurd (omega arith)

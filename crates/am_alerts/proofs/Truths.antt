@@ -1,4 +1,4 @@
--- A list that has an item exactly where a test is true.
+-- A list that is not empty exactly if a test is true.
 use Rattle.std.proofs.Common.{◌≡◌, ◌≢◌, ◌↔◌, List, [], ◌∷◌, Bool, true, false, not, length, refl, arith}
 use Rattle.std.specs.Prelude.{◌==◌, IsTrue}
 use Rattle.std.proofs.lemmas.Bool.{false≢true}

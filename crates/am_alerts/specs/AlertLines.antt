@@ -1,4 +1,4 @@
--- The lines of alerts that a question is true of. (This project's own.)
+-- The lines of alerts of which a question is true. (This project's own.)
 use Rattle.std.specs.Prelude.{ℕ, List, [], ◌∷◌, ◌++◌, map, codes, decimal, Option, slice_get}
 use Rattle.std.specs.Prelude.{unwrap_or}
 use Rattle.std.specs.List.{filter, flat_map, enumerate_from}
@@ -24,13 +24,14 @@ pub record AlertLine : Type 0 where
 
 -- ---- What is said.
 
--- The alerts of a world that a question is true of, each with its position, in their order.
+-- The alerts of a world of which a question is true, each with its position, in their order.
 -- Source: own choice.
--- Example: where the second of three alerts alone is silenced, they are it and 1 for `silenced`.
+-- Example: if only the second of three alerts is silenced, they are position 1 and that alert for
+-- `silenced`.
 abbrev pub asked_alerts : World → Question → List (ℕ × LabelMap)
 asked_alerts w q = filter (λ alert. satisfies w q alert.1) (enumerate_from 0 w.alerts)
 
--- What is so of an alert of a world, which stands at a position.
+-- What is true of an alert at a position of a world.
 abbrev pub line_of : World → ℕ × LabelMap → AlertLine
 line_of w alert = record {
   position = alert.0;
@@ -45,10 +46,10 @@ lines_of w q = map (line_of w) (asked_alerts w q)
 
 -- ---- How it is written.
 
--- The texts of some things with a comma between each two, behind a text in front of the first;
--- where there is none, nothing.
+-- The texts of items, with a comma between each two and a text in front of the first. Without items
+-- it is the empty text.
 -- Source: own choice.
--- Example: of 3 and 5 behind ` silenced ` it is ` silenced 3,5`.
+-- Example: for 3 and 5 with ` silenced ` in front it is ` silenced 3,5`.
 abbrev pub listed : {X : Type 0} → List ℕ → (X → List ℕ) → List X → List ℕ
 listed front text [] = []
 listed front text (x ∷ xs) = front ++ (text x ++ listed (codes ",") text xs)
@@ -57,7 +58,7 @@ listed front text (x ∷ xs) = front ++ (text x ++ listed (codes ",") text xs)
 abbrev pub receiver_text : Configuration → ℕ → List ℕ
 receiver_text c receiver = quoted_text (unwrap_or (slice_get c.receivers receiver) [])
 
--- What the silence at a position is called, in quotes.
+-- The identifier of the silence at a position, or else the position, in quotes.
 abbrev pub silence_text : List (Option (List ℕ)) → ℕ → List ℕ
 silence_text ids silence = quoted_text (called ids silence)
 
@@ -65,11 +66,11 @@ silence_text ids silence = quoted_text (called ids silence)
 abbrev pub inhibitor_text : ℕ × ℕ → List ℕ
 inhibitor_text found = decimal found.0 ++ (codes "/" ++ decimal found.1)
 
--- The line of an alert: its position and its label set, its receivers, and then what silences it
--- and what inhibits it, as far as something does.
+-- The line of an alert: its position, its label set and its receivers, and then the silences that
+-- hide it and the rules and alerts that inhibit it, if there are any.
 -- Source: own choice.
--- Example: `1 {team="db"} -> "db-mail" inhibited 0/0`, where the first alert inhibits the second
--- one by the first rule, and no silence hides it.
+-- Example: `1 {team="db"} -> "db-mail" inhibited 0/0`, if the first alert inhibits the second one
+-- by the first rule, and no silence hides it.
 abbrev pub line_text : Configuration → List (Option (List ℕ)) → AlertLine → List ℕ
 line_text c ids line =
     decimal line.position ++ (codes " " ++ (map_text line.set
@@ -77,8 +78,8 @@ line_text c ids line =
     ++ (listed (codes " silenced ") (silence_text ids) line.silencers
     ++ (listed (codes " inhibited ") inhibitor_text line.inhibitors ++ codes "\n"))))))
 
--- All lines, and what closes them.
+-- All lines, and then `# end`.
 -- Source: own choice.
--- Example: where the question is true of no alert, it is `# end` alone.
+-- Example: if the question is true of no alert, it is just `# end`.
 abbrev pub lines_text : Configuration → List (Option (List ℕ)) → List AlertLine → List ℕ
 lines_text c ids lines = flat_map (line_text c ids) lines ++ codes "# end\n"

@@ -1,4 +1,4 @@
--- Which alerts a question is true of: the text of `alerts`. (This project's own.)
+-- The alerts of which a question is true: the text of `alerts`. (This project's own.)
 use Rattle.std.specs.Prelude.{◌≡◌, ℕ, List, [], ◌∷◌, ◌++◌, Option, unwrap_or, codes, ⊤}
 use Rattle.am_eval.specs.World.{World}
 use Rattle.am_eval.specs.Question.{Question}
@@ -11,15 +11,15 @@ use Rattle.am_questions.specs.QuestionStages.{question_stage}
 use Rattle.am_alerts.specs.SilenceIds.{ids_of_file}
 use Rattle.am_alerts.specs.AlertLines.{lines_of, lines_text}
 
--- The text of the question, which is `any` where none is handed in.
+-- The text of the question. Without a text it is `any`.
 abbrev pub asked_text : Option (List ℕ) → List ℕ
 asked_text asked = unwrap_or asked (codes "any")
 
--- The world is accepted, the text is read as the question about its configuration, and what is
--- written is a line for each alert of the file that the question is true of, in their order: with
--- its receivers, the silences that hide it, and the rules and alerts that inhibit it.
+-- The world is accepted, the text is read as the question about its configuration, and the text
+-- that is written has a line for each alert of the file of which the question is true, in their
+-- order: with its receivers, the silences that hide it, and the rules and alerts that inhibit it.
 -- Source: own choice.
--- Example: where the file has the one alert `{team="db"}`, nothing hides it, and the top-level
+-- Example: if `{team="db"}` is the only alert of the file, nothing hides it, and the top-level
 -- route stands alone and has the receiver `a`, the text is the lines `0 {team="db"} -> "a"` and
 -- `# end`.
 pub record ReportsAlerts (files : Files) (asked : Option (List ℕ)) (text : List ℕ) : Type 0 where
@@ -31,8 +31,8 @@ pub record ReportsAlerts (files : Files) (asked : Option (List ℕ)) (text : Lis
 
 -- What `alerts` owes. Its stages are those of the world, and then the question.
 -- Source: own choice.
--- Example: where the file of alerts is `{}` and the question is `silenced and`, the first fault is
--- the `shape` of the alerts, and not the `question-syntax` of the question.
+-- Example: if the file of alerts is `{}` and the question is `silenced and`, the first fault is the
+-- `shape` of the alerts, and not the `question-syntax` of the question.
 abbrev pub alerts_stages : Files → Option (List ℕ) → List Stage
 alerts_stages files asked =
     world_stages files ++ question_stage (config_of files.config) (asked_text asked) ∷ []

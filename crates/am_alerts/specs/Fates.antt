@@ -1,4 +1,4 @@
--- What becomes of an alert in a world, as it is kept in memory.
+-- The fate of an alert in a world, as it is stored.
 use Rattle.std.specs.Prelude.{◌≡◌}
 use Rattle.am_universe.specs.LabelSet.{LabelMap}
 use Rattle.am_eval.specs.World.{World}
@@ -7,7 +7,7 @@ use Rattle.am_eval.specs.Silencing.{silencers}
 use Rattle.am_eval.specs.Inhibition.{inhibitors}
 use Rattle.am_alerts.specs.declared.fates.Fate.{Fate}
 
--- It is what becomes of an alert with these labels.
+-- This is the fate of an alert with these labels.
 pub record IsFate (w : World) (s : LabelMap) (fate : Fate) : Type 0 where
   pub ends : fate.ends.items ≡ ends s w.config
   pub receivers : fate.receivers.items ≡ receivers s w.config

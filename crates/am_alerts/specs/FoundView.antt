@@ -1,10 +1,10 @@
--- What is kept of an alert, as the line that it stands for.
+-- What is stored about an alert, as the line for which it stands.
 use Rattle.std.specs.Prelude.{ℕ, List, Option}
 use Rattle.am_config.specs.ConfigFile.{Configuration}
 use Rattle.am_alerts.specs.declared.finding.Found.{Found}
 use Rattle.am_alerts.specs.AlertLines.{AlertLine, line_text}
 
--- The line that a `Found` stands for.
+-- The line for which a `Found` stands.
 abbrev pub line_view : Found → AlertLine
 line_view found = record {
   position = found.position;
@@ -14,6 +14,6 @@ line_view found = record {
   inhibitors = found.inhibitors.items;
 }
 
--- Its text.
+-- The text of that line.
 abbrev pub found_text : Configuration → List (Option (List ℕ)) → Found → List ℕ
 found_text c ids found = line_text c ids (line_view found)

@@ -5,14 +5,14 @@
 //! inhibition rules and firing alerts that inhibit it.
 #![tactic(auto)]
 
-// What becomes of an alert, and whether a question is true of it.
+// The fate of an alert, and whether a question is true of it.
 mod fates;
 mod truth;
 
-// The alerts that a question is true of.
+// The alerts of which a question is true.
 mod finding;
 
-// The identifiers of silences, as their file has them.
+// The identifiers of the silences of a file.
 mod silence_ids;
 
 // The lines.
@@ -23,5 +23,5 @@ mod report;
 
 pub use report::alerts;
 
-// What holds of the definitions by themselves.
+// Facts about the definitions alone.
 pub mod laws;

@@ -53,7 +53,7 @@ impl SilenceIds {
     }
 }
 
-/// The JSON value of the bytes of a file, if they have one.
+/// The JSON value of the bytes of a file, if they are JSON.
 fn value_of(alloc: Global, bytes: &[u8]) -> Result<Option<Value>, AllocError>
     ensures { IfOk result (λ value. option_map view value ≡ json_of bytes.now) }
 {
@@ -68,7 +68,7 @@ fn value_of(alloc: Global, bytes: &[u8]) -> Result<Option<Value>, AllocError>
     }
 }
 
-/// The identifier that the item at a position of an array has, if it has one.
+/// The identifier of the item at a position of an array, if it has one.
 fn id_at(value: &Value, position: usize) -> Option<&str>
     ensures { option_map (λ id. id.now) result ≡ id_at (ids_of (view value.now)) position }
 {

@@ -58,7 +58,7 @@ fn has_property(fate: &Fate, property: Property) -> bool
     }
 }
 
-/// Whether one of the receivers is the one at this position.
+/// Whether the receivers have the one at this position.
 fn has_receiver(receivers: &[usize], receiver: usize) -> bool
     ensures { result ≡ list_any (λ other. other == receiver) receivers.now }
 {

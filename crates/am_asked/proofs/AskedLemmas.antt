@@ -1,4 +1,4 @@
--- The labels that gathered matchers make are those that the matchers ask of.
+-- The labels that are gathered from matchers are those that the matchers ask about.
 use Rattle.std.proofs.Common.{◌≡◌, ◌≢◌, ℕ, Bool, true, false, cond, List, [], ◌∷◌, ◌++◌, map, ◌||◌, ◌⊎◌}
 use Rattle.std.proofs.Common.{fold, Contains, refl, sym, ap, ◌∙◌, subst, inl, inr, append_assoc}
 use Rattle.std.specs.List.{AllByRecursion, IsDistinct, list_any, filter}
@@ -24,17 +24,17 @@ use Rattle.am_complete.proofs.SameMatchers.{equal_is, same_by, in_there, in_back
 use Rattle.am_asked.specs.Placed.{is_named}
 use Rattle.am_asked.proofs.PlacedConditions.{conditions_of, SameNamed}
 
--- a label has the same matchers as stand on it
+-- a label has the same matchers as those on its name
 abbrev HasThoseOn : List Condition → AskedLabel → Type 0
 HasThoseOn ms l = HaveSameMatchers l.matchers (about l.name ms)
 
--- each label has a name of its own and the matchers on it, and none is missing
+-- no two labels have the same name, each label has the matchers on it, and no label is missing
 record Gathers (labels : List AskedLabel) (ms : List Condition) : Type 0 where
   distinct : IsDistinct same_text (asked_names labels)
   matchers : AllByRecursion (HasThoseOn ms) labels
   every : AllByRecursion (λ m. IsIn (asked_names labels) m.name) ms
 
--- a text without a first byte, and one with
+-- a text without a first byte is empty, and a text that is not empty has a first byte
 no_text : (text : List ℕ) → begins text ≡ false → text ≡ []
 no_text [] h = refl
 no_text (c ∷ cs) h = absurd (cc)
@@ -45,7 +45,7 @@ some_text (c ∷ cs) h = refl
 
 -- ---- One matcher more.
 
--- of the matchers on a name, with one more
+-- the matchers on a name, among some matchers and one more
 on_front : (name : List ℕ) (ms : List Condition) (m x : Condition) → IsIn (about name ms) x
     → IsIn (about name (ms ++ m ∷ [])) x
 on_front name ms m x i =
@@ -68,7 +68,7 @@ on_either name ms m x i =
       | inr is ↦ inr (is, ap (λ n. n.name) is ∙ r.1)
     ]
 
--- a label with another name has the same
+-- a label with another name keeps the same matchers
 stays : (m : Condition) (ms : List Condition) (l : AskedLabel) → same_text l.name m.name ≡ false
     → HasThoseOn ms l → HasThoseOn (ms ++ m ∷ []) l
 stays m ms l other h =
@@ -81,7 +81,7 @@ stays m ms l other h =
           ((bytes_decides l.name m.name).1 (sym last.1)))
     ])
 
--- that of its name has it too, once
+-- the label with its name has the matcher too, once
 gains_it : (m : Condition) (ms : List Condition) (l : AskedLabel) → m.name ≡ l.name
     → HasThoseOn ms l
     → HaveSameMatchers (with_matcher m l).matchers (about l.name (ms ++ m ∷ []))
@@ -143,7 +143,7 @@ any_named name [] = refl
 any_named name (l ∷ labels) =
     ap (λ b. same_text l.name name || b) (any_named name labels)
 
--- where no label has a name, each label's name differs from it, and no matcher is on it
+-- if no label has a name, the name of each label differs from it, and no matcher is on it
 other : (labels : List AskedLabel) (name : List ℕ)
     → list_any (λ l. same_text l.name name) labels ≡ false → (l : AskedLabel) → IsIn labels l
     → same_text l.name name ≡ false
@@ -161,7 +161,7 @@ none_about labels (m ∷ ms) name every none =
     subst (λ n. same_text n name ≡ false) found.2 (other labels name none found.0 found.1) in
     rw differs (none_about labels ms name every.1 none)
 
--- the first matcher on a name is all that its label has
+-- the first matcher on a name is the only one of its label
 first_on : (m : Condition) (ms : List Condition) → about m.name ms ≡ []
     → HaveSameMatchers (m ∷ []) (about m.name (ms ++ m ∷ []))
 first_on m ms none =
@@ -238,8 +238,8 @@ about_named name (m ∷ ms) some =
           rw (unnamed, apart) later
     ]
 
--- labels that gather some matchers are those that others ask of which are the same but for those
--- without a name
+-- labels that are gathered from some matchers are those that other matchers ask about, if both are
+-- the same except for matchers without a name
 pub asked_from_gathered : (placed : List (Origin × Condition)) (ms : List Condition)
     → SameNamed (conditions_of placed) ms → IsAskedOf (asked_labels placed) ms
 asked_from_gathered placed ms same =

@@ -1,4 +1,4 @@
--- The matchers that `equal` stands for are those of the pairs of a world, in their order.
+-- The matchers that `equal` stands for are those of the pairs of a world, in the same order.
 use Rattle.std.proofs.Common.{◌≡◌, inl, inr, ℕ, ◌+◌, List, [], ◌∷◌, ◌++◌, Some}
 use Rattle.std.proofs.Common.{map, refl, ap, ◌∙◌}
 use Rattle.std.proofs.Common.{String, string_bytes}
@@ -51,7 +51,7 @@ first_name rule a name names =
 
 -- ---- Of all pairs.
 
--- a pair's own rule and alert
+-- the matchers of a pair are those of its rule and its alert
 pub at_pair : (w : World) (rule : ℕ × Rule) (firing : ℕ × LabelMap)
     → slice_get w.config.rules rule.0 ≡ Some rule.1 → slice_get w.alerts firing.0 ≡ Some firing.1
     → placed_by_pair w (pair_of rule firing) ≡ placed_by_alert rule firing.1
@@ -73,7 +73,7 @@ by_rule w rule at_rule from (a ∷ left) each =
       | inr quiet ↦ rw (quiet, later) refl
     ]
 
--- items that are numbered, and what is joined of them
+-- what numbered items give may be joined in one step or in two
 joined : {X Y Z : Type 0} (f : ℕ × X → List Z) (g : Y → List Z) (h : ℕ × X → List Y) (from : ℕ)
     (xs : List X)
     → ((p : ℕ × X) → IsIn (enumerate_from from xs) p → flat_map g (h p) ≡ f p)

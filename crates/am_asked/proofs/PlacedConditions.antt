@@ -1,4 +1,4 @@
--- The matchers that stand somewhere, without their places, are those that decide.
+-- The matchers that have origins, without these, are those that decide.
 use Rattle.std.proofs.Common.{◌≡◌, ℕ, ◌+◌, Bool, List, [], ◌∷◌, ◌++◌, map, refl, sym, ap, ◌∙◌, inl}
 use Rattle.std.proofs.Common.{inr}
 use Rattle.std.specs.List.{flat_map, filter, enumerate_from}
@@ -26,7 +26,7 @@ use Rattle.am_asked.specs.Placed.{placed_in_silence, placed_in_silences, placed_
 use Rattle.am_asked.specs.Placed.{placed_in_lists, placed_in_world, placed_in_question}
 use Rattle.am_asked.specs.Placed.{placed_in_questions}
 
--- matchers without their places
+-- matchers without their origins
 abbrev pub conditions_of : List (Origin × Condition) → List Condition
 conditions_of placed = map (λ p. p.1) placed
 
@@ -53,7 +53,7 @@ mutual
       ∙ map-append (λ p. p.1) (flat_map placed_by_route first) (flat_map placed_by_route others)
       ∙ (λ j. of_route (path ++ i ∷ []) t j ++ of_children path (i + 1) ts j)
 
--- those of some things, where each has matchers
+-- the matchers of a list of things that each have matchers
 of_things : {X : Type 0} (f : ℕ × X → List (Origin × Condition)) (g : X → List Condition)
     → ((p : ℕ × X) → conditions_of (f p) ≡ g p.1) → (i : ℕ) (xs : List X)
     → conditions_of (flat_map f (enumerate_from i xs)) ≡ flat_map g xs
@@ -133,7 +133,7 @@ filter_twice test (x ∷ xs) = elim (cases_Bool (test x)) [
   | inr fails ↦ rw fails (filter_twice test xs)
 ]
 
--- matchers that are the same but for those without a name
+-- two lists of matchers are the same, except for matchers without a name
 abbrev pub SameNamed : List Condition → List Condition → Type 0
 SameNamed ms ns = filter is_named ms ≡ filter is_named ns
 
@@ -145,7 +145,7 @@ both_placed ps qs ms ns p q =
     ∙ filter-append is_named (conditions_of ps) (conditions_of qs)
     ∙ (λ i. p i ++ q i) ∙ sym (filter-append is_named ms ns)
 
--- what stands behind those of a world, or of routes: questions, and impossible lists
+-- what follows the matchers of a world, or of routes: those of questions, and of impossible lists
 of_behind : (questions : List Question) (lists : List (List Condition))
     → SameNamed (conditions_of (placed_in_questions questions ++ placed_in_lists lists))
     (questions_conditions questions ++ impossible_conditions lists)

@@ -10,7 +10,7 @@ use Rattle.am_eval.specs.Conditions.{same_value}
 use Rattle.am_eval.specs.Tree.{Part, Not, And, Or}
 use Rattle.am_eval.specs.Question.{Question, Simple, Is, Receiver, Route, Braces}
 
--- The matchers of a route and of all routes below it, in preorder; and those of some children.
+-- The matchers of a route and of all routes below it, in preorder; and those of a list of children.
 abbrev mutual
   pub route_conditions : RouteTree → List Condition
   route_conditions (route settings children) = settings.matchers ++ routes_conditions children
@@ -23,11 +23,11 @@ abbrev mutual
 abbrev pub rule_conditions : List Rule → List Condition
 rule_conditions rules = flat_map (λ rule. rule.source ++ rule.target) rules
 
--- What `equal` asks, written as matchers: for each rule, each alert that its source side matches
--- and each name in `equal`, that the label has the value that it has in that alert.
+-- What `equal` asks, as matchers. For each rule, each alert that its source side matches, and each
+-- name in `equal`, a matcher asks for the value that the label has in that alert.
 -- Source: Alertmanager configuration reference 0.25, "<inhibit_rule>": `equal`.
--- Example: where `equal` has `team`, and an alert of the team `db` fires that the source side
--- matches, it is `team="db"`.
+-- Example: let `equal` have `team`, and let an alert of the team `db` fire that the source side
+-- matches. Then the matcher is `team="db"`.
 abbrev pub equal_to_alert : List (List ℕ) → LabelMap → List Condition
 equal_to_alert names a = map (same_value a) names
 
@@ -44,16 +44,16 @@ silence_conditions silences = flat_map (λ silence. silence.matchers) silences
 -- All matchers that decide where an alert ends in a world, and what silences or inhibits it: those
 -- of the routes, of the rules, of `equal`, and of the silences.
 -- Source: own choice.
--- Example: in a world with one route, no rule and no silence there are none.
+-- Example: a world with one route, no rule and no silence has no such matchers.
 abbrev pub world_conditions : World → List Condition
 world_conditions w =
     route_conditions w.config.root
     ++ (rule_conditions w.config.rules
     ++ (equal_conditions w.config.rules w.alerts ++ silence_conditions w.silences))
 
--- The matchers that a question has itself: those in its braces. And those of some questions.
+-- The matchers of a question itself: those in its braces. And those of a list of questions.
 -- Source: own choice.
--- Example: those of `receiver web-chat and not {env="prod"}` are `env="prod"` alone.
+-- Example: the only matcher of `receiver web-chat and not {env="prod"}` is `env="prod"`.
 abbrev pub simple_conditions : Simple → List Condition
 simple_conditions (Is property) = []
 simple_conditions (Receiver receiver) = []

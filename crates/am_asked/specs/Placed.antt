@@ -1,4 +1,4 @@
--- The matchers that decide, each with the place where it stands.
+-- The matchers that decide, each with its origin.
 use Rattle.std.specs.Prelude.{ℕ, List, [], ◌++◌, map, Bool, Option}
 use Rattle.std.specs.Prelude.{Some, None, slice_get}
 use Rattle.std.specs.List.{flat_map, filter, enumerate_from}
@@ -15,18 +15,18 @@ use Rattle.am_complete.specs.declared.origin.Origin.TheVariants as origin_is
 use Rattle.am_complete.specs.FoundState.{begins}
 use Rattle.am_asked.specs.Asked.{equal_to_alert, question_conditions}
 
--- Matchers that all stand at one place.
+-- Matchers that all have the same origin.
 abbrev pub placed_at : Origin → List Condition → List (Origin × Condition)
 placed_at origin ms = map (λ m. (origin, m)) ms
 
--- The matchers of a route, which stands at a path; and of all routes, in preorder.
+-- The matchers of the route at a path; and those of all routes, in preorder.
 abbrev pub placed_by_route : List ℕ × RouteTree → List (Origin × Condition)
 placed_by_route found = placed_at (origin_is.Route found.0) (matchers_of found.1)
 
 abbrev pub placed_in_routes : Configuration → List (Origin × Condition)
 placed_in_routes c = flat_map placed_by_route (all_routes c)
 
--- The matchers of both sides of a rule, which stands at a position; and of all rules.
+-- The matchers of both sides of the rule at a position; and those of all rules.
 abbrev pub placed_in_rule : ℕ × Rule → List (Origin × Condition)
 placed_in_rule rule =
     placed_at (origin_is.Rule rule.0) rule.1.source
@@ -35,13 +35,13 @@ placed_in_rule rule =
 abbrev pub placed_in_rules : List Rule → List (Origin × Condition)
 placed_in_rules rules = flat_map placed_in_rule (enumerate_from 0 rules)
 
--- A matcher has a name, as each matcher in memory does.
+-- The name of a matcher is not empty. This holds of each matcher in memory.
 abbrev pub is_named : Condition → Bool
 is_named m = begins m.name
 
--- What `equal` of a rule at a position asks where an alert fires that the rule's source side
--- matches, but for names that are the empty text; of a pair of a rule and an alert, by their
--- positions; and of all rules.
+-- What `equal` of the rule at a position asks if an alert fires that its source side matches. Empty
+-- names are left out. The same for a pair of a rule and an alert, by their positions; and for all
+-- rules.
 abbrev pub placed_by_alert : ℕ × Rule → LabelMap → List (Origin × Condition)
 placed_by_alert rule a =
     placed_at (origin_is.Rule rule.0) (filter is_named (equal_to_alert rule.1.equal a))
@@ -61,14 +61,14 @@ placed_in_equal w =
     (λ rule. flat_map (placed_by_alert rule) (filter (λ a. all_hold a rule.1.source) w.alerts))
     (enumerate_from 0 w.config.rules)
 
--- The matchers of a silence at a position, and of all silences.
+-- The matchers of the silence at a position; and those of all silences.
 abbrev pub placed_in_silence : ℕ × Silence → List (Origin × Condition)
 placed_in_silence silence = placed_at (origin_is.Silence silence.0) silence.1.matchers
 
 abbrev pub placed_in_silences : List Silence → List (Origin × Condition)
 placed_in_silences silences = flat_map placed_in_silence (enumerate_from 0 silences)
 
--- The matchers in the braces of a question at a position, and of all questions.
+-- The matchers in the braces of the question at a position; and those of all questions.
 abbrev pub placed_in_question : ℕ × Question → List (Origin × Condition)
 placed_in_question question =
     placed_at (origin_is.Question question.0) (question_conditions question.1)
@@ -76,16 +76,16 @@ placed_in_question question =
 abbrev pub placed_in_questions : List Question → List (Origin × Condition)
 placed_in_questions questions = flat_map placed_in_question (enumerate_from 0 questions)
 
--- The matchers of an impossible list at a position, and of all of them.
+-- The matchers of the impossible list at a position; and those of all impossible lists.
 abbrev pub placed_in_list : ℕ × List Condition → List (Origin × Condition)
 placed_in_list list = placed_at (origin_is.Impossible list.0) list.1
 
 abbrev pub placed_in_lists : List (List Condition) → List (Origin × Condition)
 placed_in_lists lists = flat_map placed_in_list (enumerate_from 0 lists)
 
--- All matchers that decide in a world, each with its place.
+-- All matchers that decide in a world, each with its origin.
 -- Source: own choice.
--- Example: in a world with one route, no rule and no silence there are none.
+-- Example: a world with one route, no rule and no silence has no such matchers.
 abbrev pub placed_in_world : World → List (Origin × Condition)
 placed_in_world w =
     placed_in_routes w.config

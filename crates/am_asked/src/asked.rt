@@ -22,7 +22,7 @@ use std::alloc::{AllocError, Global};
 
 /// Gathers the labels that routes ask about, then those that questions ask about, and then those
 /// that impossible lists ask about. They are in the order in which they are first asked about. Each
-/// has all of these matchers on it, equal ones once. Fails only if memory runs out.
+/// has all of these matchers on it, without repeats. Fails only if memory runs out.
 pub fn asked_by_routes<'m>(
     alloc: Global,
     config: &'m Config,
@@ -47,7 +47,7 @@ pub fn asked_by_routes<'m>(
 
 /// Gathers the labels that the routes of an old configuration ask about, then those that the routes
 /// of a new one ask about, and then those that impossible lists ask about. They are in the order in
-/// which they are first asked about. Each has all of these matchers on it, equal ones once. Fails
+/// which they are first asked about. Each has all of these matchers on it, without repeats. Fails
 /// only if memory runs out.
 pub fn asked_by_both<'m>(
     alloc: Global,
@@ -74,9 +74,9 @@ pub fn asked_by_both<'m>(
 /// Gathers the labels that the matchers of a world ask about, then those that questions ask about,
 /// and then those that impossible lists ask about. The matchers of a world are those of its routes,
 /// of its rules, of `equal`, which must be those of
-/// [`equal_matchers_of`](crate::equal_matchers_of), and of its silences at whatever instant. The
+/// [`equal_matchers_of`](crate::equal_matchers_of), and of its silences, whatever the instant. The
 /// labels are in the order in which they are first asked about. Each has all of these matchers on
-/// it, equal ones once. Fails only if memory runs out.
+/// it, without repeats. Fails only if memory runs out.
 pub fn asked_in_world<'m>(
     alloc: Global,
     world: &'m World,
@@ -142,7 +142,7 @@ fn add_questions<'m>(
     Ok(())
 }
 
-/// Adds the matchers in the braces of a question, which stands at a position.
+/// Adds the matchers in the braces of a question, all with this origin.
 fn add_question<'m>(
     gathering: &mut Gathering<'m>,
     origin: &Origin,

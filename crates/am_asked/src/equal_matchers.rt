@@ -1,6 +1,5 @@
-//! The matchers for which `equal` of inhibition rules stands.
+//! The matchers that `equal` of inhibition rules stands for.
 
-// The module of words stands on this type, so its own words come from where they stand.
 ghost use Rattle.std.specs.Prelude.{◌≡◌, ◌≢◌, ◌++◌, ◌∷◌, [], Contains, IfOk, OnOk};
 ghost use Rattle.std.specs.List.{filter};
 ghost use Rattle.am_eval.specs.Pairs.{pairs_of};
@@ -14,8 +13,8 @@ use am_labels::{Matcher, Op};
 use std::alloc::{AllocError, Global};
 use std::marker::Model;
 
-/// A matcher for which `equal` of an inhibition rule stands: that a label has the value that it has
-/// in a firing alert.
+/// A matcher that `equal` of an inhibition rule stands for: a label has the value that it has in a
+/// firing alert.
 #[derive(Drop)]
 pub struct EqualMatcher {
     rule: usize,
@@ -33,7 +32,7 @@ impl Model for EqualMatcher {
 }
 
 impl EqualMatcher {
-    /// The rule.
+    /// The rule, as the origin of the matcher.
     pub(crate) fn origin(&self) -> Origin
         ensures { result ≡ self.now.0 }
     {
@@ -48,9 +47,9 @@ impl EqualMatcher {
     }
 }
 
-/// Returns the matchers for which `equal` of the rules of a world stands. There is one for each
+/// Returns the matchers that `equal` of the rules of a world stands for. There is one for each
 /// rule, each firing alert that its source side matches, and each name in `equal` that is not
-/// empty: that the label has the value that it has in the alert. Fails only if memory runs out.
+/// empty. It asks for the value that the label has in the alert. Fails only if memory runs out.
 pub fn equal_matchers_of(alloc: Global, world: &World) -> Result<Vec<EqualMatcher>, AllocError>
     ensures matchers { IfOk result (λ made. made.items ≡ placed_in_equal world.now) }
 {
@@ -80,7 +79,7 @@ fn add_equal_matchers(
     Ok(())
 }
 
-/// Adds the matcher `name = value`, where there is a name.
+/// Adds the matcher `name = value`, unless the name is empty.
 fn add_equal_matcher(
     alloc: Global,
     rule: usize,

@@ -1,8 +1,8 @@
 //! Which labels decide what becomes of an alert, and by which matchers of the files.
 //!
 //! [`asked_by_routes`] gathers the matchers of a configuration's routes, [`asked_by_both`] those of
-//! two configurations, and [`asked_in_world`] those of a whole world. [`equal_matchers_of`] gives
-//! the matchers for which `equal` of the inhibition rules stands.
+//! two configurations, and [`asked_in_world`] those of a whole world. [`equal_matchers_of`] returns
+//! the matchers that `equal` of the inhibition rules stands for.
 #![tactic(auto)]
 
 mod asked;

@@ -19,7 +19,7 @@ use am_universe::{Fault, Kind, Out, Place, Sink, status};
 use am_universe_command::UniverseForm;
 use std::alloc::Global;
 
-/// A call of a command, or of what a command is made of, by the name that a table gives it.
+/// A call that a table names: of a command, of a part of one, or of a check over generated worlds.
 #[derive(Clone, Copy)]
 pub enum CommandCall {
     Universe,
@@ -36,7 +36,7 @@ pub enum CommandCall {
 }
 
 impl CommandCall {
-    /// Writes what it writes at a text, if it writes.
+    /// Writes the output of the call for a text. Fails if the call writes nothing.
     fn write<W: Sink>(
         self,
         alloc: Global,
@@ -61,14 +61,14 @@ impl CommandCall {
         }
     }
 
-    /// The lines that it writes, with a blank between.
+    /// `ok: ` and the lines that the call writes, with a blank between them.
     fn page(self, alloc: Global, over: Over<'_>, text: &[u8]) -> Result<Vec<u8>, Refusal> {
         let mut out = Out::new(told(alloc, "ok: ")?);
         self.write(alloc, over, text, &mut out)?;
         Ok(on_one_line(out.into_inner()))
     }
 
-    /// What it gives at a text, where that is not refused.
+    /// What the call gives for a text, unless it fails.
     fn answer(
         self,
         alloc: Global,
@@ -105,7 +105,7 @@ fn of_universe(alloc: Global, text: &[u8], brief: bool) -> Result<Vec<u8>, Refus
     Ok(Vec::from_slice(alloc, sets.strip_suffix(b" # end").unwrap_or(sets))?)
 }
 
-/// The page that a text asks for, with `H` for the digits of its own inputs.
+/// The page that a text asks for, with `H` in place of the digits of its own inputs.
 fn of_ask(alloc: Global, over: Over<'_>, text: &[u8]) -> Result<Vec<u8>, Refusal> {
     let (text, digits) = with_own_digits(alloc, over, text)?;
     let page = CommandCall::Ask.page(alloc, over, text.as_slice())?;
@@ -211,7 +211,7 @@ fn checked(form: UniverseForm) -> CommandCall {
     CommandCall::Universes(Universes::Checked(form))
 }
 
-/// How what is written ends where this is answered.
+/// How a call ended that failed with this refusal. Fails if the case is wrong or memory ran out.
 fn end_of(refusal: Refusal) -> Result<End, Problem> {
     match refusal {
         Refusal::Wrong(problem) => Err(problem),

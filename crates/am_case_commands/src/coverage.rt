@@ -1,4 +1,5 @@
-//! Reports over generated worlds: whether what `dead` and `receivers` say is so, line by line.
+//! Reports over generated worlds: a check, line by line, that what `dead` and `receivers` say is
+//! true.
 
 use crate::reports::{Report, write_report};
 use am_case_files::{Problem, read_number, split_at_first, utf8};
@@ -15,7 +16,7 @@ use std::alloc::{AllocError, Global};
 /// The most label sets that are looked at one by one.
 const MOST_SETS: usize = 1_000;
 
-/// Of how many routes and receivers a report told what.
+/// To how many routes and receivers a report gives each status.
 #[derive(Clone, Copy)]
 struct Counts {
     live: usize,
@@ -50,9 +51,9 @@ impl Counts {
 
 // ---- Small worlds, over which whole choices are looked at one by one.
 
-/// Checks the reports of the generated worlds of some seeds, and returns what they say. The text is
-/// the first seed, a blank, and the number of seeds. ` impossible` after it makes some label sets
-/// impossible.
+/// Checks the reports of the generated worlds of some seeds, and returns the number of worlds and
+/// which statuses occur. The text is the first seed, a blank, and the number of seeds. `
+/// impossible` after it makes some label sets impossible.
 pub fn of_reports(alloc: Global, text: &[u8]) -> Result<Vec<u8>, Problem> {
     let (text, has_impossible) = split_impossible(text);
     let (seed, count) = read_seeds(alloc, text)?;
@@ -67,8 +68,8 @@ pub fn of_reports(alloc: Global, text: &[u8]) -> Result<Vec<u8>, Problem> {
     Ok(text.into_bytes())
 }
 
-/// Compares the reports of the world of a seed with what the plans of questions find, and the judge
-/// that looks at whole choices.
+/// Compares the reports of the world of a seed with the first answers to the questions that their
+/// lines are about. The plan of each question and the judge of whole choices must find the same.
 fn check_small(
     alloc: Global,
     seed: u64,
@@ -142,7 +143,7 @@ fn status_of_receiver(
     Ok(live)
 }
 
-/// `live ` and the first label set of which a question is true; empty where it is true of none.
+/// `live ` and the first label set of which a question is true, or the empty text if there is none.
 fn live_status(alloc: Global, inputs: &AcceptedInputs, text: &str) -> Result<Vec<u8>, Problem> {
     let universe = inputs.space.universe();
     let Some(choice) = first_choice(alloc, inputs, text)? else {
@@ -158,15 +159,16 @@ fn live_status(alloc: Global, inputs: &AcceptedInputs, text: &str) -> Result<Vec
 
 // ---- Large worlds.
 
-/// A label set as it is written, and the routes that handle it.
+/// A label set as a text, and the routes that handle it.
 #[derive(Drop)]
 struct Handled {
     set: Vec<u8>,
     ends: Vec<Path>,
 }
 
-/// Checks the reports of a large generated world, and returns what they say. The text is a seed,
-/// the number of labels, and the number of values of each, separated by blanks.
+/// Checks the report of routes of a large generated world, and returns the number of routes and
+/// which statuses occur. The text is a seed, the number of labels, and the number of values of
+/// each, separated by blanks.
 pub fn of_large(alloc: Global, text: &[u8]) -> Result<Vec<u8>, Problem> {
     let Some((seed, sizes)) = split_at_first(text, b" ") else {
         return Err(Problem::about(alloc, "a seed, labels and values are wanted", text));
@@ -195,7 +197,7 @@ pub fn of_large(alloc: Global, text: &[u8]) -> Result<Vec<u8>, Problem> {
     counts_text(alloc, counts, handled.len())
 }
 
-/// How many routes there are, what is told of some of them, and how many label sets were looked at.
+/// The number of routes, which statuses occur, and the number of label sets, if any were looked at.
 fn counts_text(alloc: Global, counts: Counts, sets: usize) -> Result<Vec<u8>, Problem> {
     let dead = counts.entered.saturating_add(counts.never_entered);
     let routes = counts.live.saturating_add(dead);
@@ -207,7 +209,7 @@ fn counts_text(alloc: Global, counts: Counts, sets: usize) -> Result<Vec<u8>, Pr
     Ok(text.into_bytes())
 }
 
-/// Whether a universe has no more label sets than are looked at one by one.
+/// Whether a universe has so few label sets that they are looked at one by one.
 fn is_small(labels: usize, values: usize) -> bool {
     let mut sets = 1_usize;
     for _ in 0..labels {
@@ -235,8 +237,8 @@ fn handled_sets(alloc: Global, universe: &[u8], config: &Config) -> Result<Vec<H
     Ok(handled)
 }
 
-/// Looks at each line of the report of routes: by all label sets, if these are given, and else, if
-/// the route is live, by the one that the line tells.
+/// Checks each line of the report of routes. If `handled` has the label sets of the universe, the
+/// status must be the one that they give. Otherwise the label set of a live route must end there.
 fn check_routes(
     alloc: Global,
     universe: &[u8],
@@ -261,7 +263,7 @@ fn check_routes(
     Ok(())
 }
 
-/// What a report has to tell of a route, by all label sets in declared order.
+/// The status that a report must give a route, found from all label sets in declared order.
 fn status_by_sets(alloc: Global, handled: &[Handled], path: &Path) -> Result<Vec<u8>, Problem> {
     let mut is_entered = false;
     for one in handled {
@@ -275,7 +277,7 @@ fn status_by_sets(alloc: Global, handled: &[Handled], path: &Path) -> Result<Vec
     told(alloc, dead_status(is_entered))
 }
 
-/// Whether a label set ends at a route.
+/// Checks that a label set ends at a route.
 fn check_end(alloc: Global, config: &Config, path: &Path, text: &[u8]) -> Result<(), Problem> {
     let set = set_of_text(alloc, text)?;
     if ends(alloc, config, &set)?.as_slice().contains(path) {
@@ -286,7 +288,7 @@ fn check_end(alloc: Global, config: &Config, path: &Path, text: &[u8]) -> Result
 
 // ---- What both read and say.
 
-/// Adds what is told of some.
+/// Adds words for each status that occurs.
 fn add_words(counts: Counts, text: &mut String) -> Result<(), AllocError> {
     let told = [
         (counts.live, ", some live"),
@@ -302,7 +304,7 @@ fn add_words(counts: Counts, text: &mut String) -> Result<(), AllocError> {
     Ok(())
 }
 
-/// The lines of a report, without the last one, which says that it is whole.
+/// The lines of a report, without the last one. Fails if the last one is not `# end`.
 fn report_of(
     alloc: Global,
     report: Report,

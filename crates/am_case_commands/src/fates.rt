@@ -1,5 +1,5 @@
-//! Fates: where an alert ends, and what silences and inhibits it. Whatever labels an alert has,
-//! some label set of the universe that is made for a world's files has the same fate.
+//! Fates: where an alert ends, and what silences and inhibits it. For any alert, some label set of
+//! the universe that is made of a world's files must have the same fate.
 
 use crate::universes::{Universes, form, write_universes};
 use am_case_files::{Problem, split_at_first};
@@ -14,10 +14,10 @@ use std::alloc::Global;
 /// How many alerts are tried in each world.
 const ALERTS: usize = 40;
 
-/// The labels that they may have, one of which no other label set of a world has.
+/// The labels that they may have. The files of a world never name `y`.
 const NAMES: [&str; 6] = ["l0", "l1", "l2", "l3", "x", "y"];
 
-/// Every second value is one of these.
+/// About half of the values are drawn from these.
 const VALUES: [&str; 4] = ["v0", "v1", "v2", ""];
 
 /// Checks the fates of alerts in the generated worlds of some seeds, and returns the number of
@@ -32,7 +32,8 @@ pub fn of_fates(alloc: Global, text: &[u8]) -> Result<Vec<u8>, Problem> {
     Ok(text.into_bytes())
 }
 
-/// Whether the universe that is made of the files of a seed has the fate of each of some alerts.
+/// Checks that each of some alerts has the fate of some label set of the universe that is made of
+/// the files of a seed.
 fn check_fates(alloc: Global, seed: u64) -> Result<(), Problem> {
     let small = small_world(alloc, seed, false)?;
     let files = Files {
@@ -83,7 +84,7 @@ fn fates_of_universe(
     Ok(fates)
 }
 
-/// What `explain` writes of a label set, behind the set itself.
+/// What `explain` writes about a label set after the first line, which is the set itself.
 fn fate_of(alloc: Global, world: &World, set: &LabelSet) -> Result<Vec<u8>, Problem> {
     let explanation = explanation_of(alloc, world, set)?;
     let mut out = Out::new(Vec::new(alloc));
@@ -95,7 +96,7 @@ fn fate_of(alloc: Global, world: &World, set: &LabelSet) -> Result<Vec<u8>, Prob
     }
 }
 
-/// Label sets of alerts that no one typed.
+/// The label sets of generated alerts.
 fn alerts_of_seed(alloc: Global, seed: u64) -> Result<Vec<LabelSet>, Problem> {
     let mut dice = Dice::new(seed);
     let count = ALERTS.saturating_mul(NAMES.len());

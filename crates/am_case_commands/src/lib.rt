@@ -1,8 +1,8 @@
 //! The calls of cases to the commands: answers and their pages, reports, explanations, alerts and
 //! universes.
 //!
-//! [`CommandCall`] is a call that a table names, and what it gives is a text. Some calls look at
-//! generated worlds. They check that what the reports say is so, that the universes that are made
+//! [`CommandCall`] is a call that a table names, and what it gives is a text. Some calls go over
+//! generated worlds. They check that what the reports say is true, that the universes that are made
 //! stand for every alert, and that the outcomes that are found are those of all choices.
 #![tactic(auto)]
 
@@ -12,7 +12,7 @@ mod pages;
 mod reports;
 mod universes;
 
-// Worlds that no one typed.
+// Checks over generated worlds.
 mod coverage;
 mod fates;
 mod outcomes;

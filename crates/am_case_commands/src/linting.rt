@@ -59,7 +59,7 @@ pub fn write_lint<W: Sink>(
     Ok(())
 }
 
-/// A file, and the instant that stands behind it, if one does.
+/// A file, and the instant after it, if there is one.
 fn file_and_instant(alloc: Global, text: &[u8]) -> Result<(&[u8], Option<&str>), Problem> {
     match split_at_last(text, b" at ") {
         Some((file, at)) => Ok((file, Some(utf8(alloc, at)?))),

@@ -1,4 +1,4 @@
-//! Outcomes of generated worlds, compared with those of all choices one by one.
+//! Outcomes of generated worlds, compared with those that all choices have, one by one.
 
 use am_case_files::Problem;
 use am_case_runner::Over;
@@ -25,8 +25,8 @@ pub fn of_outcomes(alloc: Global, text: &[u8]) -> Result<Vec<u8>, Problem> {
     Ok(text.into_bytes())
 }
 
-/// Whether the outcomes of the configuration of a seed, and what changes to that of the next, are
-/// those of all choices of the space.
+/// Checks that the outcomes of the configuration of a seed, and the changes from it to that of the
+/// next seed, are those of all choices of the space.
 fn check_outcomes(alloc: Global, seed: u64) -> Result<(), Problem> {
     let small = small_world(alloc, seed, true)?;
     let next = small_world(alloc, seed.wrapping_add(1), false)?;
@@ -46,7 +46,7 @@ fn config_of(alloc: Global, text: &[u8]) -> Result<Config, Problem> {
     read_config(alloc, text).map_err(|fault| made_refused(alloc, &fault))
 }
 
-/// The texts of the outcomes that are found, and of the changes.
+/// The texts of the outcomes and the changes that are found.
 fn found_text(
     alloc: Global,
     space: &Space,
@@ -68,7 +68,7 @@ fn found_text(
     Ok(text)
 }
 
-/// The same texts, by all label sets of the universe, one after the other.
+/// The same texts, found from all label sets of the universe, one by one.
 fn text_of_all(
     alloc: Global,
     universe: &[u8],
@@ -88,7 +88,7 @@ fn text_of_all(
     Ok(plain.text(alloc)?)
 }
 
-/// What becomes of the label sets so far.
+/// The outcomes and the changes of the label sets so far.
 #[derive(Drop)]
 struct Plain {
     outcomes: String,
@@ -109,7 +109,7 @@ impl Plain {
         }
     }
 
-    /// Adds a label set, which is written as in a page.
+    /// Adds a label set, which is a line of a page.
     fn add(
         &mut self,
         alloc: Global,
@@ -145,7 +145,7 @@ impl Plain {
     }
 }
 
-/// The names of receivers, none of which has a character to escape.
+/// The names of receivers in quotes, with commas between. None has a character to escape.
 fn names_text(alloc: Global, config: &Config, receivers: &[usize]) -> Result<String, AllocError> {
     let mut text = String::new(alloc);
     for (i, receiver) in receivers.iter().enumerate() {

@@ -1,5 +1,5 @@
-//! Pages of answers: what `ask` writes, and whether pages in a row have the lines of the one page
-//! without a limit and without a budget.
+//! Pages of answers: what `ask` writes, and a check that pages in a row have the same lines as one
+//! page without a limit and without a budget.
 
 use am_case_files::{Problem, Tally, split_at_last, utf8};
 use am_case_runner::Over;
@@ -13,13 +13,13 @@ use am_universe::{Fault, Out, Sink};
 use std::alloc::Global;
 use std::num::NonZeroU64;
 
-/// The least budget of a page.
+/// The smallest budget of a page.
 const LEAST_STEPS: u64 = 65;
 
-/// More than the greatest budget under which a page of a case stops.
+/// A budget greater than any under which a page of a case stops.
 const MOST_STEPS: u64 = 400;
 
-/// More pages than a line may have in a row.
+/// The most pages that are asked for in a row.
 const MOST_PAGES: usize = 1_000;
 
 /// Writes the page that a text asks for.
@@ -34,7 +34,7 @@ pub fn write_page<W: Sink>(
     Ok(())
 }
 
-/// Writes the page that is asked for.
+/// Writes the page that is asked for, and returns its trailer.
 fn write_asked<W: Sink>(
     alloc: Global,
     over: Over<'_>,
@@ -46,8 +46,7 @@ fn write_asked<W: Sink>(
     ask(alloc, over.universe, &files, asked.question, &page, out)
 }
 
-/// A page, cut into its lines and the token of the next one, if there is one, and whether the
-/// search stopped.
+/// A page: its lines, the token of the next page, if there is one, and whether the search stopped.
 #[derive(Drop)]
 struct Part {
     lines: Vec<u8>,
@@ -56,8 +55,8 @@ struct Part {
 }
 
 /// Asks for the answers of a line page by page: with each limit up to one more than there are
-/// answers, with each budget up to the first that is enough for all, and with the least budget and
-/// each of the first limits together. Each of these counts as a case of the line.
+/// answers, with each budget up to the first that is enough for all, and with the smallest budget
+/// and each of the first limits together. Each of these counts as a case of the line.
 pub fn count_pages(
     alloc: Global,
     over: Over<'_>,
@@ -89,7 +88,7 @@ pub fn count_pages(
     Ok(())
 }
 
-/// The lines of all answers that a line asks for.
+/// The lines of all answers that a line asks for. Fails if the line has a limit or a budget.
 fn all_lines(alloc: Global, over: Over<'_>, text: &[u8]) -> Result<Vec<u8>, Problem> {
     let (own, _) = with_own_digits(alloc, over, text)?;
     let asked = Asked::of(alloc, own.as_slice())?;
@@ -99,14 +98,14 @@ fn all_lines(alloc: Global, over: Over<'_>, text: &[u8]) -> Result<Vec<u8>, Prob
     Ok(part_of(alloc, over, asked)?.lines)
 }
 
-/// How many lines there are, each ended by a line feed.
+/// The number of lines, each of which ends with a line feed.
 fn count_lines(lines: &[u8]) -> u64 {
     let count = lines.iter().filter(|byte| **byte == b'\n').count();
     u64::try_from(count).unwrap_or(u64::MAX)
 }
 
-/// Whether the pages of a limit and a budget, as far as there are these, each after the token of
-/// the one before, come to these lines. The answer is whether one of them stopped.
+/// Checks that pages with this limit and this budget, each of them optional, together have these
+/// lines. Each page begins at the token of the one before. Returns whether one of them stopped.
 fn check_pages(
     alloc: Global,
     over: Over<'_>,
@@ -160,8 +159,8 @@ fn joined_pages(alloc: Global, over: Over<'_>, asked: Asked<'_, '_>) -> Result<P
     Err(Problem::about(alloc, "the pages come to no end", lines.as_slice()))
 }
 
-/// No page has more lines than it may. One behind which there is another has as many, unless the
-/// search stopped.
+/// Checks that a page has no more lines than its limit. If another page follows, it must have as
+/// many as the limit, unless the search stopped.
 fn check_length(alloc: Global, part: &Part, limit: Option<NonZeroU64>) -> Result<(), Problem> {
     let Some(limit) = limit else {
         return Ok(());
@@ -179,7 +178,7 @@ fn part_of(alloc: Global, over: Over<'_>, asked: Asked<'_, '_>) -> Result<Part, 
     let trailer = trailer.map_err(|fault| made_refused(alloc, &fault))?;
     let page = out.into_inner();
     let page = page.as_slice();
-    // The last line of a page has to be that of the trailer.
+    // The last line of a page must be that of the trailer.
     let (words, start) = match trailer {
         Trailer::End => return cut_last(alloc, page),
         Trailer::Next(last) => (b"# next ".as_slice(), Start::After(last)),
@@ -189,7 +188,7 @@ fn part_of(alloc: Global, over: Over<'_>, asked: Asked<'_, '_>) -> Result<Part, 
     cut_before(alloc, over, &own, page, words, start)
 }
 
-/// Cuts the last page.
+/// Cuts the trailer off the last page.
 fn cut_last(alloc: Global, page: &[u8]) -> Result<Part, Problem> {
     match page.strip_suffix(b"# end\n") {
         Some(lines) => Ok(Part {
@@ -201,8 +200,8 @@ fn cut_last(alloc: Global, page: &[u8]) -> Result<Part, Problem> {
     }
 }
 
-/// Cuts a page behind which there is another, from this start on. The trailer begins with the
-/// words, and has the fingerprint of the page's inputs.
+/// Cuts the trailer off a page that another page follows, which begins at `start`. The trailer is
+/// `words` and a token with the fingerprint of the page's inputs.
 fn cut_before(
     alloc: Global,
     over: Over<'_>,
@@ -223,7 +222,7 @@ fn cut_before(
     })
 }
 
-/// Whether a token is read as this start, and the start is written as the token.
+/// Checks that a token is read as this start, and that the start is written as the token.
 fn check_token(
     alloc: Global,
     over: Over<'_>,

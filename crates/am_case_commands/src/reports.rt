@@ -1,4 +1,4 @@
-//! Reports: which label sets reach each route or receiver; to which receivers alerts go, and what
+//! Reports: which label sets reach each route or receiver, to which receivers alerts go, and what
 //! changes from one configuration to another.
 
 use am_case_runner::Over;
@@ -12,10 +12,10 @@ use std::alloc::Global;
 pub enum Report {
     Routes,
     Receivers,
-    /// To which receivers alerts go: all alerts, or those of printable ASCII.
+    /// To which receivers alerts go: all alerts, or those whose values are printable ASCII.
     Outcomes { ascii: bool },
-    /// What changes from the configuration that the line names: for all alerts, or those of
-    /// printable ASCII.
+    /// What changes from the configuration that the line names: for all alerts, or for those whose
+    /// values are printable ASCII.
     Compare { ascii: bool },
 }
 
@@ -43,7 +43,7 @@ pub fn write_report<W: Sink>(
     }
 }
 
-/// Writes what changes from the configuration of a line to that of a text.
+/// Writes the changes from the configuration that the line names to that of the text.
 fn write_compare<W: Sink>(
     alloc: Global,
     ascii: bool,
@@ -68,7 +68,7 @@ fn report_inputs<'a>(universe: &'a [u8], config: &'a [u8], ascii: bool) -> Repor
     }
 }
 
-/// A universe file; one without a byte is none.
+/// The universe file, or `None` if it is empty.
 fn file_if_any(universe: &[u8]) -> Option<&[u8]> {
     if universe.is_empty() {
         None
@@ -77,7 +77,7 @@ fn file_if_any(universe: &[u8]) -> Option<&[u8]> {
     }
 }
 
-/// The answer of a call that counts what changes, without the number.
+/// The outcome of a call that counts changes, without the count.
 fn uncounted(found: Result<usize, Fault>) -> Result<(), Fault> {
     match found {
         Ok(_) => Ok(()),

@@ -94,7 +94,7 @@ pub fn of_universes(
     Ok(on_a_line(alloc, written.as_slice())?)
 }
 
-/// Lines without what they are indented by, with a blank between.
+/// `ok:` and the lines, each after a blank and without its indent.
 fn on_a_line(alloc: Global, lines: &[u8]) -> Result<Vec<u8>, Problem> {
     let mut text = told(alloc, "ok:")?;
     for line in lines
@@ -108,7 +108,7 @@ fn on_a_line(alloc: Global, lines: &[u8]) -> Result<Vec<u8>, Problem> {
     Ok(text)
 }
 
-/// Whether a universe that was made of a configuration and of other files is complete for them.
+/// Checks that a universe that was made of a configuration and of other files is complete for them.
 fn check_made<'f>(
     alloc: Global,
     form: UniverseForm,

@@ -3,7 +3,7 @@
 use crate::lines::split_at_first;
 use std::alloc::{AllocError, Global};
 
-/// What stands in a token of a case, in the place of `2:`, the digits and `:`.
+/// What a token of a case has in place of `2:`, the digits and `:`.
 const OWN: &[u8] = b"2:H:";
 
 /// Returns a text with these digits in place of `H` in each token. Fails only if memory runs out.
@@ -30,7 +30,7 @@ pub fn has_own_token(text: &[u8]) -> bool {
     split_at_first(text, OWN).is_some()
 }
 
-/// A text with another in the place of each copy of a part.
+/// A text with `other` in place of each copy of `part`.
 fn replaced(alloc: Global, text: &[u8], part: &[u8], other: &[u8]) -> Result<Vec<u8>, AllocError> {
     let mut done = Vec::new(alloc);
     let mut rest = text;

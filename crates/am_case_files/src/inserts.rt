@@ -8,10 +8,10 @@ const OPENING: &[u8] = b"\xc2\xab"; // «
 
 const CLOSING: &[u8] = b"\xc2\xbb"; // »
 
-/// The most inserts of one text.
+/// More inserts than one text may have.
 const MOST: usize = 10_000;
 
-/// A text with a name: that of an insert, or of a file.
+/// A text with a name: one that inserts may name, or a file.
 #[derive(Drop)]
 pub struct Named {
     pub name: Vec<u8>,
@@ -54,7 +54,7 @@ fn filled_once(alloc: Global, texts: &[Named], text: &[u8]) -> Result<Option<Vec
     Ok(Some(more))
 }
 
-/// Adds what an insert of these words stands for.
+/// Adds what the insert with these words stands for.
 fn insert(alloc: Global, texts: &[Named], words: &[u8], text: &mut Vec<u8>) -> Result<(), Problem> {
     if words.is_empty() {
         return Ok(());
@@ -106,7 +106,7 @@ fn copies(words: &[u8]) -> Option<(usize, &[u8])> {
     Some((number(count)?, copied))
 }
 
-/// Adds so many copies, with a text between where one is given.
+/// Adds `count` copies, with the text after ` joined by ` between them, if there is one.
 fn add_copies(
     alloc: Global,
     count: usize,

@@ -15,7 +15,7 @@ mod lines;
 mod shell_words;
 // What cases write to.
 mod writer;
-// What they came to.
+// The outcome of cases.
 mod problem;
 mod tally;
 

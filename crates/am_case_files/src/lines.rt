@@ -76,12 +76,12 @@ pub fn value_named<T: Copy>(values: &[(&str, T)], name: &[u8]) -> Option<T> {
     None
 }
 
-/// Returns the number that a text is, in decimal.
+/// Reads a number in decimal. Returns `None` if the text is not such a number.
 pub fn number(text: &[u8]) -> Option<usize> {
     std::str::from_utf8(text).ok()?.parse::<usize>().ok()
 }
 
-/// Reads a number in decimal. If it is none, the problem has these words.
+/// Reads a number in decimal. If the text is not such a number, the problem has these words.
 pub fn read_number(alloc: Global, text: &[u8], words: &str) -> Result<u64, Problem> {
     let number = utf8(alloc, text)?.parse::<u64>();
     number.map_err(|_| Problem::about(alloc, words, text))

@@ -1,4 +1,4 @@
-//! Why a case is wrong, or a file is no file of cases.
+//! Why a case is wrong, or a file is not a file of cases.
 
 use std::alloc::{AllocError, AllocFailed, Global};
 use std::io;
@@ -14,7 +14,7 @@ pub enum Problem {
 }
 
 impl Problem {
-    /// The problem with these words, or that memory ran out for them.
+    /// The problem with these words, or `Memory` if memory ran out for them.
     pub fn of_words(words: Result<String, AllocError>) -> Problem {
         match words {
             Ok(words) => Problem::Said(words),
@@ -27,7 +27,7 @@ impl Problem {
         Problem::of_words(String::from_str(alloc, words))
     }
 
-    /// The problem with these words, or that memory ran out, if the error says so.
+    /// The problem with these words, or `Memory` if the error says that memory ran out.
     pub fn of(alloc: Global, error: &io::Error, words: &str) -> Problem {
         if error.kind() == ErrorKind::OutOfMemory {
             return Problem::Memory;
@@ -40,7 +40,7 @@ impl Problem {
         Problem::of_words(about(alloc, words, text))
     }
 
-    /// The problem that something else was found in a part than was expected.
+    /// The problem that a part is not what was expected. Its words show both.
     pub fn differs(alloc: Global, part: &str, expected: &[u8], found: &[u8]) -> Problem {
         Problem::of_words(differs(alloc, part, expected, found))
     }
@@ -69,7 +69,7 @@ fn differs(alloc: Global, part: &str, expected: &[u8], found: &[u8]) -> Result<S
     format!(in alloc; "{part}: expected\n  {expected}\n  and found\n  {found}")
 }
 
-/// How much of a text is shown.
+/// The most bytes of a text that are shown.
 const MOST_SHOWN: usize = 2000;
 
 fn shown(alloc: Global, text: &[u8]) -> Result<String, AllocError> {

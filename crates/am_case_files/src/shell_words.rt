@@ -4,7 +4,7 @@ use crate::inserts::{Named, filled};
 use crate::problem::Problem;
 use std::alloc::Global;
 
-/// What stands round a byte of a command line.
+/// The quotes around a byte of a command line.
 #[derive(Clone, Copy, PartialEq, Eq)]
 enum Quote {
     None,

@@ -58,8 +58,8 @@ impl Tally {
         }
     }
 
-    /// Counts a line that is wrong itself. If memory ran out there, it fails, since the lines that
-    /// follow would be read otherwise.
+    /// Counts a line that is itself wrong. Fails if memory ran out there, since the lines after it
+    /// would then be read differently.
     pub fn note(&mut self, number: usize, problem: Problem) -> Result<(), Problem> {
         match problem {
             Problem::Memory => Err(Problem::Memory),
@@ -78,7 +78,7 @@ impl Tally {
         write!(self.report, "{name}:{number}: {words}\n")
     }
 
-    /// Counts a file that cannot be read as one of cases, or whose cases were not all run.
+    /// Counts a file that cannot be read as a file of cases, or whose cases were not all run.
     pub fn fail(&mut self, problem: Problem) -> Result<(), AllocError> {
         match problem {
             Problem::Memory => self.count_starved(),

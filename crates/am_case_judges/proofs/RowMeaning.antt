@@ -1,4 +1,4 @@
--- The rows of a list of matchers, and what they say of the label set of a whole choice.
+-- The rows of a list of matchers, and what they say about the label set of a whole choice.
 use Rattle.std.proofs.Common.{◌≡◌, ℕ, zero, suc, ◌+◌, ◌<◌, ◌≤◌, Bool, false, cond}
 use Rattle.std.proofs.Common.{List, [], ◌∷◌, ◌++◌}
 use Rattle.std.proofs.Common.{length, map, take, get_or, Option, Some, None, All}
@@ -20,7 +20,7 @@ use Rattle.am_case_judges.specs.RowsView.{IsRow}
 
 -- ---- A row that is copied.
 
--- where a row has a truth, it is its truth at that position
+-- If a row has an item at a position, that item is its truth there.
 truth_among_them : (u : List Label) (m : Condition) (o : Option ℕ) (j : ℕ)
     → j < length (truths_of u m o)
     → truth_among o (truths_of u m o) j ≡ get_or (truths_of u m o) j false
@@ -36,7 +36,7 @@ truth_there u row j is within =
     ∙ truth_among_them u m (row_of u m).label j (subst (λ r. j < length r.truths) is.1 within)
     ∙ ap (λ r. get_or r.truths j false) (sym is.1)
 
--- one truth more
+-- One more truth is copied.
 pub one_more : (u : List Label) (row : TruthRow) (so_far now : List Bool) (j : ℕ) (truth : Bool)
     → IsRow u row → j < length row.truths → so_far ≡ take j row.truths → truth ≡ truth_at row j
     → now ≡ so_far ++ truth ∷ [] → now ≡ take (j + 1) row.truths

@@ -1,4 +1,5 @@
--- What is said by prefixes at which `Yes` and `No` are written keeps the laws of a judge.
+-- The verdicts that follow from prefixes at which `Yes` and `No` are written keep the laws of a
+-- judge.
 use Rattle.std.proofs.Common.{◌≡◌, ℕ, Bool, true, false, not, List, [], ◌∷◌, length, nat_lt}
 use Rattle.std.proofs.Common.{nat_eq, ◌&&◌, ◌||◌, IsTrue, ap, ◌∙◌, sym, subst, refl, inl, inr}
 use Rattle.std.proofs.Common.{arith, eq-eqb}
@@ -95,7 +96,8 @@ tests_of_open false false closed e = cc
 
 -- ---- The laws.
 
--- None of the completions of a prefix is true, where it is whole, and where it is closed.
+-- No completion of a prefix is true if the prefix begins with no prefix at which `Yes` is written,
+-- and is whole or closed.
 none_below : (sizes : List ℕ) (trues falses : List (List ℕ)) (p : List ℕ) (short : Bool)
     → nat_lt (length p) (length sizes) ≡ short → admits sizes p ≡ true
     → begins_with_one trues p ≡ false → (short ≡ true → is_closed trues falses p ≡ true)

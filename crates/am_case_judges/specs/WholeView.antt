@@ -1,4 +1,4 @@
--- What a clause reads of `Whole`: its universe, the sizes of its labels, which choices are true,
+-- What contracts read of `Whole`: its universe, the sizes of its labels, which choices are true,
 -- and its verdicts.
 use Rattle.std.specs.Prelude.{◌≡◌, ℕ, ◌<◌, List, length, Bool, true, false, nat_lt, if◌then◌else◌}
 use Rattle.std.specs.Prelude.{IsTrue}
@@ -25,11 +25,11 @@ whole_universe whole = whole.universe.now
 abbrev pub whole_sizes : Whole → List ℕ
 whole_sizes whole = sizes (whole_universe whole)
 
--- Whether a choice makes the question of a judge true, by rows.
+-- Whether the question of a judge is true of a choice, by its rows.
 abbrev pub whole_truth : Whole → List ℕ → Bool
 whole_truth whole c = truth_by rows_verdict c whole.judged Must
 
--- The verdict where nothing is known of a prefix that is not whole.
+-- The verdict of a judge that knows nothing about a prefix that is not whole.
 abbrev pub verdict_when_whole : List ℕ → (List ℕ → Bool) → List ℕ → Verdict
 verdict_when_whole sizes truth prefix =
     if nat_lt (length prefix) (length sizes) then Open else if truth prefix then Yes else No
@@ -43,13 +43,13 @@ whole_when_not_short sizes prefix a long =
     let fits = admits_at_most sizes prefix a in
     (a, grind (arith, nat_tests))
 
--- What is said of a whole choice is said of each of its completions.
+-- What holds of a whole choice holds of each of its completions.
 of_completions : (sizes prefix : List ℕ) (P : List ℕ → Type 0) → IsWhole sizes prefix → P prefix
     → AllByRecursion P (completions sizes prefix)
 of_completions sizes prefix P w h =
     subst (AllByRecursion P) (sym (completions_of_whole sizes prefix w)) (h, tt)
 
--- What each verdict says of the two tests.
+-- What each verdict says about the two tests.
 tests_of_yes : (short holds : Bool) → (if short then Open else if holds then Yes else No) ≡ Yes
     → (short ≡ false) × (holds ≡ true)
 tests_of_yes true holds e = cc
@@ -68,7 +68,7 @@ test_of_open true holds e = refl
 test_of_open false true e = cc
 test_of_open false false e = cc
 
--- Such a verdict is that of a judge.
+-- These verdicts keep the laws of a judge.
 is_judge_when_whole : (sizes : List ℕ) (truth : List ℕ → Bool) → AreSizes sizes
     → IsJudge sizes truth (verdict_when_whole sizes truth)
 is_judge_when_whole sizes truth h =
@@ -93,7 +93,7 @@ pub whole_is_judge : (whole : Whole)
     → IsJudge (whole_sizes whole) (whole_truth whole) (whole_verdict whole)
 whole_is_judge whole = is_judge_when_whole (whole_sizes whole) (whole_truth whole) whole.are_sizes
 
--- It is open at a prefix that is not whole.
+-- The verdict is `Open` at a prefix that is not whole.
 pub open_when_short : (sizes prefix : List ℕ) (holds : Bool) → length prefix < length sizes
     → (if nat_lt (length prefix) (length sizes) then Open else if holds then Yes else No) ≡ Open
 open_when_short sizes prefix holds fewer =

@@ -1,5 +1,5 @@
--- What a clause reads of `Written`: the sizes of its labels, which choices are true, and what it
--- says of each prefix.
+-- What contracts read of `Written`: the sizes of its labels, which choices are true, and its
+-- verdict on each prefix.
 use Rattle.std.specs.Prelude.{ℕ, List, Bool}
 use Rattle.am_universe.specs.Universe.{sizes}
 use Rattle.am_search.specs.Judge.{IsJudge}
@@ -12,11 +12,11 @@ use Rattle.am_case_judges.specs.FrontLaws.{is_judge_by_fronts}
 abbrev pub written_sizes : Written → List ℕ
 written_sizes judge = sizes judge.universe.now
 
--- The true choices begin with a prefix at which `Yes` is written.
+-- A choice is true if it begins with a prefix at which `Yes` is written.
 abbrev pub written_truth : Written → List ℕ → Bool
 written_truth judge c = begins_with_one judge.yes.items c
 
--- What it says of each prefix, and that so it is a judge.
+-- Its verdict on each prefix, and that it keeps the laws of a judge.
 abbrev pub written_verdict : Written → List ℕ → Verdict
 written_verdict judge =
     verdict_by_fronts (written_sizes judge) judge.yes.items judge.no.items

@@ -12,10 +12,10 @@ use am_search::{Answers, Judge, Verdict};
 use am_universe::{Choice, Universe};
 use std::alloc::Global;
 
-/// More prefixes than there are where all starts are tried.
+/// A universe with this many prefixes or more is refused.
 const MOST_PREFIXES: usize = 1_000;
 
-/// More choices than there are then.
+/// A universe that is not refused has fewer choices than this.
 const MOST_CHOICES: usize = 1_000;
 
 /// What the comparison of two judges counted.
@@ -68,8 +68,8 @@ fn add_start(items: usize, alike: &mut Alike) {
     alike.items = alike.items.saturating_add(items);
 }
 
-/// Compares what is given from a start on: at a prefix, or after a whole choice. It answers how
-/// much that is.
+/// Compares the choices that two judges give from a start on: at a prefix, or after a whole choice.
+/// Returns how many there are.
 fn compare_at<J: Judge, K: Judge>(
     alloc: Global,
     universe: &Universe,
@@ -92,7 +92,7 @@ fn compare_at<J: Judge, K: Judge>(
     Err(Problem::differs(alloc, part.as_str(), wanted.as_bytes(), found.as_bytes()))
 }
 
-/// What is given over a judge from a start on.
+/// The choices that a search over a judge gives from a start on.
 fn given_from<J: Judge>(
     alloc: Global,
     universe: &Universe,

@@ -34,7 +34,7 @@ pub fn completion(universe: &Universe, prefix: &Choice, number: usize) -> Choice
     choice
 }
 
-/// Returns the verdict of a prefix of whose `count` completions `matched` are true.
+/// Returns the verdict of a prefix that has `count` completions, of which `matched` are true.
 pub fn verdict_of_count(matched: usize, count: usize) -> Verdict {
     if matched == count {
         Verdict::Yes

@@ -1,5 +1,5 @@
-//! The verdicts of cubes: those of a list of matchers at a prefix, and those that its completions
-//! give.
+//! The verdict of the cube of a list of matchers at a prefix, and the one that the completions of
+//! the prefix give.
 
 use crate::alike::check_verdict;
 use crate::completions::{completion, count_completions, verdict_of_count};
@@ -40,7 +40,7 @@ pub fn verdict_text(verdict: Verdict) -> &'static str {
     }
 }
 
-/// What the cube of a list says of a prefix, in each of its ways to say it.
+/// The verdict of the cube of a list at a prefix. Fails if `judge`, `may` and `must` do not agree.
 fn verdict_at(
     alloc: Global,
     universe: &Universe,
@@ -57,7 +57,8 @@ fn verdict_at(
     Ok(verdict)
 }
 
-/// What the completions of a prefix come to, one by one; `None` where they are too many to count.
+/// The verdict that the completions of a prefix give, counted one by one, or `None` if there are
+/// too many to count.
 fn counted(
     alloc: Global,
     universe: &Universe,

@@ -8,7 +8,7 @@ use am_search::Verdict;
 use am_universe::{Choice, Universe};
 use std::alloc::{AllocError, Global};
 
-/// A prefix, and what is said of it.
+/// A prefix, and the verdict on it.
 #[derive(Clone, Copy)]
 struct Said {
     prefix: Choice,

@@ -14,7 +14,7 @@ pub fn prefix_of(alloc: Global, universe: &Universe, positions: &str) -> Result<
     ensures { IfOk result (λ prefix. IsTrue (admits (sizes universe.now) prefix)) }
 {
     let token = format!(in alloc; "s1:{positions}")?;
-    // A token of this form is read whatever the fingerprint.
+    // A token of this form is accepted whatever the fingerprint is.
     let Ok(start) = parse_token(token.as_str(), universe, &[0; 16]) else {
         return Err(Problem::about(alloc, "no prefix", positions.as_bytes()));
     };
@@ -36,7 +36,7 @@ pub fn add_positions(choice: &Choice, text: &mut String) -> Result<(), AllocErro
     Ok(())
 }
 
-/// Adds the positions of each of some choices, after a blank each.
+/// Adds a blank and the positions of each of some choices.
 pub fn add_each(choices: &[Choice], text: &mut String) -> Result<(), AllocError> {
     for choice in choices {
         text.push(' ')?;

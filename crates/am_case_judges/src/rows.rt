@@ -29,7 +29,7 @@ impl Model for KeptRow {
 }
 
 impl KeptRow {
-    /// A copy of a row of a matcher over the labels of a universe. Fails only if memory runs out.
+    /// Copies a row of a matcher over the labels of a universe. Fails only if memory runs out.
     fn of(alloc: Global, universe: &Universe, row: &Row) -> Result<KeptRow, AllocError>
         requires { IsRow universe.now row.now }
         ensures same { IfOk result (λ kept. kept ≡ row.now) }
@@ -58,8 +58,8 @@ impl KeptRow {
     }
 }
 
-/// The rows of a list of matchers. A whole choice matches the list if every row holds. Of a prefix
-/// that is not whole they say nothing.
+/// The rows of a list of matchers. A whole choice matches the list if every row holds. The rows say
+/// nothing about a prefix that is not whole.
 #[derive(Drop)]
 pub struct Rows {
     rows: Vec<KeptRow>,
@@ -89,7 +89,7 @@ impl JudgedList for Rows {
         rows: &[Row],
         more: &[Row],
     ) -> Result<Rows, AllocError> {
-        // What `len` promises tells the proof that the names of the labels are distinct.
+        // The contract of `len` tells the proof that the names of the labels are distinct.
         prove!(universe.len() <= MAX_LABELS);
         let mut kept = kept_rows(alloc, universe, rows)?;
         let mut others = kept_rows(alloc, universe, more)?;
@@ -113,7 +113,7 @@ impl JudgedList for Rows {
         self.hold_at(prefix)
     }
 
-    // The plain judge leaves nothing out.
+    // The plain judge does not look for lists that are never true, or for equal lists.
     fn is_never(&self) -> bool {
         false
     }
@@ -132,8 +132,8 @@ impl JudgedList for Rows {
     }
 }
 
-/// How many truths a row of a matcher has: one for each value of its label, and one alone where the
-/// label is not declared.
+/// The number of truths in a row of a matcher: one for each value of its label, or a single one if
+/// the label is not declared.
 fn truth_count(universe: &Universe, row: &Row) -> usize
     requires { IsRow universe.now row.now }
     ensures { result ≡ length row.now.truths }

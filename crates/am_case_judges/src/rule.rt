@@ -1,8 +1,8 @@
 //! The rule of the search, applied to the list of all prefixes.
 //!
-//! In the order of a dictionary a prefix comes before what begins with it. In this order, and from
-//! a start on, those prefixes are judged whose proper prefixes are all `Open`, and with which a
-//! choice from the start on begins. The true choices from the start on are given.
+//! In the order of a dictionary, a prefix comes before what begins with it. A search from a start
+//! judges, in this order, each prefix whose proper prefixes are all `Open` and with which a choice
+//! from the start on begins. It gives the true choices from the start on.
 
 use crate::prefixes::prefixes_of;
 use crate::written::{Written, begins_with};
@@ -11,10 +11,10 @@ use am_search::Verdict;
 use am_universe::Choice;
 use std::alloc::{AllocError, Global};
 
-/// The most prefixes of which all starts are tried.
+/// A universe with this many prefixes or more is refused.
 const MOST_PLACES: usize = 200;
 
-/// A prefix, and its place among all prefixes of a universe in the order of a dictionary.
+/// An item of the list of all prefixes of a universe, which is in the order of a dictionary.
 #[derive(Clone, Copy)]
 pub struct Place {
     pub prefix: Choice,
@@ -22,11 +22,11 @@ pub struct Place {
     verdict: Verdict,
     /// Whether all its proper prefixes are `Open`.
     is_reached: bool,
-    /// The place of the last choice that begins with it.
+    /// The position in the list of the last choice that begins with it.
     last: usize,
 }
 
-/// Returns all prefixes, in the order of a dictionary.
+/// Returns all prefixes, in the order of a dictionary. Fails if there are too many.
 pub fn places_of(alloc: Global, judge: &Written<'_>) -> Result<Vec<Place>, Problem> {
     let prefixes = prefixes_of(alloc, judge.universe(), MOST_PLACES)?;
     let mut places = Vec::with_capacity(alloc, prefixes.len())?;
@@ -62,7 +62,7 @@ fn last_below(prefixes: &[Choice], prefix: &Choice) -> usize {
     last
 }
 
-/// Returns the true choices at a place or after it.
+/// Returns the true choices at a position of the list or after it.
 pub fn true_from(alloc: Global, places: &[Place], from: usize) -> Result<Vec<Choice>, AllocError> {
     let mut choices = Vec::new(alloc);
     for (i, place) in places.iter().enumerate() {
@@ -73,7 +73,7 @@ pub fn true_from(alloc: Global, places: &[Place], from: usize) -> Result<Vec<Cho
     Ok(choices)
 }
 
-/// Returns the prefixes that are judged for the choices at a place or after it.
+/// Returns the prefixes that are judged for the choices at a position of the list or after it.
 pub fn judged_from(
     alloc: Global,
     places: &[Place],

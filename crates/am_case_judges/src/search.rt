@@ -12,7 +12,7 @@ use am_search::{Answers, Start, State, first};
 use am_universe::{Choice, Universe};
 use std::alloc::Global;
 
-/// The most answers that a case may have.
+/// More answers than a case may have.
 const MOST_ANSWERS: usize = 1_000;
 
 /// Returns what a search gives and judges. The text is a judge and a start: ` at ` and a prefix, or
@@ -41,8 +41,9 @@ struct Seen {
 }
 
 impl Seen {
-    /// `given:` and the choices, and `; judged:` and the prefixes, each behind a blank, or their
-    /// number, where they are counted; and `; stopped at ` and the prefix, if there is one.
+    /// Returns `given:` and the choices, and then `; judged:` and the prefixes, each after a blank.
+    /// If `is_counted`, the number of prefixes takes their place. At the end, `; stopped at ` and a
+    /// prefix follow if the search stopped.
     fn text(&self, alloc: Global, is_counted: bool) -> Result<Vec<u8>, Problem> {
         let mut text = given_text(alloc, self.given.as_slice())?;
         text.push_str("; judged:")?;
@@ -60,7 +61,7 @@ impl Seen {
     }
 }
 
-/// What a search over a judge gives and judges from where it begins.
+/// Reads a judge and where the search begins, and returns what the search gives and judges.
 fn seen_over(alloc: Global, universe: &Universe, text: &[u8]) -> Result<Seen, Problem> {
     if let Some(judge) = text.strip_suffix(b" first") {
         let judge = judge_of(alloc, universe, utf8(alloc, judge)?)?;
@@ -76,7 +77,7 @@ fn seen_over(alloc: Global, universe: &Universe, text: &[u8]) -> Result<Seen, Pr
     }
 }
 
-/// What stands before ` steps `, and the budget behind it, if there is one.
+/// The text before ` steps `, and the budget after it, if there is one.
 fn steps_of(alloc: Global, text: &[u8]) -> Result<(&[u8], Option<u64>), Problem> {
     match split_at_last(text, b" steps ") {
         Some((text, steps)) => Ok((text, Some(read_number(alloc, steps, "no number of steps")?))),
@@ -84,7 +85,7 @@ fn steps_of(alloc: Global, text: &[u8]) -> Result<(&[u8], Option<u64>), Problem>
     }
 }
 
-/// A judge, the positions of a start, and whether it is after them.
+/// The text of a judge, the positions of a start, and whether the start is after them.
 fn parts_of(alloc: Global, text: &[u8]) -> Result<(&[u8], &[u8], bool), Problem> {
     if let Some((judge, positions)) = split_at_last(text, b" at ") {
         return Ok((judge, positions, false));
@@ -123,7 +124,8 @@ fn seen_from(
     Err(Problem::said(alloc, "more answers than a case may have"))
 }
 
-/// The next answer, if there is one. The state has to say the same, and the end has to last.
+/// The next answer, if there is one. Fails if the state does not agree, or if the end does not
+/// last.
 fn next_answer(
     alloc: Global,
     answers: &mut Answers<'_, Written<'_>>,
@@ -139,7 +141,7 @@ fn next_answer(
     Ok(answer)
 }
 
-/// Whether answers have ended or stopped, and it stays so.
+/// Whether the answers have ended or stopped, and stay so when `next` is called again.
 fn is_over(answers: &mut Answers<'_, Written<'_>>) -> bool {
     let state = answers.state();
     state != State::Running && answers.next().is_none() && answers.state() == state
@@ -153,7 +155,7 @@ fn stop_of(state: State) -> Option<Choice> {
     }
 }
 
-/// What is given and judged where the first answer alone is asked for.
+/// What a search for the first answer alone gives and judges.
 fn seen_first(alloc: Global, judge: &Written<'_>) -> Result<Seen, Problem> {
     let mut given = Vec::new(alloc);
     if let Some(choice) = first(judge) {
@@ -167,7 +169,8 @@ fn seen_first(alloc: Global, judge: &Written<'_>) -> Result<Seen, Problem> {
     })
 }
 
-/// Compares what is found from each start on with what the rule says.
+/// Compares what a search finds from each start with what the rule says, and returns the number of
+/// starts.
 fn check_every_start(alloc: Global, judge: &Written<'_>) -> Result<Vec<u8>, Problem> {
     let places = places_of(alloc, judge)?;
     let mut count = 0_usize;
@@ -183,7 +186,8 @@ fn check_every_start(alloc: Global, judge: &Written<'_>) -> Result<Vec<u8>, Prob
     Ok(text.into_bytes())
 }
 
-/// Compares what is found from a start on: at or after the prefix that stands at `i`.
+/// Compares what a search finds from one start with what the rule says. The start is at or after
+/// `prefix`, which is at position `i`.
 fn check_start(
     alloc: Global,
     judge: &Written<'_>,

@@ -26,8 +26,8 @@ pub struct Written<'u> {
     universe: &'u Universe,
     yes: Vec<Choice>,
     no: Vec<Choice>,
-    /// The prefixes that it was asked about, in order. Room for them is taken beforehand, since a
-    /// judge takes no memory.
+    /// The prefixes that it was asked about, in order. Memory for them is taken in advance, since
+    /// judging takes none.
     judged: RefCell<Vec<Choice>>,
     /// Whether there were more than there is room for.
     lost: Cell<bool>,
@@ -46,7 +46,7 @@ impl<'u> Written<'u> {
     ) -> Result<Written<'u>, AllocError>
         ensures sizes { IfOk result (λ judge. written_sizes judge ≡ sizes universe.now) }
     {
-        // What `len` promises tells the proof that the sizes are such as a judge may have.
+        // The contract of `len` tells the proof that the sizes are such as a judge may have.
         prove!(universe.len() <= MAX_LABELS);
         Ok(Written {
             universe,

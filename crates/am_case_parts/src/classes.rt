@@ -8,13 +8,13 @@ use am_labels::{Matcher, Matchers, PreparedMatchers, parse_matchers};
 use am_universe::LabelSet;
 use std::alloc::Global;
 
-/// How many texts are held against the classes that no one typed.
+/// How many generated texts are compared with the classes.
 const TEXTS: usize = 500;
 
 /// The seed of these texts.
 const SEED: u64 = 1;
 
-/// More classes than these are counted alone.
+/// The most classes that are listed. If there are more, only their number is given.
 const MOST_TOLD: usize = 32;
 
 /// Returns for each class of texts over an alphabet that a list of matchers cannot tell apart which
@@ -42,7 +42,7 @@ pub fn of_classes(alloc: Global, alphabet: Alphabet, text: &str) -> Result<Vec<u
     Ok(classes_text(alloc, truths.as_slice())?)
 }
 
-/// Whether the classes over ASCII are among these.
+/// Checks that the classes over ASCII are among these.
 fn check_ascii(alloc: Global, matchers: &[&Matcher], truths: &[String]) -> Result<(), Problem> {
     let Some(found) = classes(alloc, Alphabet::Ascii, matchers)? else {
         return Err(Problem::said(
@@ -59,7 +59,7 @@ fn check_ascii(alloc: Global, matchers: &[&Matcher], truths: &[String]) -> Resul
     Ok(())
 }
 
-/// What the matchers are on each of the texts that stand for the classes, in order.
+/// Which matchers are true of each text that stands for a class, in sorted order.
 fn truths_of_classes(
     alloc: Global,
     alphabet: Alphabet,
@@ -83,7 +83,7 @@ fn truths_of_classes(
     Ok(truths)
 }
 
-/// A list of each matcher alone.
+/// For each matcher, a list of this matcher alone.
 fn lists_of(alloc: Global, matchers: &[&Matcher]) -> Result<Vec<Matchers>, Problem> {
     let mut lists = Vec::new(alloc);
     for matcher in matchers {
@@ -94,7 +94,7 @@ fn lists_of(alloc: Global, matchers: &[&Matcher]) -> Result<Vec<Matchers>, Probl
     Ok(lists)
 }
 
-/// For each matcher, `1` where it is true of a text, and else `0`.
+/// For each matcher, `1` if it is true of a text, and else `0`.
 fn truths_on(
     alloc: Global,
     deciders: &mut Vec<(&str, PreparedMatchers<'_>)>,
@@ -109,7 +109,7 @@ fn truths_on(
     Ok(truths)
 }
 
-/// The label set that has a text for a label, and no other label.
+/// The label set that gives this label this text as its value, and has no other label.
 fn set_with(alloc: Global, name: &str, text: &str) -> Result<LabelSet, Problem> {
     let mut set = LabelSet::empty(alloc);
     if !text.is_empty() {
@@ -120,7 +120,7 @@ fn set_with(alloc: Global, name: &str, text: &str) -> Result<LabelSet, Problem> 
     Ok(set)
 }
 
-/// Whether a text is over an alphabet.
+/// Checks that a text is over an alphabet.
 fn check_over(alloc: Global, alphabet: Alphabet, text: &str) -> Result<(), Problem> {
     if alphabet.has(text) {
         return Ok(());
@@ -132,7 +132,7 @@ fn check_over(alloc: Global, alphabet: Alphabet, text: &str) -> Result<(), Probl
     ))
 }
 
-/// Whether no two classes are the same. They are in order.
+/// Checks that no two classes are the same. The classes are sorted.
 fn check_apart(alloc: Global, truths: &[String]) -> Result<(), Problem> {
     for i in 1..truths.len() {
         if truths.get(i.saturating_sub(1)) == truths.get(i) {
@@ -142,7 +142,8 @@ fn check_apart(alloc: Global, truths: &[String]) -> Result<(), Problem> {
     Ok(())
 }
 
-/// Whether each of many texts over an alphabet is alike to one that stands for a class.
+/// Checks that each of many generated texts over an alphabet is alike to one that stands for a
+/// class.
 fn check_covered(
     alloc: Global,
     alphabet: Alphabet,
@@ -163,7 +164,7 @@ fn check_covered(
     Ok(())
 }
 
-/// Which matchers are true of each class; or how many classes there are, where they are many.
+/// Which matchers are true of each class, or only the number of classes if there are many.
 fn classes_text(alloc: Global, truths: &[String]) -> Result<Vec<u8>, Problem> {
     let count = truths.len();
     if count > MOST_TOLD {

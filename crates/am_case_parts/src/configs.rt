@@ -39,7 +39,7 @@ fn write_config(alloc: Global, config: &Config, out: &mut Out<Vec<u8>>) -> Resul
     Ok(())
 }
 
-/// Writes the name of a receiver, behind a blank.
+/// Writes a blank and the name of a receiver.
 fn write_receiver(config: &Config, receiver: usize, out: &mut Out<Vec<u8>>) -> Result<(), Kind> {
     put_str(out, " ")?;
     if receiver < config.receivers() {
@@ -64,7 +64,7 @@ fn write_route(
     write_matchers(route.matchers(), out)
 }
 
-/// Writes the two sides of a rule, and the names of the labels that have to be equal, in quotes.
+/// Writes the two sides of a rule, and the names of the labels that must be equal, in quotes.
 fn write_rule(rule: &Rule, out: &mut Out<Vec<u8>>) -> Result<(), Kind> {
     put_str(out, "; rule ")?;
     write_matchers(rule.source(), out)?;

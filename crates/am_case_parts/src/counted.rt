@@ -16,7 +16,7 @@ pub struct CountedPlan<'a, 'p> {
 }
 
 impl<'a, 'p> CountedPlan<'a, 'p> {
-    /// Makes a counted plan that was not asked yet.
+    /// Makes a counted plan that has not been asked yet.
     pub fn of(plan: &'a Plan<'p>) -> CountedPlan<'a, 'p>
         ensures plan { result.plan.now ≡ plan.now }
     {

@@ -29,7 +29,7 @@ const ABSENT: u16 = u16::MAX;
 /// More answers than a case may have.
 const MOST_ANSWERS: usize = 100_000;
 
-/// What the inputs of a question say, at an instant, if one is given.
+/// Reads the inputs of a question, with an instant if one is given.
 fn inputs_of(
     alloc: Global,
     over: Over<'_>,
@@ -73,9 +73,10 @@ fn verdict_by_plan(
     verdict_at(alloc, inputs.space.universe(), &plan, prefix)
 }
 
-/// Compares a verdict with the judge that looks at whole choices: at one of them it says the same,
-/// and before that it is open. What a list in braces is known to be is all that can be known, and
-/// is counted, where no label set is impossible.
+/// Compares the verdict of a plan with the judge of whole choices. On a whole choice, both must say
+/// the same. On any other prefix, the judge of whole choices must say `Open`. If the question is
+/// one list in braces and no label set is impossible, the verdict must also be the one that is
+/// counted over the completions.
 fn check_whole(
     alloc: Global,
     inputs: &AcceptedInputs,
@@ -96,7 +97,7 @@ fn check_whole(
             found,
         )?;
     }
-    // Of a list together with impossible ones less may be known than holds.
+    // If a list is joined with impossible ones, the plan may know less than the count shows.
     if let Question::Braces(_) = question {
         if let Some(wanted) = counted_verdict(alloc, universe, &whole, prefix)? {
             check_verdict(alloc, "counted", wanted, verdict)?;
@@ -105,7 +106,7 @@ fn check_whole(
     Ok(())
 }
 
-/// Checks that no label set ends at a route that is not there, or enters it.
+/// Checks that no label set ends at a route that does not exist, or enters it.
 fn check_absent(alloc: Global, inputs: &AcceptedInputs, prefix: &Choice) -> Result<(), Problem> {
     let absent = Path::root().child(ABSENT);
     let (ends, enters) = (Question::ends(absent), Question::enters(absent));
@@ -148,7 +149,7 @@ pub fn of_count(alloc: Global, over: Over<'_>, text: &[u8]) -> Result<Vec<u8>, R
     )
 }
 
-/// Counts what a page gives, or what is given within a budget; or the first answer alone.
+/// Counts what a page gives, or what a search gives within a budget, or the first answer alone.
 fn count_page(
     alloc: Global,
     over: Over<'_>,
@@ -179,7 +180,7 @@ fn count_answers(
     count_from(alloc, &counted, inputs.start, steps)
 }
 
-/// Counts what is given from a start on, and how often the plan is asked for it.
+/// Counts what a search gives from a start on, and how often it asks the plan.
 fn count_from(
     alloc: Global,
     counted: &CountedPlan<'_, '_>,
@@ -220,7 +221,7 @@ pub fn of_alike(alloc: Global, over: Over<'_>, text: &[u8]) -> Result<Vec<u8>, R
     Ok(text.into_bytes())
 }
 
-/// Compares the plan of a question with the judge that looks at whole choices.
+/// Compares the plan of a question with the judge of whole choices.
 fn compared(alloc: Global, inputs: &AcceptedInputs, question: &str) -> Result<Alike, Problem> {
     let universe = inputs.space.universe();
     let plan = Plan::new(alloc, &inputs.space, &inputs.world, &inputs.question)?;
@@ -229,17 +230,17 @@ fn compared(alloc: Global, inputs: &AcceptedInputs, question: &str) -> Result<Al
     compare(alloc, universe, &plan, &whole)
 }
 
-/// What the worlds of some seeds came to.
+/// The counts of the worlds of some seeds.
 #[derive(Clone, Copy)]
 struct Sum {
-    /// In how many of them some choices are answers, and some are not.
+    /// The number of worlds in which some choices are answers and some are not.
     mixed: usize,
     items: usize,
 }
 
 /// Compares the plan with the judge of whole choices over the generated worlds of some seeds, and
-/// returns what they count. The text is the first seed, a blank, and the number of seeds.
-/// ` impossible` after it makes some label sets impossible.
+/// returns the counts. The text is the first seed, a blank, and the number of seeds. ` impossible`
+/// after it makes some label sets impossible.
 pub fn of_generated(alloc: Global, text: &[u8]) -> Result<Vec<u8>, Problem> {
     let (text, has_impossible) = split_impossible(text);
     let (seed, count) = read_seeds(alloc, text)?;
@@ -263,7 +264,8 @@ fn add_alike(alike: &Alike, sum: &mut Sum) {
     }
 }
 
-/// Compares the judges of the world of a seed, whose texts are read as those of files are.
+/// Compares the plan with the judge of whole choices over the world of a seed. The texts of the
+/// world are read as files are.
 fn compared_at(alloc: Global, seed: u64, has_impossible: bool) -> Result<Alike, Problem> {
     let made = small_world(alloc, seed, has_impossible)?;
     let files = Files {

@@ -18,7 +18,7 @@ pub fn of_matchers(alloc: Global, text: &str) -> Result<Vec<u8>, Refusal> {
     Ok(out.into_inner())
 }
 
-/// Writes a list of matchers in braces, the values in quotes.
+/// Writes a list of matchers in braces, with the values in quotes.
 pub fn write_matchers(list: &Matchers, out: &mut Out<Vec<u8>>) -> Result<(), Kind> {
     put_str(out, "{")?;
     for i in 0..list.len() {

@@ -15,7 +15,7 @@ use am_case_texts::{Refusal, files_of};
 use am_classes::Alphabet;
 use std::alloc::Global;
 
-/// A call of the libraries, by the name that a table gives it.
+/// A call of the libraries that a table names.
 #[derive(Clone, Copy)]
 pub enum PartCall {
     Config,
@@ -74,7 +74,7 @@ const CALLS: [(&str, PartCall); 25] = [
 ];
 
 impl PartCall {
-    /// What it gives at a text, where that is not refused.
+    /// What the call gives for a text, unless it fails.
     fn answer(
         self,
         alloc: Global,

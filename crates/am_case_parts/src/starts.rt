@@ -12,7 +12,8 @@ use am_universe::{Fault, Place};
 use std::alloc::Global;
 
 /// Returns the start of a token, or the fault, for the question `any` over the universe alone.
-/// Fails if the start has neither this token nor this token in the old form.
+/// Fails if this token is neither the token that is written for the start nor that token in the old
+/// form.
 pub fn of_token(alloc: Global, universe: &[u8], token: &str) -> Result<Vec<u8>, Refusal> {
     let none = files_of(Over::universe(universe), None);
     let own = fingerprint(universe, &none, "any");

@@ -73,7 +73,7 @@ fn pairs_text(alloc: Global, pairs: &[Pair]) -> Result<Vec<u8>, Problem> {
     Ok(text.into_bytes())
 }
 
-/// What stands before a pair.
+/// The separator before a pair.
 fn before(i: usize) -> &'static str {
     if i > 0 { "; " } else { " " }
 }

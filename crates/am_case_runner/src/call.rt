@@ -60,7 +60,8 @@ pub trait Call: Copy {
         brief: bool,
     ) -> Result<Vec<u8>, Problem>;
 
-    /// Makes the call for a text over this writer. Fails if the call writes nothing.
+    /// Makes the call for a text, with this writer for its output. Fails if the call writes
+    /// nothing.
     fn written(
         self,
         alloc: Global,
@@ -69,8 +70,8 @@ pub trait Call: Copy {
         writer: Writer,
     ) -> Result<Written, Problem>;
 
-    /// Counts for this line, for each limit and budget, whether the pages have all answers between
-    /// them. Fails if the call has no pages.
+    /// Counts cases of this line: for each limit and each budget, that the pages together have all
+    /// answers. If the call has no pages, counts one wrong case.
     fn count_pages(
         self,
         alloc: Global,
@@ -81,12 +82,12 @@ pub trait Call: Copy {
     ) -> Result<(), Problem>;
 }
 
-/// The problem of a case that wants a call to write which writes nothing.
+/// The problem of a case that wants output of a call that writes nothing.
 pub fn writes_nothing(alloc: Global) -> Problem {
     Problem::said(alloc, "this table writes to no writer")
 }
 
-/// The problem of a case that wants pages of a call which has none.
+/// The problem of a case that wants pages of a call that has none.
 pub fn has_no_pages(alloc: Global) -> Problem {
     Problem::said(alloc, "this table has no pages")
 }

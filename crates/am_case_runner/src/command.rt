@@ -6,7 +6,7 @@ use am_case_files::{
 };
 use std::alloc::Global;
 
-/// What a case says of standard output, or of standard error.
+/// What a case says about standard output, or about standard error.
 #[derive(Drop)]
 pub struct Stream {
     /// What must be written to it. If nothing is said, it must be empty.
@@ -18,7 +18,7 @@ pub struct Stream {
     pub stops: bool,
 }
 
-/// A command line, and what a case says of its run.
+/// A command line, and what a case says about its run.
 #[derive(Drop)]
 pub struct Command {
     pub line: usize,
@@ -67,7 +67,7 @@ pub fn read_command(alloc: Global, texts: &[Named], item: &Item<'_>) -> Result<C
     })
 }
 
-/// Puts a command line together, whose lines end in ` \` but for the last. The answer is how many
+/// Joins the lines of a command line, each of which but the last ends with ` \`. Returns how many
 /// of the lines below the first belong to it.
 fn whole_line(head: &[u8], body: &[Line<'_>], line: &mut Vec<u8>) -> Result<usize, Problem> {
     line.extend_from_slice(head)?;
@@ -101,7 +101,8 @@ impl Stream {
         }
     }
 
-    /// Takes what is said of its writer; `false` where it is none of the words for it.
+    /// Takes what a line says about its writer. Returns `false` if the words say nothing about a
+    /// writer.
     fn take_writer(&mut self, words: &[u8]) -> bool {
         if words == b"stops at each call".as_slice() {
             self.stops = true;
@@ -123,7 +124,7 @@ impl Stream {
 }
 
 impl Command {
-    /// Takes an item that says more of the run. Returns `false` for any other item.
+    /// Takes an item that says more about the run. Returns `false` for any other item.
     pub fn take(
         &mut self,
         alloc: Global,
@@ -203,7 +204,7 @@ impl Command {
         }
     }
 
-    /// Whether the case says anything of the outcome of the run.
+    /// Whether the case says anything about the outcome of the run.
     pub fn has_expectation(&self) -> bool {
         let is_said = self.out.wanted.is_some() || self.err.wanted.is_some();
         is_said || self.status.is_some() || self.notes.is_some()
@@ -234,7 +235,7 @@ impl Command {
     }
 }
 
-/// Takes what a line says, once.
+/// Stores what a line says. Fails if that was said before.
 fn say_once<T: Drop>(
     alloc: Global,
     place: &mut Option<T>,

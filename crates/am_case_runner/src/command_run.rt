@@ -10,7 +10,8 @@ use std::io::Write;
 use std::rt::Files;
 
 impl<'s, R: Files + AllocGlobal, P: Program> Stage<'s, R, P> {
-    /// Puts the digits of the command's own inputs in the place of each `H` of a token.
+    /// Replaces `H` in the tokens of a command, and of the output that is wanted, by the digits of
+    /// the command's own inputs.
     fn put_digits(&self, command: &mut Command) -> Result<(), Problem> {
         let alloc = self.alloc();
         let is_wanted = match &command.out.wanted {
@@ -60,7 +61,7 @@ impl<'s, R: Files + AllocGlobal, P: Program> Stage<'s, R, P> {
         Ok(())
     }
 
-    /// Runs the words, as on a terminal where notes are wanted.
+    /// Runs the words, as on a terminal if notes are wanted. Fails if memory ran out.
     fn run(&self, command: &Command, manner: Manner, error_manner: Manner) -> Result<Ran, Problem> {
         let mut out = Writer::new(self.alloc(), manner);
         let mut err = Writer::new(self.alloc(), error_manner);
@@ -71,7 +72,8 @@ impl<'s, R: Files + AllocGlobal, P: Program> Stage<'s, R, P> {
         Ok(Ran { status, out, err })
     }
 
-    /// Runs it again for each write that it makes, which fails or takes nothing.
+    /// Runs the command twice more for each write to standard output: once the write fails, and
+    /// once it takes nothing.
     fn check_stops(&self, command: &Command, calls: usize) -> Result<(), Problem> {
         let alloc = self.alloc();
         let Some(Wanted::Whole(page)) = &command.out.wanted else {
@@ -90,7 +92,7 @@ impl<'s, R: Files + AllocGlobal, P: Program> Stage<'s, R, P> {
         Ok(())
     }
 
-    /// Runs it again for each write on standard error, which fails.
+    /// Runs the command again for each write to standard error, which then fails.
     fn check_error_stops(&self, command: &Command, calls: usize) -> Result<(), Problem> {
         let alloc = self.alloc();
         let Some(Wanted::Whole(line)) = &command.err.wanted else {
@@ -105,7 +107,7 @@ impl<'s, R: Files + AllocGlobal, P: Program> Stage<'s, R, P> {
         Ok(())
     }
 
-    /// Runs it with a file of the system as its standard output.
+    /// Runs the command with a file of the system as its standard output.
     fn check_on_device(&self, command: &Command, path: &str) -> Result<(), Problem> {
         let alloc = self.alloc();
         let is_looked_at = command.out.wanted.is_some() || command.out.writes.is_some();
@@ -124,7 +126,7 @@ impl<'s, R: Files + AllocGlobal, P: Program> Stage<'s, R, P> {
         check_status(alloc, command.wanted_status(), status)
     }
 
-    /// Runs the words, as on a terminal where notes are wanted, and answers the exit status.
+    /// Runs the words, as on a terminal if notes are wanted, and returns the exit status.
     fn run_words<W: Write + Drop>(&self, command: &Command, out: &mut W, err: &mut Writer) -> u8 {
         let (words, notes) = (command.words.as_slice(), command.notes.is_some());
         self.program.run(self, words, out, err, notes)

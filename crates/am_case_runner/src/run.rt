@@ -7,10 +7,10 @@ use std::process::ExitCode;
 use std::rt::{Files, Runtime};
 use std::{env, fs};
 
-/// The folder of operators' files that cases and documents share.
+/// The folder of input files that cases and documents share. It has no files of cases.
 const SHARED: &str = "examples";
 
-/// What all files came to.
+/// The counts of all files.
 #[derive(Drop)]
 struct Totals {
     cases: usize,
@@ -54,7 +54,7 @@ fn run_all<R: Runtime + AllocGlobal, P: Program>(
     say(rt, line.as_str())
 }
 
-/// The names of the arguments; where there are none, those of the folder.
+/// The names that the arguments give or, if there are no arguments, those of the folder.
 fn names<R: Runtime + AllocGlobal>(rt: &R) -> Result<Vec<String>, Problem> {
     let (alloc, unread) = (rt.alloc(), "the arguments are not UTF-8");
     let arguments = env::args(rt).map_err(|error| Problem::of(alloc, &error, unread))?;
@@ -87,7 +87,7 @@ fn add_name<R: AllocGlobal>(rt: &R, name: &str, names: &mut Vec<String>) -> Resu
     Ok(())
 }
 
-/// Runs a file, or the case of one of its lines, and says what it came to.
+/// Runs a file, or the case of one of its lines, and prints the outcome.
 fn run_named<R: Files + Print + AllocGlobal, P: Program>(
     rt: &R,
     program: &P,

@@ -10,14 +10,14 @@ use std::alloc::Global;
 use std::fs;
 use std::rt::Files;
 
-/// What a file of cases has said so far.
+/// What has been read of a file of cases so far.
 #[derive(Drop)]
 struct Script<'a, 'r, R, P, C> {
     host: &'r R,
     program: &'r P,
     texts: Vec<Named>,
     files: Vec<Named>,
-    /// What is not run yet, since lines that follow may say more of it.
+    /// What has not been run yet, since later lines may say more about it: a command or a table.
     command: Option<Command>,
     table: Option<(usize, Table<'a, C>)>,
 }
@@ -72,7 +72,7 @@ fn define_all(
     Ok(())
 }
 
-/// Takes the text or the file that an item defines; `false` where it defines none.
+/// Takes the text or the file that an item defines. Returns `false` if it defines neither.
 fn define(
     alloc: Global,
     item: &Item<'_>,
@@ -135,8 +135,8 @@ where
         self.begin(item)
     }
 
-    /// Takes an item that says more of the command or of the table before it; `false` where it does
-    /// not.
+    /// Takes an item that says more about the command or the table before it. Returns `false` for
+    /// any other item.
     fn take_more(&mut self, item: &Item<'a>) -> Result<bool, Problem> {
         let alloc = self.host.alloc();
         if let Some(command) = &mut self.command {
@@ -180,7 +180,7 @@ where
         define_all(alloc, file.as_slice(), &mut self.texts, &mut self.files)
     }
 
-    /// Runs what is not run yet.
+    /// Runs what has not been run yet.
     fn run_pending(&mut self, tally: &mut Tally) -> Result<(), Problem> {
         if let Some(mut command) = self.command.take() {
             if tally.is_asked_for(command.line) {
@@ -203,7 +203,7 @@ where
     }
 }
 
-/// Takes an item that says more of a table; `false` where it does not.
+/// Takes an item that says more about a table. Returns `false` for any other item.
 fn take_table<'a, C: Call>(
     alloc: Global,
     texts: &[Named],

@@ -1,5 +1,5 @@
-//! A program and the files that it can read: those of the file of cases, and else those of the
-//! system.
+//! A program and the files that it can read: those that the file of cases defines, and otherwise
+//! those of the system.
 
 use am_case_files::{Named, text_named};
 use std::alloc::{Allocator, Global};
@@ -8,7 +8,7 @@ use std::io;
 use std::io::{Cursor, ErrorKind, Read, Seek, SeekFrom, Write};
 use std::rt::Files;
 
-/// A program, and the files of a file of cases, over those of the system.
+/// A program, and the files that a file of cases defines. Other files are those of the system.
 #[derive(Drop)]
 pub struct Stage<'s, R, P> {
     pub host: &'s R,
@@ -16,7 +16,7 @@ pub struct Stage<'s, R, P> {
     pub files: &'s [Named],
 }
 
-/// An open file: one of the file of cases, or one of the system.
+/// An open file: one that the file of cases defines, or one of the system.
 #[derive(Drop)]
 pub enum Opened<'s, F> {
     Shown(Cursor<&'s [u8]>),

@@ -1,4 +1,4 @@
-//! What a call writes, over writers that stop.
+//! What a call writes to writers that stop.
 
 use crate::call::{Call, End, Written};
 use crate::table::{Heading, placed};
@@ -33,8 +33,8 @@ pub fn check_writers<C: Call>(
     Ok(())
 }
 
-/// Whether the call was the last, a part of the page went out, and the failed write is what is
-/// answered.
+/// Whether the failed write was the last one, only a proper prefix of the page went out, and the
+/// call failed because of that write.
 fn is_cut_short(stopped: &Written, call: usize, page: &[u8]) -> bool {
     matches!(stopped.end, End::Stopped)
         && stopped.writer.calls == call

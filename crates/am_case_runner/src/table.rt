@@ -7,12 +7,12 @@ use am_case_files::{
 };
 use std::alloc::Global;
 
-/// A line that names a call: what is put around a text before it is handed in, over which files,
-/// and the pointer of the text.
+/// A line that names a call: what is put around a text before the call gets it, the files that the
+/// call is over, and the pointer of the text.
 #[derive(Drop)]
 pub struct Heading<C> {
     pub call: C,
-    /// What is put around a text: before it, after it, and between its copies if it is handed in
+    /// What is put around a text: before it, after it, and between its copies if the call gets it
     /// more than once.
     round: Vec<Vec<u8>>,
     /// The universe file that the call is over.
@@ -38,7 +38,7 @@ impl<C> Heading<C> {
     }
 }
 
-/// What is handed in for the lines of a table.
+/// What the call gets for the lines of a table.
 #[derive(Clone, Copy)]
 pub enum Mode {
     /// Each text.
@@ -53,7 +53,7 @@ pub enum Mode {
     Pages,
 }
 
-/// The modes but the plain one, by their words.
+/// All modes but the plain one, by their words.
 const MODES: [(&str, Mode); 4] = [
     ("each proper prefix", Mode::Prefixes),
     ("one by one, and two by two", Mode::Pairs),
@@ -94,7 +94,7 @@ impl<'a, C> Table<'a, C> {
     }
 }
 
-/// A line cut into the text and what is given there, with what their inserts stand for.
+/// A line, cut into its text and the result that is wanted. All inserts are replaced.
 #[derive(Drop)]
 struct Wanted {
     number: usize,
@@ -135,7 +135,8 @@ pub fn read_heading<C: Call>(
     }))
 }
 
-/// What stands before a word, and the file that stands behind it, where a line has the word.
+/// The part of a line before a word and the file after it, if the line was cut at the word.
+/// Otherwise the whole line, and no file.
 fn cut_file<'a>(
     alloc: Global,
     texts: &[Named],
@@ -148,7 +149,7 @@ fn cut_file<'a>(
     }
 }
 
-/// The parts of a template, cut at each `%`; a line without a template has the text alone.
+/// The parts of a template, cut at each `%`. Without a template, the text stands alone.
 fn round_the_text(
     alloc: Global,
     texts: &[Named],
@@ -169,7 +170,7 @@ fn round_the_text(
     Ok(round)
 }
 
-/// What stands before a word and behind it, where a line has the word: at its beginning, or else
+/// The parts of a line before and after a word, if the line has the word: at its beginning, or else
 /// between blanks.
 fn cut_behind<'a>(line: &'a [u8], first: &[u8], inner: &[u8]) -> Option<(&'a [u8], &'a [u8])> {
     match line.strip_prefix(first) {
@@ -268,7 +269,8 @@ fn run_prefixes<C: Call>(
     Ok(())
 }
 
-/// Runs each two lines of different stages, in both orders: the earlier stage's result is given.
+/// Runs each two lines of different stages together, in both orders. The result must be that of the
+/// earlier stage.
 fn run_pairs<C: Call>(
     alloc: Global,
     heading: &Heading<C>,
@@ -320,7 +322,7 @@ pub fn placed<C>(alloc: Global, heading: &Heading<C>, text: &[u8]) -> Result<Vec
     Ok(whole)
 }
 
-/// Whether the call gives what is wanted.
+/// Checks that the call gives what is wanted.
 fn check<C: Call>(
     alloc: Global,
     heading: &Heading<C>,
@@ -340,7 +342,8 @@ fn check<C: Call>(
     Err(Problem::differs(alloc, "result", wanted.as_slice(), found))
 }
 
-/// A result with its pointer seen from the whole file.
+/// A result whose pointer begins at the whole file: the pointer of the text comes before it. A
+/// result `ok` has no pointer.
 fn seen_from(alloc: Global, at: &[u8], wanted: &[u8]) -> Result<Vec<u8>, Problem> {
     if at.is_empty() || wanted == b"ok".as_slice() || wanted.starts_with(b"ok: ") {
         return Ok(Vec::from_slice(alloc, wanted)?);

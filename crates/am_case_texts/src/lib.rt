@@ -1,7 +1,7 @@
 //! What a case asks for, and what it gives, as a text.
 //!
 //! Tables that call the libraries and tables that call the commands are read and answered in the
-//! same words. These are here, below both, so that the two are proved side by side.
+//! same way. What they share is here, below both, so that the two are proved side by side.
 #![tactic(auto)]
 
 // What is asked for.

@@ -17,13 +17,13 @@ pub enum Refusal {
 }
 
 impl Refusal {
-    /// Returns what the case gives then: what the program writes of a fault, or the word for a
+    /// Returns what the case gives then: what the program writes about a fault, or the word for a
     /// kind.
     pub fn text(self, alloc: Global) -> Result<Vec<u8>, Problem> {
         match self {
             Refusal::Wrong(problem) => Err(problem),
             Refusal::Fault(fault) => fault_behind(alloc, b"", &fault),
-            // What is written here goes to memory, so memory ran out where that failed.
+            // All that is written here goes to memory, so a failed write means that memory ran out.
             Refusal::Kind(Kind::Memory | Kind::Write) => Err(Problem::Memory),
             Refusal::Kind(kind) => told(alloc, kind.text()),
         }

@@ -14,7 +14,7 @@ pub fn told(alloc: Global, words: &str) -> Result<Vec<u8>, Problem> {
 /// line feed.
 pub fn fault_behind(alloc: Global, before: &[u8], fault: &Fault) -> Result<Vec<u8>, Problem> {
     if matches!(fault.kind, Kind::Memory | Kind::Write) {
-        // What is written here goes to memory.
+        // All that is written here goes to memory, so a failed write means that memory ran out.
         return Err(Problem::Memory);
     }
     let line = line_of(alloc, fault)?;
@@ -39,7 +39,7 @@ pub fn written_text(out: Out<Vec<u8>>, outcome: Result<(), Kind>) -> Result<Vec<
     }
 }
 
-/// The problem of generated texts that were refused.
+/// The problem that a call failed with this fault, though it must not fail.
 pub fn made_refused(alloc: Global, fault: &Fault) -> Problem {
     match fault_behind(alloc, b"", fault) {
         Ok(fault) => Problem::about(alloc, "refused", fault.as_slice()),
@@ -60,7 +60,7 @@ pub fn set_of_text(alloc: Global, text: &[u8]) -> Result<LabelSet, Problem> {
     set.map_err(|kind| not_accepted(alloc, kind, "no label set", text))
 }
 
-/// Why a text is not accepted: memory ran out, or these words.
+/// The problem of a text that is not accepted: `Memory`, or these words and the text.
 pub(crate) fn not_accepted(alloc: Global, kind: Kind, words: &str, text: &[u8]) -> Problem {
     match kind {
         Kind::Memory => Problem::Memory,
@@ -68,7 +68,7 @@ pub(crate) fn not_accepted(alloc: Global, kind: Kind, words: &str, text: &[u8]) 
     }
 }
 
-/// Returns lines with a blank in place of each line feed but the last, which is left out.
+/// Returns lines with a blank in place of each line feed but the last, which is removed.
 pub fn on_one_line(mut lines: Vec<u8>) -> Vec<u8> {
     let _ = lines.pop();
     for byte in lines.iter_mut() {

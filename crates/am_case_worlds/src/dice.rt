@@ -1,6 +1,6 @@
 //! Pseudo-random numbers, the same for the same seed.
 
-/// The state from which the next number is made.
+/// A generator of pseudo-random numbers. It keeps the state from which the next number is made.
 #[derive(Clone, Copy)]
 pub struct Dice {
     state: u64,
@@ -10,7 +10,7 @@ impl Dice {
     /// Makes the dice of a seed.
     pub fn new(seed: u64) -> Dice {
         let mut dice = Dice { state: seed };
-        // The first numbers of seeds that differ by little are near each other.
+        // Seeds that differ little give first numbers that differ little, so these are skipped.
         for _ in 0..4 {
             let _ = dice.below(2);
         }
@@ -24,7 +24,7 @@ impl Dice {
         if bound == 0 {
             return 0;
         }
-        // The lower digits of such a number repeat soon.
+        // The low bits of the state soon repeat, so only the high ones are used.
         let drawn = usize::try_from(self.state / 4_294_967_296).unwrap_or(0);
         drawn % bound
     }

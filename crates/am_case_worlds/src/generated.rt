@@ -15,7 +15,7 @@ pub struct SmallWorld {
 }
 
 impl SmallWorld {
-    /// The instant at which the silences are looked at.
+    /// The instant that decides which silences are active.
     pub const INSTANT: &'static str = "2024-05-01T10:30:00Z";
 }
 
@@ -25,16 +25,16 @@ const RECEIVERS: [&str; 3] = ["a", "b", "c"];
 
 const OPERATORS: [&str; 4] = ["=", "=~", "!=", "!~"];
 
-/// What `=` and `!=` compare with. A text that stands here twice comes twice as often.
+/// What `=` and `!=` compare with. A text that is listed twice is drawn twice as often.
 const TEXTS: [&str; 6] = ["v0", "v1", "v0", "v1", "v2", ""];
 
-/// What `=~` and `!~` compare with. Most of them match some of the values, and not all.
+/// What `=~` and `!~` compare with. Most of them match some of the values, but not all.
 const PATTERNS: [&str; 6] = ["v0", "v0|v1", "v[12]", "v1|", "v2|v0", "v0|"];
 
 /// The values of alerts.
 const FIRING: [&str; 3] = ["v0", "v1", "v0"];
 
-/// Four times in which the instant lies, and two in which it does not.
+/// Four spans that contain the instant, and two that do not.
 const HOURS: [&str; 6] = [
     "\"startsAt\":\"2024-05-01T10:00:00Z\",\"endsAt\":\"2024-05-01T11:00:00Z\"",
     "\"startsAt\":\"2024-05-01T10:30:00Z\",\"endsAt\":\"2024-05-01T11:30:00Z\"",
@@ -45,8 +45,8 @@ const HOURS: [&str; 6] = [
 ];
 
 /// Makes the world of a seed: 1 to 4 labels with 1 to 3 values each, routes of up to three levels,
-/// up to 3 silences, 2 firing alerts and 2 inhibition rules, and a question of three levels. If
-/// `has_impossible`, the universe also has up to 3 impossible lists, and all else is the same.
+/// up to 3 silences, 2 firing alerts and 2 inhibition rules, and a question of up to three levels.
+/// If `has_impossible`, the universe also has up to 3 impossible lists, and all else is the same.
 pub fn small_world(
     alloc: Global,
     seed: u64,
@@ -65,7 +65,7 @@ pub fn small_world(
     Ok(world)
 }
 
-/// What makes the texts of a world, one after the other.
+/// Makes the texts of a world, one after the other.
 #[derive(Drop)]
 struct Maker {
     alloc: Global,
@@ -160,7 +160,7 @@ impl Maker {
         text.push_str("]}")
     }
 
-    /// Adds a route without its children and its last brace.
+    /// Adds a route without its children and its closing brace.
     fn add_route(&mut self, text: &mut String) -> Result<(), AllocError> {
         text.push_str("{\"matchers\":")?;
         self.add_matchers(text)?;
@@ -199,7 +199,7 @@ impl Maker {
         text.push(']')
     }
 
-    /// How many matchers a list has: one more often than two, and none now and then.
+    /// The number of matchers in a list: mostly one, sometimes two, and rarely none.
     fn count_matchers(&mut self) -> usize {
         match self.dice.below(16) {
             0 => 0,
@@ -224,7 +224,7 @@ impl Maker {
         }
     }
 
-    /// The name of a label that is declared, or now and then of one that is not.
+    /// The name of a declared label or, rarely, of one that is not declared.
     fn name(&mut self) -> Result<String, AllocError> {
         if self.dice.is_one_in(20) {
             return String::from_str(self.alloc, "x");
@@ -250,7 +250,7 @@ impl Maker {
         Ok(text)
     }
 
-    /// Adds a matcher as an object.
+    /// Adds a matcher as a JSON object.
     fn add_matcher_of_silence(&mut self, text: &mut String) -> Result<(), AllocError> {
         let name = self.name()?;
         let operator = self.dice.one_of(&OPERATORS);
@@ -282,7 +282,7 @@ impl Maker {
         Ok(text)
     }
 
-    /// A question of up to so many levels.
+    /// A question of up to `levels` levels.
     fn question(&mut self, levels: usize) -> Result<String, AllocError> {
         if levels == 0 {
             return self.simple_part();
@@ -292,7 +292,7 @@ impl Maker {
         self.joined(one, other)
     }
 
-    /// One part, or both of them in a larger one.
+    /// One of two questions, or a larger one that is made of one or both of them.
     fn joined(&mut self, one: String, other: String) -> Result<String, AllocError> {
         match self.dice.below(8) {
             0 => format!(in self.alloc; "({one}) and ({other})"),
@@ -368,7 +368,7 @@ pub(crate) fn config_front(alloc: Global, receivers: &[&str]) -> Result<String, 
     Ok(text)
 }
 
-/// Adds a comma before each but the first of a list.
+/// Adds a comma before each item of a list but the first.
 pub(crate) fn add_comma(i: usize, text: &mut String) -> Result<(), AllocError> {
     if i > 0 {
         text.push(',')?;
@@ -376,7 +376,7 @@ pub(crate) fn add_comma(i: usize, text: &mut String) -> Result<(), AllocError> {
     Ok(())
 }
 
-/// Adds a text in quotes, those within it escaped.
+/// Adds a text in quotes, and escapes the quotes in it.
 pub(crate) fn add_quoted(quoted: &str, text: &mut String) -> Result<(), AllocError> {
     text.push('"')?;
     for letter in quoted.chars() {

@@ -11,7 +11,8 @@ pub struct LargeWorld {
     pub config: String,
 }
 
-/// How many children the top-level route has, and how many each of these: with it 1,024 routes.
+/// The number of children of the top-level route. Each of them has [`SERVICES`] children, so there
+/// are 1,024 routes.
 const TEAMS: usize = 31;
 
 const SERVICES: usize = 32;
@@ -20,7 +21,7 @@ const RECEIVERS: [&str; 4] = ["a", "b", "c", "d"];
 
 /// Makes the world of a seed: this many labels with this many values each, and 1,024 routes in
 /// three levels. Each route but the top-level one has four matchers. Some routes have the matchers
-/// of the one before, and no label set satisfies some of the matchers.
+/// of the route before, and some matchers are satisfied by no label set.
 pub fn large_world(
     alloc: Global,
     seed: u64,
@@ -40,7 +41,7 @@ pub fn large_world(
     })
 }
 
-/// What makes the texts, one after the other.
+/// Makes the texts, one after the other.
 #[derive(Drop)]
 struct LargeMaker {
     alloc: Global,
@@ -89,7 +90,7 @@ impl LargeMaker {
         text.push_str("]}")
     }
 
-    /// Adds a route without its children and its last brace.
+    /// Adds a route without its children and its closing brace.
     fn add_route(&mut self, text: &mut String) -> Result<(), AllocError> {
         if self.before.is_empty() || !self.dice.is_one_in(8) {
             self.before = self.matchers()?;

@@ -6,9 +6,9 @@
 //! about. Nothing here calls `amcover`, so it is proved beside the crates that cases call.
 #![tactic(auto)]
 
-// What is drawn.
+// Pseudo-random numbers.
 mod dice;
-// What is made of it.
+// Texts that are made from them.
 mod generated;
 mod large;
 mod texts;

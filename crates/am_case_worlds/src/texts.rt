@@ -3,7 +3,7 @@
 use crate::dice::Dice;
 use std::alloc::{AllocError, Global};
 
-/// Ends of lines, and letters that patterns of other letters may match too.
+/// Line ends, letters that patterns with other letters may also match, and some other characters.
 const ODD: [&str; 12] = [
     "\n", "\r", "é", "σ", "Σ", "ς", "\u{212a}", "z", "0", " ", "-", "_",
 ];
@@ -32,7 +32,7 @@ pub fn texts_of_seed(
     Ok(texts)
 }
 
-/// Adds what stands between the signs of a value.
+/// Adds the words of a value. Characters that are neither letters nor digits separate them.
 fn add_words(alloc: Global, value: &str, pieces: &mut Vec<String>) -> Result<(), AllocError> {
     let mut word = String::new(alloc);
     for letter in value.chars() {

@@ -8,7 +8,7 @@ use am_program::{run, run_with_notes};
 use std::io::Write;
 use std::rt::Files;
 
-/// `amcover`, as its command runs it.
+/// The program `amcover`.
 pub struct Amcover;
 
 impl Program for Amcover {

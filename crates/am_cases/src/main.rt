@@ -1,5 +1,6 @@
-//! `am_cases`: runs the files of cases in the folder in which it is started, and says which cases
-//! are wrong. `CASES.md` says how such a file is written.
+//! `am_cases` runs files of cases: those that its arguments name, or else those of the folder in
+//! which it is started. It says which cases are wrong. `CASES.md` describes the format of such a
+//! file.
 #![tactic(auto)]
 
 // What tables call, and what command lines run.

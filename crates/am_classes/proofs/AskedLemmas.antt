@@ -1,4 +1,4 @@
--- The values of matchers, with one matcher more.
+-- The values of matchers, with one more matcher.
 use Rattle.std.proofs.Common.{◌≡◌, ◌+◌, ◌<◌, ◌≤◌, ℕ, List, [], ◌∷◌, ◌++◌, Some, slice_get, length, inl, inr, refl, ap, sym, ◌∙◌, ◌⊎◌, arith, IsTrue}
 use Rattle.std.specs.List.{list_any}
 use Rattle.std.specs.Str.{bytes_eq}
@@ -15,7 +15,7 @@ use Rattle.am_classes.specs.declared.alphabet.Alphabet.{Alphabet}
 use Rattle.am_classes.specs.Values.{AreValues, counts}
 use Rattle.am_scan.proofs.Places.{get_pushed, get_kept, get_last, contains_from_get}
 
--- What one matcher more is from stays what it is from.
+-- A value that comes from a matcher still does with one more matcher.
 from_kept : (a : Alphabet) (ms : List Condition) (m : Condition) (t : Comparison) (vs : List (List ℕ))
     → AreValues a ms t vs
     → (j : ℕ) (value : List ℕ) → slice_get vs j ≡ Some value
@@ -24,7 +24,7 @@ from_kept : (a : Alphabet) (ms : List Condition) (m : Condition) (t : Comparison
 from_kept a ms m t vs h j value e =
     let f = h.from j value e in (f.0, f.1, get_kept ms (m ∷ []) f.1 f.0 f.2, f.3, f.4)
 
--- A matcher of the other kind of operator adds no value.
+-- A matcher with another comparison, or whose value does not count, adds no value.
 pub values_skip : (a : Alphabet) (ms : List Condition) (m : Condition) (t : Comparison)
     (vs : List (List ℕ)) → AreValues a ms t vs
     → (comparison m.op ≡ t → IsTrue (counts a t m.value) → ⊥) → AreValues a (ms ++ m ∷ []) t vs
@@ -39,7 +39,7 @@ values_skip a ms m t vs h other = record {
   once = h.once;
 }
 
--- Nor does one whose value is there already.
+-- A matcher whose value is there already adds no value.
 pub values_same : (a : Alphabet) (ms : List Condition) (m : Condition) (t : Comparison)
     (vs : List (List ℕ)) → AreValues a ms t vs → (j : ℕ) → slice_get vs j ≡ Some m.value
     → AreValues a (ms ++ m ∷ []) t vs
@@ -84,7 +84,7 @@ values_push a ms m t vs h takes counted new = record {
   ];
 }
 
--- A text that a test of each finds is at a place.
+-- A text that a test of each text finds is at a position.
 pub among_place : (xs : List (List ℕ)) (text : List ℕ) → list_any (λ x. bytes_eq x text) xs ≡ true
     → (k : ℕ) × (slice_get xs k ≡ Some text)
 among_place [] text e = absurd cc
@@ -93,14 +93,14 @@ among_place (x ∷ xs) text e = elim (or_cases (bytes_eq x text) (list_any (λ y
   | inr b ↦ (let r = among_place xs text b in (suc r.0, r.1))
 ]
 
--- A text that is at a place is found.
+-- A text that is at a position is found by the test.
 pub among_found : (xs : List (List ℕ)) (text : List ℕ) (k : ℕ) → slice_get xs k ≡ Some text
     → list_any (λ x. bytes_eq x text) xs ≡ true
 among_found [] text k e = absurd cc
 among_found (x ∷ xs) text zero e = grind (arith, common_steps, or_left, bytes_eq-Decides, same_Some)
 among_found (x ∷ xs) text (suc k) e = grind (arith, common_steps, or_right, among_found xs text k e)
 
--- A text is at some place, or at none.
+-- A text is at some position, or at none.
 pub among_cases : (xs : List (List ℕ)) (text : List ℕ)
     → ((k : ℕ) × (slice_get xs k ≡ Some text)) ⊎ ((k : ℕ) → slice_get xs k ≡ Some text → ⊥)
 among_cases xs text = elim (cases_Bool (list_any (λ x. bytes_eq x text) xs)) [
@@ -108,7 +108,7 @@ among_cases xs text = elim (cases_Bool (list_any (λ x. bytes_eq x text) xs)) [
   | inr missed ↦ inr (λ k e. let found = among_found xs text k e in absurd cc)
 ]
 
--- How long texts are together; none of them is longer.
+-- The length of all texts together. No text is longer.
 abbrev pub length_of_all : List (List ℕ) → ℕ
 length_of_all [] = 0
 length_of_all (x ∷ xs) = length x + length_of_all xs
@@ -119,7 +119,7 @@ one_of_all [] text k e = absurd cc
 one_of_all (x ∷ xs) text zero e = grind (arith, common_steps, same_Some)
 one_of_all (x ∷ xs) text (suc k) e = grind (arith, common_steps, one_of_all xs text k e)
 
--- Where something else than a text is asked for, a matcher asks for it.
+-- If some values are not compared as texts, one of the matchers takes a pattern.
 pub has_pattern : (a : Alphabet) (ms : List Condition) (so : Comparison) (values : List (List ℕ))
     → AreValues a ms so values → (so ≡ Text → ⊥) → 0 < length values → HasPattern ms
 has_pattern a ms so [] h other some = absurd (omega (arith, some))

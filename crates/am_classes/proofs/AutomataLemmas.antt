@@ -8,20 +8,20 @@ use Rattle.am_scan.specs.Automaton.{number_of}
 use Rattle.am_scan.proofs.Places.{get_pushed, map_front, map_same}
 use Rattle.am_classes.specs.Automata.{numbers_of, MakeSame, AreClasses}
 
--- What stands under a function for a front is there for one that is one longer.
+-- The results of a function for a prefix, with one more, are those for a prefix that is one longer.
 pub mapped_more : {X Y : Type 0} (f : X → Y) (xs : List X) (i : ℕ) (x : X) (ys all : List Y) (y : Y)
     → i < length xs → x ≡ get_or xs i x → all ≡ ys ++ y ∷ [] → ys ≡ map f (take i xs) → y ≡ f x
     → all ≡ map f (take (i + 1) xs)
 mapped_more f xs i x ys all y below is more before here = grind (arith, common_steps, map_front)
 
--- What is at a place is under a function at the same place.
+-- The result of a function for the element at a position is at the same position.
 pub get_under : {X Y : Type 0} (f : X → Y) (xs : List X) (k : ℕ) (x : X) → slice_get xs k ≡ Some x
     → slice_get (map f xs) k ≡ Some (f x)
 get_under f [] k x e = absurd cc
 get_under f (y ∷ xs) zero x e = ap Some (ap f (same_Some y x e))
 get_under f (y ∷ xs) (suc k) x e = get_under f xs k x e
 
--- The number of a text to one pattern.
+-- The number that one pattern gives a text.
 pub number_at : (automata : List PatternAutomaton) (numbers : List ℕ) (text : List ℕ) (k : ℕ)
     (automaton : PatternAutomaton) (number : ℕ) → numbers ≡ numbers_of automata text
     → slice_get automata k ≡ Some automaton → slice_get numbers k ≡ Some number
@@ -29,14 +29,14 @@ pub number_at : (automata : List PatternAutomaton) (numbers : List ℕ) (text : 
 number_at automata numbers text k automaton number is at also =
     grind (arith, common_steps, same_Some, get_under)
 
--- Patterns that each make the same of two bytes do so together.
+-- If each pattern treats two bytes alike, all together do.
 pub same_numbers : (automata : List PatternAutomaton) (one other : ℕ)
     → ((k : ℕ) (automaton : PatternAutomaton) → slice_get automata k ≡ Some automaton
     → (text : List ℕ) → number_of automaton (one ∷ text) ≡ number_of automaton (other ∷ text))
     → MakeSame automata one other
 same_numbers automata one other each = λ text. grind (arith, common_steps, map_same)
 
--- There is a class of one byte more.
+-- One more byte has a class.
 pub classes_more : (automata : List PatternAutomaton) (classes all : List ℕ) (class byte : ℕ)
     → length classes ≡ byte → all ≡ classes ++ class ∷ [] → MakeSame automata class byte
     → AreClasses automata classes → AreClasses automata all

@@ -1,8 +1,8 @@
--- Truth values that are compared.
+-- Comparing truths.
 use Rattle.std.proofs.Common.{◌≡◌, Bool, true, false, Decides, refl}
 use mathlib.Core.Bool.{beq}
 
--- Truth values are compared right.
+-- A comparison of two truths finds whether they are equal.
 pub beq-Decides : (a b : Bool) → Decides (beq a b) (a ≡ b)
 beq-Decides true true = (λ _. refl, λ _. refl)
 beq-Decides false false = (λ _. refl, λ _. refl)

@@ -15,17 +15,17 @@ use Rattle.am_scan.proofs.Places.{get_pushed}
 use Rattle.am_classes.proofs.Utf8Lemmas.{text_whole}
 use Rattle.am_classes.proofs.ExplorationLemmas.{some_follows}
 
--- What represents a state still does with more candidates.
+-- What represents a state still does so with more candidates.
 pub represents_kept : (q : Questions) (old new : List Candidate) (state : LabelState)
     → GrowsCandidates old new → Represents q old state → Represents q new state
 represents_kept q old new state grows represents = λ text follows whole unnamed.
     let has = represents text follows whole unnamed in (has.0, has.1, grows has.0 has.1 has.2, has.3)
 
--- Where there is no candidate, none are alike.
+-- If there is no candidate, no two are found by the same patterns.
 pub none_apart : (q : Questions) → AreApartCandidates q []
 none_apart q = record { own = λ k y at. absurd cc; apart = λ i j y z at also same. absurd cc }
 
--- One candidate more is apart, if it is found by other patterns.
+-- One more candidate, if none is found by the same patterns.
 pub apart_pushed : (q : Questions) (old : List Candidate) (x : Candidate) → AreApartCandidates q old
     → IsCandidate q x → (HasFound old x.found.items → ⊥) → AreApartCandidates q (old ++ x ∷ [])
 apart_pushed q old x h own new = record {
@@ -58,7 +58,7 @@ candidates_of_all q listed cs closed distinct represents = record {
       represents here.0 here.1 here.2 text here.3 (same_Some here.1.state.tail Whole (sym here.3.tail ∙ whole)) unnamed;
 }
 
--- Where there is no pattern, one text that is not named stands for all of these.
+-- If there is no pattern, one text that is not named stands for all such texts.
 pub one_candidate : (q : Questions) (cs : List Candidate) (x : Candidate) → cs ≡ x ∷ []
     → q.automata.items ≡ [] → x.found.items ≡ [] → (IsNamed q (string_bytes x.text) → ⊥)
     → IsOver q.alphabet (string_bytes x.text) → AreCandidates q cs

@@ -1,4 +1,4 @@
--- The named texts and those of the candidates stand for all classes, and no two for one.
+-- The named texts and the texts of the candidates stand for all classes, one for each.
 use Rattle.std.proofs.Common.{◌≡◌, ℕ, zero, suc, ◌+◌, false, List, [], ◌∷◌, ◌++◌}
 use Rattle.std.proofs.Common.{Some, slice_get, length, map, string_bytes, inl, inr, refl, subst}
 use Rattle.std.proofs.Common.{sym, ap, ◌∙◌, arith}
@@ -26,12 +26,12 @@ use Rattle.am_classes.proofs.OverLemmas.{is_over_from, string_over}
 use Rattle.am_scan.proofs.Places.{get_append, get_kept, get_behind, contains_from_get}
 use Rattle.am_scan.proofs.Places.{all_from_places, all_at_place, map_same}
 
--- The same answers to the questions of matchers.
+-- Two texts get the same answers to the questions of matchers.
 record SameAnswers (q : Questions) (x y : List ℕ) : Type 0 where
   texts : (k : ℕ) (named : List ℕ) → slice_get (named_texts q) k ≡ Some named → same_text x named ≡ same_text y named
   patterns : (k : ℕ) (pattern : List ℕ) → slice_get (patterns_of q) k ≡ Some pattern → finds pattern x ≡ finds pattern y
 
--- A text over an alphabet is none that is not.
+-- A text over an alphabet is not equal to a text that is not over it.
 foreign_differs : (a : Alphabet) (value x : List ℕ) → is_over a value ≡ false → IsOver a x
     → same_text x value ≡ false
 foreign_differs a value x foreign over = grind (arith, common_steps, false_from_ne_true, bytes_eq-Decides, is_over_from)
@@ -78,14 +78,14 @@ answers_from ms q asked x y alike = record {
       ∙ asks_pattern m.op m.value y from.3);
 }
 
--- What is at a place under a function is of what is at the place.
+-- What a function gives at a position, it gives for the element at that position.
 get_mapped : {X Y : Type 0} (f : X → Y) (xs : List X) (k : ℕ) (y : Y) → slice_get (map f xs) k ≡ Some y
     → (x : X) × (slice_get xs k ≡ Some x) × (f x ≡ y)
 get_mapped f [] k y e = absurd cc
 get_mapped f (x ∷ xs) zero y e = (x, refl, same_Some (f x) y e)
 get_mapped f (x ∷ xs) (suc k) y e = get_mapped f xs k y e
 
--- The same patterns find both: pattern by pattern, and as lists.
+-- The same patterns find two texts: pattern by pattern, and as lists.
 patterns_from_found : (q : Questions) (x y : List ℕ)
     → found_by q.automata.items x ≡ found_by q.automata.items y → (k : ℕ) (pattern : List ℕ)
     → slice_get (patterns_of q) k ≡ Some pattern → finds pattern x ≡ finds pattern y
@@ -103,7 +103,7 @@ found_from_patterns q x y each =
     map_same (λ s. finds (pattern_of s) x) (λ s. finds (pattern_of s) y) q.automata.items
     (λ k s at. each k (pattern_of s) (get_under pattern_of q.automata.items k s at))
 
--- A text that is not named is none of those that are.
+-- A text that is not named differs from each named text.
 unnamed_differs : (q : Questions) (x : List ℕ) → (IsNamed q x → ⊥) → (k : ℕ) (named : List ℕ)
     → slice_get (named_texts q) k ≡ Some named → same_text x named ≡ false
 unnamed_differs q x unnamed k named at = grind (arith, common_steps, false_from_ne_true, bytes_eq-Decides)
@@ -135,7 +135,7 @@ classes_cover ms q cs asked candidates = λ text over.
           )
     ]
 
--- A named text has no other beside it in its class.
+-- No other text is in the class of a named text.
 named_is_alone : (q : Questions) (x y : List ℕ) (k : ℕ) → slice_get (named_texts q) k ≡ Some x
     → SameAnswers q x y → y ≡ x
 named_is_alone q x y k at same =
@@ -175,7 +175,7 @@ classes_apart ms q cs asked distinct = λ i j x y at also alike.
           ]
     ]
 
--- They are over the alphabet.
+-- The texts of the classes are over the alphabet.
 pub classes_over : (ms : List Condition) (q : Questions) (cs : List Candidate) → AreAsked ms q
     → AreApartCandidates q cs → AreOver q.alphabet (class_texts q cs)
 classes_over ms q cs asked distinct =

@@ -1,4 +1,4 @@
--- How matchers compare, which is compared right.
+-- Comparing the comparisons of matchers.
 use Rattle.std.proofs.Common.{◌≡◌, true, false, not, refl, ap, sym, ◌∙◌}
 use Rattle.std.proofs.lemmas.Bool.{both_ways, not-true, not-false}
 use denote.Enum.Bare.{sameb, same_true}
@@ -10,12 +10,12 @@ same_itself : (a : Comparison) → sameb the_type a a ≡ true
 same_itself Text = refl
 same_itself _ = refl
 
--- What is found to differ differs.
+-- Comparisons that a test finds different are different.
 pub differs : (a b : Comparison) → not (sameb the_type a b) ≡ true → a ≡ b → ⊥
 differs a b e same =
     both_ways (sameb the_type a b) (not-true (sameb the_type a b) e)
     (ap (sameb the_type a) (sym same) ∙ same_itself a)
 
--- What is not found to differ is the same.
+-- Comparisons that a test does not find different are equal.
 pub agrees : (a b : Comparison) → not (sameb the_type a b) ≡ false → a ≡ b
 agrees a b e = same_true the_type tt a b (not-false (sameb the_type a b) e)

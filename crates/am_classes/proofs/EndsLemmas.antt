@@ -1,21 +1,21 @@
--- Places of texts that end with what was read.
+-- The positions of texts that end with what was read.
 use Rattle.std.proofs.Common.{◌≡◌, ℕ, ◌+◌, ◌<◌, List, [], ◌∷◌, ◌++◌, Some, slice_get, length, take, get_or, inl, inr, refl, ap, subst, sym, ◌∙◌, append_assoc}
 use Rattle.std.proofs.lemmas.Option.{slice_get_within}
 use Rattle.am_classes.specs.Ends.{IsNoEnd, HasEndsAt, HasByteBefore, IsAtOne}
 use Rattle.am_scan.proofs.Places.{get_front, get_kept, get_last, get_whole}
 
--- All texts end with no bytes.
+-- All texts end with the empty text.
 pub all_end : (texts : List (List ℕ)) (places : List ℕ)
     → ((k : ℕ) → k < length texts → slice_get places k ≡ Some k) → HasEndsAt texts places []
 all_end texts places each k named front at is = (k, each k (slice_get_within texts k named at))
 
--- What no text ends with, none ends with when it has a byte more in front.
+-- If no text ends with this, no text ends with it and one more byte before it.
 pub no_end_longer : (texts : List (List ℕ)) (text : List ℕ) (b : ℕ) → IsNoEnd texts text
     → IsNoEnd texts (b ∷ text)
 no_end_longer texts text b none k named front at e =
     none k named (front ++ b ∷ []) at (e ∙ sym (append_assoc front (b ∷ []) text))
 
--- Of some places those are kept at which a text has a byte in front of so many last ones.
+-- Each position at which a text has this byte before its last `count` bytes is kept.
 abbrev pub KeepsPlaces : List (List ℕ) → ℕ → ℕ → List ℕ → List ℕ → Type 0
 KeepsPlaces texts count byte places found =
     (j k : ℕ) → slice_get places j ≡ Some k → HasByteBefore texts k count byte
@@ -47,7 +47,7 @@ keeps_pushed texts count byte places found all i place below is more kept j k at
       )
     ]
 
--- These are all places of texts that end with a byte more.
+-- Every text that ends with one more byte is at one of the kept positions.
 pub kept_ends : (texts : List (List ℕ)) (count byte : ℕ) (places found : List ℕ) (n : ℕ)
     → n ≡ length places → KeepsPlaces texts count byte (take n places) found → (end : List ℕ)
     → length end ≡ count → HasEndsAt texts places end → HasEndsAt texts found (byte ∷ end)
@@ -56,7 +56,7 @@ kept_ends texts count byte places found n all kept end so_many ends k named fron
     let place = ends k named (front ++ byte ∷ []) at shorter in
     kept place.0 k (get_whole places n place.0 k all place.1) (named, front, end, at, is, so_many)
 
--- A text that stands at one of these places is one of the texts, and the other way round.
+-- A text is at one of these positions exactly if it is one of the texts.
 pub named_at_one : (texts : List (List ℕ)) (places text : List ℕ) → HasEndsAt texts places text
     → (k : ℕ) → slice_get texts k ≡ Some text → IsAtOne texts places text
 named_at_one texts places text ends k at =

@@ -11,17 +11,17 @@ use Rattle.am_classes.specs.Alphabet.{is_over, IsOver, IsOrdinary}
 use Rattle.am_classes.specs.State.{FollowsLabel}
 use Rattle.am_classes.proofs.TailLemmas.{ordinary_of_tail}
 
--- each text is over Unicode, if it is UTF-8
+-- each byte of a text is one of Unicode
 pub all_over_unicode : (text : List ℕ) → is_over Unicode text ≡ true
 all_over_unicode [] = refl
 all_over_unicode (b ∷ text) = all_over_unicode text
 
--- the empty text is over each
+-- the empty text is over each alphabet
 pub nil_over : (a : Alphabet) → IsOver a []
 nil_over Unicode = IsUtf8-nil
 nil_over Ascii = refl
 
--- a text is over an alphabet where its bytes are, and it is UTF-8
+-- a text in UTF-8 is over an alphabet exactly if its bytes are of the alphabet
 pub over_from : (a : Alphabet) (text : List ℕ) → IsUtf8 text → is_over a text ≡ true → IsOver a text
 over_from Unicode text utf8 over = utf8
 over_from Ascii text utf8 over = over
@@ -30,7 +30,7 @@ pub is_over_from : (a : Alphabet) (text : List ℕ) → IsOver a text → is_ove
 is_over_from Unicode text over = all_over_unicode text
 is_over_from Ascii text over = over
 
--- an ordinary one is over both
+-- a text in memory is UTF-8, so it is over an alphabet if its bytes are, or if it is ordinary
 pub string_over : (a : Alphabet) (text : String Global) → is_over a (string_bytes text) ≡ true
     → IsOver a (string_bytes text)
 string_over a text = over_from a (string_bytes text) (IsUtf8-string_bytes text)
@@ -40,7 +40,7 @@ pub ordinary_over : (a : Alphabet) (text : String Global) → IsOrdinary (string
 ordinary_over Unicode text ordinary = IsUtf8-string_bytes text
 ordinary_over Ascii text ordinary = ordinary
 
--- and so is one that a state follows
+-- a text in memory that a state follows is over the alphabet
 pub followed_over : (a : Alphabet) (q : Questions) (state : LabelState) (text : String Global)
     → q.alphabet ≡ a → FollowsLabel q state (string_bytes text) → IsOver a (string_bytes text)
 followed_over Unicode q state text is follows = IsUtf8-string_bytes text

@@ -1,4 +1,4 @@
--- What states say of texts.
+-- What states say about texts.
 use Rattle.std.proofs.Common.{Result, Ok, Vec, Bool, IfOk, IfSome, ◌≡◌, ℕ, true, false, List, arith}
 use Rattle.std.proofs.Common.{[], ◌∷◌, Option, Some, None, slice_get, refl, sym, ◌∙◌}
 use Rattle.std.specs.declared.alloc.Global.{Global}
@@ -19,7 +19,7 @@ use Rattle.am_classes.specs.Rest.{RestFollows}
 use Rattle.am_classes.specs.State.{FollowsLabel, IsNamed, named_texts}
 use Rattle.am_classes.proofs.TailLemmas.{scanned_of_tail}
 
--- Where a named text is followed, nothing else is.
+-- What follows a named text follows no other text.
 named_alone : (texts : List (List ℕ)) (rest : Option Rest) (x y : List ℕ) (k : ℕ)
     → slice_get texts k ≡ Some x → RestFollows texts rest x → RestFollows texts rest y → x ≡ y
 named_alone texts (Some rest) x y k at follows also = sym follows.bytes ∙ also.bytes
@@ -30,7 +30,7 @@ pub only_named : (q : Questions) (state : LabelState) (x y : List ℕ) → IsNam
 only_named q state x y named follows also =
     named_alone (named_texts q) state.rest x y named.0 named.1 follows.rest also.rest
 
--- What a state follows is one of the texts over which the patterns are followed.
+-- The patterns are followed over the texts that a state follows.
 not_ascii : (a : Alphabet) (scan : PatternAutomaton) → fits a scan ≡ true → a ≡ Unicode
     → is_ascii scan ≡ false
 not_ascii Unicode scan fit is = not-true (is_ascii scan) fit
@@ -47,7 +47,7 @@ scanned_of_followed : (q : Questions) (state : LabelState) (text : List ℕ)
 scanned_of_followed q state text follows =
     each_scanned q.alphabet q.automata.items text state.tail q.fit follows.tail
 
--- What is found by numbers says which patterns find a text that has them.
+-- What is found by numbers says which patterns find a text that has these numbers.
 pub found_of_numbers : {E : Type 0} (q : Questions) (state : LabelState)
     (automata : List PatternAutomaton) (numbers : List ℕ) (r : Result (Option (Vec Bool Global)) E)
     → automata ≡ q.automata.items → numbers ≡ state.numbers.items
@@ -59,7 +59,7 @@ found_of_numbers q state automata numbers (Ok (Some answers)) s t h = λ text fo
     grind (arith, common_steps, scanned_of_followed)
 found_of_numbers q state automata numbers r s t h = tt
 
--- What a state follows, one that is the same follows.
+-- A state follows every text that a state with the same parts follows.
 pub same_follows : (q : Questions) (state other : LabelState) (text : List ℕ)
     → state.tail ≡ other.tail
     → (RestFollows (named_texts q) state.rest text → RestFollows (named_texts q) other.rest text)

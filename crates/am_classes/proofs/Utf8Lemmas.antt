@@ -14,29 +14,29 @@ use Rattle.am_classes.specs.Alphabet.{IsOver}
 use Rattle.am_classes.specs.Utf8.{tail_step, text_step, tail_of}
 use Rattle.am_classes.proofs.TailLemmas.{ordinary_whole}
 
--- One byte more in front of what has a tail.
+-- One more byte before bytes that have a tail.
 step_of : (b : ℕ) (text : List ℕ) (tail next : Tail) → tail_of Unicode text ≡ Some tail
     → tail_step tail b ≡ Some next → tail_of Unicode (b ∷ text) ≡ Some next
 step_of b text tail next e step = ap (option_and_then (λ last. text_step Unicode last b)) e ∙ step
 
--- A character of two bytes in front of a whole text.
+-- A character of two bytes before a whole text.
 two_bytes : (a b : ℕ) (text : List ℕ) → tail_of Unicode text ≡ Some Whole → 194 ≤ a → a < 224 → 128 ≤ b
     → b < 192 → tail_of Unicode (a ∷ b ∷ text) ≡ Some Whole
 two_bytes a b text e la ha lb hb = grind (arith, common_steps, step_of, nat_tests)
 
--- A character of three bytes in front of a whole text.
+-- A character of three bytes before a whole text.
 three_bytes : (a b d : ℕ) (text : List ℕ) → tail_of Unicode text ≡ Some Whole → 224 ≤ a → a < 240 → 128 ≤ b
     → b < 192 → 128 ≤ d → d < 192 → (a ≡ 224 → 160 ≤ b) → (a ≡ 237 → b < 160)
     → tail_of Unicode (a ∷ b ∷ d ∷ text) ≡ Some Whole
 three_bytes a b d text e la ha lb hb ld hd long valid = grind (arith, common_steps, step_of, nat_tests, cases_lt)
 
--- Three bytes of a character in front of one that ends it.
+-- The last three bytes of a character of four, before a whole text.
 three_of : (a : Tail) (b d : ℕ) (text : List ℕ) → tail_of Unicode text ≡ Some Whole → 128 ≤ b → b < 192
     → 128 ≤ d → d < 192 → tail_step TwoLow b ≡ Some a → tail_step TwoHigh b ≡ Some a
     → (f : ℕ) → 128 ≤ f → f < 192 → tail_of Unicode (b ∷ d ∷ f ∷ text) ≡ Some a
 three_of a b d text e lb hb ld hd low high f lf hf = grind (arith, common_steps, step_of, nat_tests, cases_lt)
 
--- A character of four bytes in front of a whole text.
+-- A character of four bytes before a whole text.
 four_bytes : (a b d f : ℕ) (text : List ℕ) → tail_of Unicode text ≡ Some Whole → 240 ≤ a → a < 245 → 128 ≤ b
     → b < 192 → 128 ≤ d → d < 192 → 128 ≤ f → f < 192 → (a ≡ 240 → 144 ≤ b) → (a ≡ 244 → b < 144)
     → tail_of Unicode (a ∷ b ∷ d ∷ f ∷ text) ≡ Some Whole
@@ -50,7 +50,7 @@ IsValid c = c < 1114112 × (55296 ≤ c → 57344 ≤ c)
 valid_scalar : (c : ℕ) → scalar c ≡ true → IsValid c
 valid_scalar c e = elim (scalar_cases c e) [ inl below ↦ (omega arith, λ above. omega arith) | inr above ↦ (omega arith, λ up. omega arith) ]
 
--- A character in front of a whole text.
+-- A character before a whole text.
 char_whole : (c : ℕ) (text : List ℕ) → IsValid c → tail_of Unicode text ≡ Some Whole
     → tail_of Unicode (encode c ++ text) ≡ Some Whole
 unfolding encode

@@ -1,5 +1,5 @@
 -- Texts that some matchers cannot tell apart. Here the matchers are those of one label, and each is
--- asked of a text whatever its name is.
+-- tested on a text, whatever the name of the matcher is.
 use Rattle.std.specs.Prelude.{◌≡◌, ◌≢◌, ℕ, List, Some, slice_get, Contains}
 use Rattle.std.specs.List.{AllByRecursion}
 use Rattle.am_labels.specs.declared.op.Comparison.TheVariants.{Text}
@@ -8,7 +8,7 @@ use Rattle.am_classes.specs.declared.alphabet.Alphabet.{Alphabet}
 use Rattle.am_classes.specs.Alphabet.{IsOver}
 
 -- Two texts are alike to matchers: each matcher has the same truth on both.
--- Source: own choice; the term is that of Myhill and Nerode, who call two texts equivalent where no
+-- Source: own choice; the term is that of Myhill and Nerode, who call two texts equivalent if no
 -- test tells them apart.
 -- Example: to `team=~"db.*"` and `team!="web"` the texts `db` and `db2` are alike, and `db` and
 -- `web` are not.
@@ -17,15 +17,16 @@ AreAlike ms x y = AllByRecursion (λ m. holds m.op m.value x ≡ holds m.op m.va
 
 -- One of some texts is alike to a text.
 -- Source: own choice.
--- Example: to `team="db"` alone, one of `db` and `web` is alike to `ops`: it is `web`.
+-- Example: to `team="db"` alone, `web` is alike to `ops`, so one of `db` and `web` is.
 abbrev pub HasAlikeIn : List Condition → List (List ℕ) → List ℕ → Type 0
 HasAlikeIn ms texts text = (x : List ℕ) × Contains texts x × AreAlike ms x text
 
--- Some texts cover all that are over an alphabet: whatever such text there is, one of them is alike
--- to it.
+-- Some texts cover all texts over an alphabet: whatever text is over it, one of them is alike to
+-- that text.
 -- Source: own choice.
--- Example: to `team="db"` alone, `db` and the empty text cover all. To `team=~".*"` alone the empty
--- text covers all that are over ASCII; over Unicode it does not, since `.` is no line feed.
+-- Example: to `team="db"` alone, `db` and the empty text cover all. To `team=~".*"` alone, the
+-- empty text covers all that are over ASCII. Over Unicode it does not, because `.` does not match a
+-- line feed.
 abbrev pub Covers : Alphabet → List Condition → List (List ℕ) → Type 0
 Covers a ms texts = (text : List ℕ) → IsOver a text → HasAlikeIn ms texts text
 
@@ -37,9 +38,9 @@ AreApart ms texts =
     (i j : ℕ) (x y : List ℕ) → slice_get texts i ≡ Some x → slice_get texts j ≡ Some y
     → AreAlike ms x y → i ≡ j
 
--- One of some matchers takes a pattern: it compares with no text. Where none does, their classes
--- can always be computed.
+-- One of some matchers takes a pattern: its operator does not compare with a text. If none does,
+-- the classes of texts can always be computed.
 -- Source: Alertmanager configuration reference 0.25, "<matcher>": `=~` and `!~` take patterns.
--- Example: one of `team="db"` and `team=~"w.*"` does, and `team="db"` alone does not.
+-- Example: one of `team="db"` and `team=~"w.*"` takes a pattern. `team="db"` alone does not.
 abbrev pub HasPattern : List Condition → Type 0
 HasPattern ms = (m : Condition) × Contains ms m × (comparison m.op ≢ Text)

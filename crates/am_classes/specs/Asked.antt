@@ -1,4 +1,4 @@
--- What matchers ask of a text.
+-- What matchers ask about a text.
 use Rattle.std.specs.Prelude.{◌≡◌, ◌⊎◌, List}
 use Rattle.std.specs.List.{AllByRecursion}
 use Rattle.am_labels.specs.declared.op.Comparison.TheVariants.{Text, Pattern}

@@ -8,36 +8,35 @@ use Rattle.am_classes.specs.declared.alphabet.Alphabet.{Alphabet}
 use Rattle.am_classes.specs.declared.alphabet.Alphabet.TheVariants.{Unicode, Ascii}
 use Rattle.am_scan.specs.declared.pattern_automaton.PatternAutomaton.{PatternAutomaton}
 
--- The numbers of a text to patterns.
+-- The numbers of a text, one for each pattern.
 -- Source: own choice.
--- Example: those of the empty text are the numbers with which the automata begin.
+-- Example: the numbers of the empty text are those with which the automata begin.
 abbrev pub numbers_of : List PatternAutomaton → List ℕ → List ℕ
 numbers_of automata text = map (λ a. number_of a text) automata
 
--- Patterns make the same of two bytes: a text with one of them in front has the same numbers as
--- with the other.
+-- Patterns treat two bytes alike: with either byte before it, a text has the same numbers.
 -- Source: own choice.
--- Example: `db.*` makes the same of `x` and `y`, and not of `d` and `b`.
+-- Example: `db.*` treats `x` and `y` alike, but not `d` and `b`.
 abbrev pub MakeSame : List PatternAutomaton → ℕ → ℕ → Type 0
 MakeSame automata one other =
     (text : List ℕ) → numbers_of automata (one ∷ text) ≡ numbers_of automata (other ∷ text)
 
--- Of each byte there is one that patterns make the same of.
+-- For each byte, a byte that the patterns treat like it.
 -- Source: own choice.
--- Example: to `db.*` that of `y` may be `x`, and those of `d` and `b` are the two themselves.
+-- Example: for `db.*` it may be `x` for `y`. For `d` and `b` it is the byte itself.
 abbrev pub AreClasses : List PatternAutomaton → List ℕ → Type 0
 AreClasses automata classes =
     (byte class : ℕ) → slice_get classes byte ≡ Some class → MakeSame automata class byte
 
--- A pattern may be followed over the texts of an alphabet: over Unicode, if it is not followed over
--- ASCII alone.
+-- An automaton can be used for the texts of an alphabet. For Unicode, it must not be one that reads
+-- only texts of ASCII.
 -- Source: own choice.
--- Example: `\bdb` may be followed over ASCII, and not over Unicode.
+-- Example: the automaton of `\bdb` can be used for ASCII, and not for Unicode.
 abbrev pub fits : Alphabet → PatternAutomaton → Bool
 fits Unicode automaton = not (is_ascii automaton)
 fits Ascii automaton = true
 
--- A text is one of those over which patterns are followed.
+-- A text is one that all automata read.
 abbrev pub AreScanned : List PatternAutomaton → List ℕ → Type 0
 AreScanned automata text = AllByRecursion (λ a. IsScanned (is_ascii a) text) automata
 

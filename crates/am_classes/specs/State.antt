@@ -1,4 +1,4 @@
--- What the matchers of a label make of a text of which only the end has been read.
+-- How the matchers of a label treat a text of which only the end has been read.
 use Rattle.std.specs.Prelude.{◌≡◌, ℕ, List, map, Some, slice_get, string_bytes}
 use Rattle.am_classes.specs.Rest.{RestFollows}
 use Rattle.am_scan.specs.Automaton.{pattern_of}
@@ -7,21 +7,21 @@ use Rattle.am_classes.specs.declared.label_state.LabelState.{LabelState}
 use Rattle.am_classes.specs.Utf8.{tail_of}
 use Rattle.am_classes.specs.Automata.{numbers_of}
 
--- The texts that are named, and the patterns.
+-- The named texts, and the patterns.
 abbrev pub named_texts : Questions → List (List ℕ)
 named_texts q = map string_bytes q.texts.items
 
 abbrev pub patterns_of : Questions → List (List ℕ)
 patterns_of q = map pattern_of q.automata.items
 
--- A text is one of the named ones.
+-- A text is a named text.
 abbrev pub IsNamed : Questions → List ℕ → Type 0
 IsNamed q text = (k : ℕ) × (slice_get (named_texts q) k ≡ Some text)
 
--- A state is that of a text: in what its alphabet allows in front, in what is kept of the text, and
--- in its numbers to the patterns.
+-- A state follows a text. It has the tail of the text over its alphabet, what is kept of the text,
+-- and the numbers of the text.
 -- Source: own choice.
--- Example: the state with which an exploration begins is that of the empty text.
+-- Example: the state with which an exploration begins follows the empty text.
 pub record FollowsLabel (q : Questions) (state : LabelState) (text : List ℕ) : Type 0 where
   pub tail : tail_of q.alphabet text ≡ Some state.tail
   pub rest : RestFollows (named_texts q) state.rest text

@@ -1,4 +1,4 @@
--- The ends of texts in UTF-8, read byte by byte from the last.
+-- The ends of texts in UTF-8, read byte by byte from the end.
 use Rattle.std.specs.Prelude.{ℕ, Bool, true, false, List, [], ◌∷◌, if◌then◌else◌, nat_lt, ◌==◌}
 use Rattle.std.specs.Prelude.{Option, Some, None, option_and_then}
 use Rattle.am_classes.specs.declared.alphabet.Alphabet.{Alphabet}
@@ -7,9 +7,10 @@ use Rattle.am_classes.specs.declared.tail.Tail.{Tail}
 use Rattle.am_classes.specs.declared.tail.Tail.TheVariants.{Whole, One, TwoLow, TwoHigh}
 use Rattle.am_classes.specs.declared.tail.Tail.TheVariants.{ThreeLow, ThreeHigh}
 
--- What stands at the front with one byte more before it, where UTF-8 has such a byte there.
+-- The tail with one more byte before it, if UTF-8 allows such a byte there.
 -- Source: The Unicode Standard, table 3-7, "Well-Formed UTF-8 Byte Sequences", read from the right.
--- Example: before a byte `A9` alone stand `C2` to `DF`, or another byte of the same character.
+-- Example: before a byte `A9` there can only be `C2` to `DF`, or another byte of the same
+-- character.
 abbrev pub tail_step : Tail → ℕ → Option Tail
 tail_step Whole b =
     if nat_lt b 0x80 then Some Whole else if nat_lt b 0xC0 then Some One else None
@@ -30,16 +31,16 @@ tail_step ThreeLow b =
 tail_step ThreeHigh b =
     if nat_lt b 0xF0 then None else if nat_lt b 0xF4 then Some Whole else None
 
--- The same, where a text over an alphabet has such a byte there.
+-- The same, if a text over an alphabet can have such a byte there.
 -- Source: own choice.
--- Example: before the end of a text over ASCII no `A9` stands.
+-- Example: over ASCII, no text has `A9` before its end.
 abbrev pub text_step : Alphabet → Tail → ℕ → Option Tail
 text_step a tail b = if has_byte a b then tail_step tail b else None
 
--- What stands at the front of bytes, where an alphabet has texts that end with them.
+-- The tail of some bytes, if an alphabet has texts that end with them.
 -- Source: The Unicode Standard, table 3-7, "Well-Formed UTF-8 Byte Sequences".
--- Example: `C3 A9` is whole, `A9` has one byte of a character that begins further in front, and
--- `C3` is at the end of no text. Over ASCII none of the three is at the end of a text.
+-- Example: `C3 A9` is whole. `A9` is one byte of a character that begins further in front. No text
+-- ends with `C3`. Over ASCII, no text ends with any of the three.
 abbrev pub tail_of : Alphabet → List ℕ → Option Tail
 tail_of a [] = Some Whole
 tail_of a (b ∷ text) = option_and_then (λ tail. text_step a tail b) (tail_of a text)

@@ -1,4 +1,4 @@
--- The values of matchers, as far as they count.
+-- The values of matchers that count.
 use Rattle.std.specs.Prelude.{◌≡◌, ℕ, List, Bool, true, Some, slice_get, IsTrue}
 use Rattle.am_labels.specs.declared.op.Comparison.{Comparison}
 use Rattle.am_labels.specs.declared.op.Comparison.TheVariants.{Text}
@@ -6,17 +6,17 @@ use Rattle.am_labels.specs.Matcher.{Condition, comparison}
 use Rattle.am_classes.specs.declared.alphabet.Alphabet.{Alphabet}
 use Rattle.am_classes.specs.Alphabet.{is_over}
 
--- The value of a matcher counts: it is a pattern, or a text over the alphabet. No other text there
--- is has a value that does not, so a matcher that names it has one truth on all of them.
+-- The value of a matcher counts: it is a pattern, or a text over the alphabet. A value that does
+-- not count is no text over the alphabet, so the matcher has the same truth on all these texts.
 abbrev pub counts : Alphabet → Comparison → List ℕ → Bool
 counts a Text value = is_over a value
 counts a other value = true
 
--- Texts are the values, as far as they count, of those matchers that compare so, with a text or
--- with a pattern, and none of them stands twice.
+-- Texts are the values that count of the matchers with this comparison, with a text or with a
+-- pattern. None of them is listed twice.
 -- Source: own choice.
--- Example: of `team="db"`, `team!="db"` and `team=~"w.*"` they are `w.*` alone, or `db` alone. Over
--- ASCII they are no texts of `team="é"`.
+-- Example: for `team="db"`, `team!="db"` and `team=~"w.*"` they are `db` alone, or `w.*` alone.
+-- Over ASCII, `team="é"` has none.
 pub record AreValues (a : Alphabet) (ms : List Condition) (so : Comparison)
     (values : List (List ℕ)) : Type 0 where
   pub each : (k : ℕ) (m : Condition) → slice_get ms k ≡ Some m → comparison m.op ≡ so

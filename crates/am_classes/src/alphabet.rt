@@ -11,7 +11,7 @@ pub enum Alphabet {
 }
 
 impl Alphabet {
-    /// Whether a text may have a byte, as far as no other byte is looked at.
+    /// Whether a text may have a byte, if no other byte is looked at.
     pub(crate) fn has_byte(self, byte: u8) -> bool
         ensures { result ≡ has_byte self byte }
     {

@@ -10,8 +10,8 @@ use crate::Alphabet;
 use am_scan::PatternAutomaton;
 use std::alloc::{AllocError, Global};
 
-/// Makes the automata of patterns, for the texts of an alphabet. `None` where there is none of one
-/// of them.
+/// Makes the automata of patterns, for the texts of an alphabet. Returns `None` if one of the
+/// patterns has no automaton.
 pub(crate) fn automata_of(
     alloc: Global,
     alphabet: Alphabet,
@@ -34,7 +34,7 @@ pub(crate) fn automata_of(
     Ok(Some(automata))
 }
 
-/// The numbers of the empty text.
+/// Returns the numbers of the empty text, one for each pattern.
 pub(crate) fn end_numbers(
     alloc: Global,
     automata: &[PatternAutomaton],
@@ -48,8 +48,8 @@ pub(crate) fn end_numbers(
     Ok(numbers)
 }
 
-/// The numbers of a text with one byte more in front. `None` where these are not as many numbers as
-/// there are patterns.
+/// Returns the numbers of a text with one more byte before it. Returns `None` if the count of
+/// `numbers` is not the count of patterns.
 pub(crate) fn next_numbers(
     alloc: Global,
     automata: &[PatternAutomaton],
@@ -70,7 +70,7 @@ pub(crate) fn next_numbers(
     Ok(Some(nexts))
 }
 
-/// Of each byte, the first that each pattern makes the same of.
+/// For each byte, finds the first byte that every pattern treats alike.
 pub(crate) fn byte_classes(
     alloc: Global,
     automata: &[PatternAutomaton],
@@ -84,7 +84,7 @@ pub(crate) fn byte_classes(
     Ok(classes)
 }
 
-/// The first byte that each pattern makes the same of as of this one.
+/// Returns the first byte that every pattern treats like this one.
 fn first_alike(automata: &[PatternAutomaton], byte: u8) -> u8
     ensures { MakeSame automata.now result byte }
 {
@@ -96,7 +96,7 @@ fn first_alike(automata: &[PatternAutomaton], byte: u8) -> u8
     byte
 }
 
-/// Whether each pattern makes the same of two bytes. Only `true` promises something.
+/// Whether every pattern treats two bytes alike. Only `true` promises something.
 fn are_alike(automata: &[PatternAutomaton], one: u8, other: u8) -> bool
     ensures { IsTrue result → MakeSame automata.now one other }
 {
@@ -108,8 +108,8 @@ fn are_alike(automata: &[PatternAutomaton], one: u8, other: u8) -> bool
     true
 }
 
-/// Which patterns find a text of these numbers. `None` where these are not as many numbers as there
-/// are patterns.
+/// Returns which patterns find a text that has these numbers. Returns `None` if the count of
+/// numbers is not the count of patterns.
 pub(crate) fn found_patterns(
     alloc: Global,
     automata: &[PatternAutomaton],

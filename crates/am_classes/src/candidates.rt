@@ -13,17 +13,18 @@ use crate::samples::sampled;
 use std::alloc::{AllocError, Global};
 use std::str::from_utf8;
 
-/// Texts that no matcher names, no two of which the same patterns find.
+/// Texts that no matcher names. No two of them are found by exactly the same patterns.
 #[derive(Drop)]
 pub(crate) struct CandidateTexts {
     pub(crate) items: Vec<Candidate>,
-    /// Whether they stand for all such texts. If not, they are more than there is room for.
+    /// Whether they stand for all such texts. If not, there are more of them than there is room
+    /// for.
     pub(crate) all: bool,
 }
 
-/// Texts that no matcher names, one for each set of patterns that may find such a text, or more
-/// than there is room for. `None` where this cannot be computed, and never where there is no
-/// pattern.
+/// Finds texts that no matcher names: one for each set of patterns that finds such a text, or more
+/// of them than there is room for. Returns `None` if this cannot be computed. Without patterns it
+/// always can.
 pub(crate) fn candidates(
     alloc: Global,
     questions: &Questions,
@@ -50,7 +51,7 @@ pub(crate) fn candidates(
     explored(alloc, questions, room)
 }
 
-/// A text that is not named, where there is no pattern.
+/// Returns a text that is not named, as the only candidate. There must be no pattern.
 fn other_candidate(alloc: Global, questions: &Questions) -> Result<Vec<Candidate>, AllocError>
     requires { questions.now.automata.items ≡ [] }
     ensures { IfOk result (λ candidates. AreCandidates questions.now candidates.items) }
@@ -60,8 +61,8 @@ fn other_candidate(alloc: Global, questions: &Questions) -> Result<Vec<Candidate
     Ok(vec![in alloc; Candidate { text, found }]?)
 }
 
-/// A text that is not named: the empty one, which stands for absence, or `other`, and so on. There
-/// is one, since sooner or later the text is longer than each that is named.
+/// Returns a text that is not named: the empty text, which stands for absence, or else `other`,
+/// `otherother`, and so on. There is one, because the text becomes longer than each named text.
 fn other_text(alloc: Global, questions: &Questions) -> Result<String, AllocError>
     ensures unnamed { IfOk result (λ text. ¬ IsNamed questions.now (string_bytes text)) }
     ensures ordinary { IfOk result (λ text. IsOrdinary (string_bytes text)) }
@@ -73,8 +74,8 @@ fn other_text(alloc: Global, questions: &Questions) -> Result<String, AllocError
     Ok(text)
 }
 
-/// Adds the text of a state to the candidates, unless it is named, or the same patterns find one of
-/// them. `false` where this cannot be computed.
+/// Adds the text of a state to the candidates, unless the text begins inside a character, or is
+/// named, or a candidate is found by the same patterns. Returns `false` if this cannot be computed.
 pub(crate) fn add(
     alloc: Global,
     questions: &Questions,

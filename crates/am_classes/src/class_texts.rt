@@ -5,8 +5,9 @@
 //! truth of each matcher follows from the state. So one text is kept for each different row of
 //! truths.
 //!
-//! The search stops once there are more classes than a label may have values. A text that each
-//! pattern finds is tried first, because with many patterns that may show it at once.
+//! The search stops once there are more classes than a label may have values. With many patterns,
+//! for each pattern a text that it finds is tried first, because these texts may show at once that
+//! there are too many classes.
 ghost use Rattle.std.specs.Prelude.{◌≡◌, ◌++◌, ◌<◌, false, map, IfOk, IfSome, IfNone, IsTrue};
 ghost use Rattle.std.specs.Prelude.{string_bytes, vec_len};
 ghost use Rattle.am_universe.specs.declared.limits.TheConstants.{MAX_VALUES};
@@ -64,7 +65,7 @@ pub fn classes(
     Ok(Some(ClassTexts { texts, all }))
 }
 
-/// Texts, and those of candidates behind them.
+/// Returns texts, followed by those of candidates.
 fn with_texts(mut texts: Vec<String>, candidates: Vec<Candidate>) -> Result<Vec<String>, AllocError>
     ensures { IfOk result (λ all. map string_bytes all.items
         ≡ map string_bytes texts.items ++ map (λ c. string_bytes c.text) candidates.items) }

@@ -1,11 +1,11 @@
-//! The texts that end with what was read, by their places.
+//! The texts that end with what was read, by their positions.
 ghost use Rattle.std.specs.Prelude.{◌≡◌, ◌∷◌, [], ℕ, List, Some, false};
 ghost use Rattle.std.specs.Prelude.{IfOk, IsTrue, length, map, slice_get, string_bytes};
 ghost use Rattle.am_classes.specs.Ends.{HasEndsAt, HasByteBefore, IsAtOne};
 
 use std::alloc::{AllocError, Global};
 
-/// The places of all texts. Each ends with the empty one.
+/// Returns the positions of all texts, because each text ends with the empty text.
 pub(crate) fn all_places(alloc: Global, texts: &[String]) -> Result<Vec<usize>, AllocError>
     ensures { IfOk result (λ places. HasEndsAt (map string_bytes texts.now) places.items []) }
 {
@@ -16,7 +16,7 @@ pub(crate) fn all_places(alloc: Global, texts: &[String]) -> Result<Vec<usize>, 
     Ok(places)
 }
 
-/// The places, of these, of texts that have a byte in front of their last `count` ones.
+/// Returns those of the positions at which a text has this byte before its last `count` bytes.
 pub(crate) fn places_before(
     alloc: Global,
     texts: &[String],
@@ -38,8 +38,8 @@ pub(crate) fn places_before(
     Ok(found)
 }
 
-/// Whether the text at a place has a byte in front of its last `count` ones. Only `false` promises
-/// something.
+/// Whether the text at a position has this byte before its last `count` bytes. Only `false`
+/// promises something.
 fn has_byte_before(texts: &[String], place: usize, count: usize, byte: u8) -> bool
     ensures { HasByteBefore (map string_bytes texts.now) place count byte → IsTrue result }
 {
@@ -53,7 +53,7 @@ fn has_byte_before(texts: &[String], place: usize, count: usize, byte: u8) -> bo
     bytes[bytes.len() - 1 - count] == byte
 }
 
-/// Whether a text stands at one of these places.
+/// Whether a text is at one of these positions.
 pub(crate) fn is_at_one(texts: &[String], places: &[usize], text: &[u8]) -> bool
     ensures yes { IsTrue result → IsAtOne (map string_bytes texts.now) places.now text.now }
     ensures no { result ≡ false
@@ -67,7 +67,7 @@ pub(crate) fn is_at_one(texts: &[String], places: &[usize], text: &[u8]) -> bool
     false
 }
 
-/// Whether a text stands at a place.
+/// Whether a text is at a position.
 fn is_at(texts: &[String], place: usize, text: &[u8]) -> bool
     ensures yes { IsTrue result → slice_get (map string_bytes texts.now) place ≡ Some text.now }
     ensures no { result ≡ false

@@ -31,9 +31,9 @@ use crate::tail::Tail;
 use std::alloc::{AllocError, Global};
 use std::collections::HashMap;
 
-/// Lists states of a label until each that a text leads to is there, the shortest text first, and
-/// takes candidates from their texts. Ends sooner where these are more than there is room for.
-/// `None` where the states are too many, or one cannot be computed.
+/// Lists states of a label until each state that a text leads to is listed, and takes candidates
+/// from the texts. States with shorter texts come first. Ends early if there are more candidates
+/// than there is room for. Returns `None` if there are too many states, or one cannot be computed.
 pub(crate) fn explored(
     alloc: Global,
     questions: &Questions,
@@ -69,12 +69,12 @@ pub(crate) fn explored(
 #[derive(Drop)]
 struct Exploration {
     listed: Vec<ReachedState>,
-    // Where the state of a hash is listed, so that most states are looked up and not sought.
+    // The position of the listed state with a hash, so that most states are found without a search.
     places: HashMap<u64, usize>,
 }
 
 impl Exploration {
-    /// The state of the empty text alone.
+    /// Begins with the state of the empty text alone.
     fn new(alloc: Global, questions: &Questions) -> Result<Exploration, AllocError>
         ensures own { IfOk result (λ e. AreListed questions.now e.listed.items) }
         ensures first { IfOk result (λ e. (item : ReachedState)
@@ -89,8 +89,9 @@ impl Exploration {
         })
     }
 
-    /// Lists the states to which a byte leads from a listed state. Bytes that are printed well come
-    /// first, so that texts are read well.
+    /// Lists the states to which a byte leads from a listed state. Printable bytes come first,
+    /// those from `a` on before the others, so that the texts are easy to read. Returns `false` if
+    /// there are too many states, or one cannot be computed.
     fn explore(
         &mut self,
         alloc: Global,
@@ -118,9 +119,9 @@ impl Exploration {
         self.explore_bytes(alloc, questions, at, 127, 255, &mut led)
     }
 
-    /// Lists the states to which a byte of this range leads from a listed state. `led` has, of each
-    /// class of bytes, the last for which a step was taken, and where it led. `false` where there
-    /// are too many states, or one cannot be computed.
+    /// Lists the states to which the bytes of a range lead from a listed state. For each class of
+    /// bytes, `led` has the last byte for which a step was taken, and where it led. Returns `false`
+    /// if there are too many states, or one cannot be computed.
     fn explore_bytes(
         &mut self,
         alloc: Global,
@@ -149,7 +150,8 @@ impl Exploration {
     }
 
     /// Lists the state to which a byte leads from a listed state, unless another byte of its class
-    /// led to the same. `false` where there are too many states, or it cannot be computed.
+    /// led to the same state. Returns `false` if there are too many states, or this one cannot be
+    /// computed.
     fn explore_byte(
         &mut self,
         alloc: Global,
@@ -187,9 +189,9 @@ impl Exploration {
         Ok(true)
     }
 
-    /// Whether a byte leads from a listed state to the place to which another byte of its class
-    /// led. Most bytes do and need no step, since steps are slow where there are many patterns.
-    /// Only `true` promises something.
+    /// Whether a byte leads from a listed state to the position to which another byte of its class
+    /// led. Most bytes do, and then need no step. A step is slow if there are many patterns. Only
+    /// `true` promises something.
     fn repeats(
         &self,
         alloc: Global,
@@ -212,8 +214,8 @@ impl Exploration {
     }
 
     /// Lists the state to which a byte leads from a listed state, unless it is listed already, and
-    /// answers its place. `tail` is that of the state. `None` where there are too many states, or
-    /// it cannot be computed.
+    /// returns its position. `tail` is the tail of the new state. Returns `None` if there are too
+    /// many states, or this one cannot be computed.
     fn explore_step(
         &mut self,
         alloc: Global,
@@ -243,7 +245,7 @@ impl Exploration {
         self.list(ReachedState { state, text })
     }
 
-    /// The place of a listed state that serves for this one, where one is found.
+    /// Returns the position of a listed state that serves for this one, if one is found.
     fn place_of(&self, state: &LabelState) -> Option<usize>
         ensures { IfSome result (λ place. (item : ReachedState)
             × (slice_get self.now.listed.items place ≡ Some item)
@@ -259,8 +261,8 @@ impl Exploration {
         }
     }
 
-    /// Lists a state, and answers its place. `None`, and nothing is listed, where there are too
-    /// many.
+    /// Lists a state, and returns its position. If there are too many, lists nothing and returns
+    /// `None`.
     fn list(&mut self, item: ReachedState) -> Result<Option<usize>, AllocError>
         ensures listed { IfOk result (λ found. IfSome found (λ place.
             (place ≡ vec_len self.old.listed)

@@ -5,14 +5,14 @@ use crate::rest::Rest;
 use crate::tail::Tail;
 use am_scan::hash_with;
 
-/// All that matters to the matchers of a label of a text of which only the end has been read.
+/// All that matters to the matchers of a label about a text of which only the end has been read.
 #[derive(Drop)]
 pub(crate) struct LabelState {
-    /// What UTF-8 allows in front.
+    /// Which bytes UTF-8 allows before the text.
     pub(crate) tail: Tail,
     /// What was read, as long as a text that the matchers name ends with it.
     pub(crate) rest: Option<Rest>,
-    /// Its number to each pattern.
+    /// The number that each pattern gives the text.
     pub(crate) numbers: Vec<u32>,
 }
 
@@ -20,8 +20,8 @@ impl LabelState {
     ghost use Rattle.am_classes.specs.declared.questions.Questions.{Questions};
     ghost use Rattle.am_classes.specs.State.{FollowsLabel};
 
-    /// Whether two states are the same. Only `true` promises something: each text that has led to
-    /// one may as well have led to the other.
+    /// Whether two states are the same. Only `true` promises something: each text of one state is
+    /// also a text of the other.
     pub(crate) fn same(&self, other: &LabelState) -> bool
         ensures { IsTrue result → (questions : Questions) (text : List ℕ)
             → FollowsLabel questions self.now text → FollowsLabel questions other.now text }
@@ -32,7 +32,7 @@ impl LabelState {
         same_rest(&self.rest, &other.rest) && self.numbers.as_slice() == other.numbers.as_slice()
     }
 
-    /// A number by which states are told apart fast. Nothing is promised of it.
+    /// Returns a number by which states are told apart fast. Nothing is promised about it.
     pub(crate) fn hash(&self) -> u64 {
         let mut hash = match &self.rest {
             Some(rest) => rest.hash(),

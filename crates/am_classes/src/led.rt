@@ -1,4 +1,4 @@
-/// A byte, and the place of the listed state to which it led.
+/// A byte, and the position of the listed state to which it led.
 #[derive(Clone, Copy, Drop)]
 pub(crate) struct Led {
     pub(crate) byte: u8,

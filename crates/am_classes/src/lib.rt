@@ -1,11 +1,11 @@
 //! Texts that stand for all: one for each class of texts that a label's matchers cannot tell apart.
 //!
-//! [`classes`] gives them. If a matcher takes a pattern, all texts are explored from their ends:
-//! all that matters of an end is one of finitely many states, and each byte before it leads from
+//! [`classes`] gives them. If a matcher takes a pattern, all texts are explored from their ends.
+//! All that matters about an end is one of finitely many states, and each byte before it leads from
 //! one state to another.
 #![tactic(auto)]
 
-// How much there may be.
+// The limits of the exploration.
 pub mod limits;
 
 // Which texts there are.
@@ -13,11 +13,11 @@ mod alphabet;
 
 pub use alphabet::Alphabet;
 
-// What the matchers of a label ask of a text.
+// What the matchers of a label ask about a text.
 mod automata;
 mod questions;
 
-// What matters of a text of which only the end has been read.
+// What matters about a text of which only the end has been read.
 mod ends;
 mod label_state;
 mod rest;
@@ -28,7 +28,7 @@ mod exploration;
 mod led;
 mod reached_state;
 
-// The texts of which one stands for each class.
+// The texts that stand for the classes, one for each.
 mod candidate;
 mod candidates;
 mod class_texts;

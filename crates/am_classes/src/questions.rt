@@ -16,15 +16,15 @@ use am_labels::{Comparison, Matcher};
 use am_scan::PatternAutomaton;
 use std::alloc::{AllocError, Global};
 
-/// What the matchers of a label ask of a text: whether it is one of some texts, and which of some
-/// patterns find it. None stands there twice.
+/// What the matchers of a label ask about a text: whether it is one of some texts, and which of
+/// some patterns find it. No text and no pattern is listed twice.
 #[derive(Drop)]
 pub(crate) struct Questions {
-    /// Which texts they are asked of.
+    /// Which texts they are asked about.
     pub(crate) alphabet: Alphabet,
     pub(crate) texts: Vec<String>,
     pub(crate) automata: Vec<PatternAutomaton>,
-    /// Of each byte, the first that the patterns make the same of.
+    /// For each byte, the first byte that every pattern treats alike.
     classes: Vec<u8>,
     ghost fit: { list_all (fits alphabet) automata.items ≡ true },
     ghost alike: { AreClasses automata.items classes.items },
@@ -34,7 +34,8 @@ impl Questions {
     ghost use Rattle.am_classes.specs.State.{FollowsLabel, IsNamed, named_texts};
     ghost use Rattle.am_classes.specs.Asked.{AreAsked};
 
-    /// What matchers ask of texts over an alphabet. `None` where a pattern cannot be followed.
+    /// Finds what matchers ask about texts over an alphabet. Returns `None` if a pattern cannot be
+    /// followed.
     pub(crate) fn of(
         alloc: Global,
         alphabet: Alphabet,
@@ -61,14 +62,14 @@ impl Questions {
         }))
     }
 
-    /// Whether a text is one of those that are named.
+    /// Whether a text is a named text.
     pub(crate) fn names(&self, text: &[u8]) -> bool
         ensures { IsTrue result ↔ IsNamed self.now text.now }
     {
         is_among(self.texts.as_slice(), text)
     }
 
-    /// Whether a text that a state follows is one of those that are named.
+    /// Whether a text that a state follows is a named text.
     pub(crate) fn names_followed(&self, state: &LabelState) -> bool
         ensures { (text : List ℕ) → FollowsLabel self.now state.now text
             → (IsTrue result ↔ IsNamed self.now text) }
@@ -90,8 +91,9 @@ impl Questions {
         })
     }
 
-    /// The state of a text with one byte more in front, where its alphabet allows it and has this
-    /// tail then. `None` where the state has not as many numbers as there are patterns.
+    /// Returns the state of a text with one more byte before it, if the alphabet allows this byte
+    /// there and the text then has this tail. Returns `None` if the count of the state's numbers is
+    /// not the count of patterns.
     pub(crate) fn step(
         &self,
         alloc: Global,
@@ -116,7 +118,7 @@ impl Questions {
         }))
     }
 
-    /// What is kept of a text with one byte more in front.
+    /// Returns what is kept of a text with one more byte before it.
     fn rest(&self, alloc: Global, rest: &Option<Rest>, byte: u8) -> Result<Option<Rest>, AllocError>
         ensures { IfOk result (λ next. (text : List ℕ)
             → RestFollows (named_texts self.now) rest.now text
@@ -128,7 +130,7 @@ impl Questions {
         }
     }
 
-    /// The class of a byte, which is a byte that the patterns make the same of.
+    /// Returns the class of a byte: a byte that every pattern treats like it.
     pub(crate) fn class_of(&self, byte: u8) -> u8
         ensures { MakeSame self.now.automata.items result byte }
     {
@@ -138,8 +140,8 @@ impl Questions {
         }
     }
 
-    /// Whether the state to which one byte leads serves for another byte, if the patterns make the
-    /// same of both. Only `true` promises something.
+    /// Whether the state to which one byte leads serves for another byte too, if every pattern
+    /// treats both alike. Only `true` promises something.
     pub(crate) fn lead_alike(
         &self,
         alloc: Global,
@@ -166,8 +168,8 @@ impl Questions {
         Ok(rest.is_none())
     }
 
-    /// Which patterns find the texts that a state follows. `None` where the state has not as many
-    /// numbers as there are patterns.
+    /// Returns which patterns find the texts that a state follows. Returns `None` if the count of
+    /// the state's numbers is not the count of patterns.
     pub(crate) fn found(
         &self,
         alloc: Global,
@@ -181,7 +183,7 @@ impl Questions {
     }
 }
 
-/// Whether a text is one of those.
+/// Whether a text is one of these.
 fn is_among(texts: &[String], text: &[u8]) -> bool
     ensures { IsTrue result
         ↔ ((k : ℕ) × (slice_get (map string_bytes texts.now) k ≡ Some text.now)) }
@@ -189,7 +191,7 @@ fn is_among(texts: &[String], text: &[u8]) -> bool
     texts.iter().any(|other| other.as_bytes() == text)
 }
 
-/// The values that count of the matchers that compare so, each once.
+/// Returns the values that count of the matchers with this comparison, each once.
 fn values(
     alloc: Global,
     alphabet: Alphabet,
@@ -216,7 +218,7 @@ fn values(
     Ok(values)
 }
 
-/// Whether the value of a matcher counts: it is no text, or a text over the alphabet.
+/// Whether the value of a matcher counts: it is a pattern, or a text over the alphabet.
 fn counts(alphabet: Alphabet, comparison: Comparison, value: &str) -> bool
     ensures { result ≡ counts alphabet comparison value.now }
 {

@@ -5,20 +5,20 @@ use crate::ends::{all_places, is_at_one, places_before};
 use am_scan::hash_with;
 use std::alloc::{AllocError, Global};
 
-/// What was read of a text, where a text that the matchers name ends with it.
+/// What was read of a text, while a named text ends with it.
 #[derive(Drop)]
 pub(crate) struct Rest {
     /// All that was read.
     pub(crate) text: Vec<u8>,
-    /// The places of the named texts that end with it. A step looks at these alone, since there may
-    /// be many named texts and few that still end so.
+    /// The positions of the named texts that end with it. A step looks only at these, because there
+    /// may be many named texts, of which few still end so.
     pub(crate) places: Vec<usize>,
 }
 
 impl Rest {
     ghost use Rattle.am_classes.specs.Rest.{IsRestOf, RestFollows};
 
-    /// The rest of the empty text.
+    /// Returns the rest of the empty text.
     pub(crate) fn end(alloc: Global, texts: &[String]) -> Result<Rest, AllocError>
         ensures { IfOk result (λ rest. IsRestOf (map string_bytes texts.now) rest []) }
     {
@@ -28,7 +28,7 @@ impl Rest {
         })
     }
 
-    /// The rest with one byte more in front. `None` where none of the named texts ends with that.
+    /// Returns the rest with one more byte before it, or `None` if no named text ends with that.
     pub(crate) fn step(
         &self,
         alloc: Global,
@@ -49,7 +49,7 @@ impl Rest {
         Ok(Some(Rest { text, places }))
     }
 
-    /// Whether what was read is itself one of the named texts.
+    /// Whether what was read is itself a named text.
     pub(crate) fn is_named(&self, texts: &[String]) -> bool
         ensures { (text : List ℕ) → IsRestOf (map string_bytes texts.now) self.now text
             → (IsTrue result
@@ -58,8 +58,8 @@ impl Rest {
         is_at_one(texts, self.places.as_slice(), self.text.as_slice())
     }
 
-    /// Whether two rests are the same. Only `true` promises something: what the one is the rest of,
-    /// the other is too.
+    /// Whether two rests are the same. Only `true` promises something: if one is the rest of a
+    /// text, the other is too.
     pub(crate) fn same(&self, other: &Rest) -> bool
         ensures { IsTrue result → (texts : List (List ℕ)) (text : List ℕ)
             → IsRestOf texts self.now text → IsRestOf texts other.now text }
@@ -68,7 +68,7 @@ impl Rest {
             && self.places.as_slice() == other.places.as_slice()
     }
 
-    /// A number by which rests are told apart fast. Nothing is promised of it.
+    /// Returns a number by which rests are told apart fast. Nothing is promised about it.
     pub(crate) fn hash(&self) -> u64 {
         let mut hash = 1;
         for byte in &self.text {

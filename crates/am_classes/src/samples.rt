@@ -1,4 +1,4 @@
-//! Texts that patterns find. They soon show that there are too many classes, if there are.
+//! Texts that patterns find. If there are too many classes, these texts may show it soon.
 ghost use Rattle.std.specs.Prelude.{IfOk, IfSome};
 ghost use Rattle.am_classes.specs.State.{FollowsLabel};
 ghost use Rattle.am_classes.specs.Candidates.{AreApartCandidates};
@@ -11,7 +11,8 @@ use crate::reached_state::ReachedState;
 use am_scan::PatternAutomaton;
 use std::alloc::{AllocError, Global};
 
-/// Candidates from texts that the patterns find, one of each, until there is no room.
+/// Returns candidates from texts that the patterns find, one text for each pattern, until there are
+/// more than there is room for.
 pub(crate) fn sampled(
     alloc: Global,
     questions: &Questions,
@@ -30,7 +31,7 @@ pub(crate) fn sampled(
     Ok(candidates)
 }
 
-/// Adds a text to the candidates, unless the alphabet has no such text, or it is no candidate.
+/// Adds a text to the candidates, unless the alphabet has no such text, or it is not a candidate.
 fn add_text(
     alloc: Global,
     questions: &Questions,
@@ -47,7 +48,7 @@ fn add_text(
     Ok(())
 }
 
-/// A text with its state. `None` where the alphabet has no such text.
+/// Returns a text with its state, or `None` if the alphabet has no such text.
 fn item_of(
     alloc: Global,
     questions: &Questions,
@@ -69,7 +70,8 @@ fn item_of(
     Ok(Some(item))
 }
 
-/// A text with one byte more in front, with its state. `None` where the alphabet has no such text.
+/// Returns a text with one more byte before it, and its state, or `None` if the alphabet has no
+/// such text.
 fn longer_item(
     alloc: Global,
     questions: &Questions,
@@ -98,8 +100,8 @@ struct Reached {
     text: Vec<u8>,
 }
 
-/// A short text of letters and the like that a pattern finds, or else the empty text. Nothing is
-/// promised of it.
+/// Returns a short text of printable ASCII that a pattern finds, or the empty text if none was
+/// found. Nothing is promised about it.
 fn sample(alloc: Global, automaton: &PatternAutomaton) -> Result<Vec<u8>, AllocError> {
     let mut reached = vec![in alloc;
         Reached {
@@ -119,7 +121,7 @@ fn sample(alloc: Global, automaton: &PatternAutomaton) -> Result<Vec<u8>, AllocE
     Ok(Vec::new(alloc))
 }
 
-/// Adds the numbers to which a byte leads from one that was reached, with a text for each.
+/// Adds the numbers to which a byte leads from a number that was reached, each with a text.
 fn reach_more(
     alloc: Global,
     automaton: &PatternAutomaton,

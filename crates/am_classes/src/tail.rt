@@ -3,17 +3,17 @@ ghost use Rattle.am_classes.specs.Utf8.{text_step, tail_step, is_whole};
 
 use crate::Alphabet;
 
-/// What the front of the end of a text in UTF-8 is: how many bytes stand there of a character that
-/// begins further in front, and what the first of these bytes allows there.
+/// How the end of a text in UTF-8 begins: how many bytes at its front belong to a character that
+/// begins before them, and which bytes the first of these allows before it.
 #[derive(Clone, Copy, PartialEq, Eq, Drop)]
 pub(crate) enum Tail {
     /// A character begins here, or the text ends.
     Whole,
     One,
-    /// Two, of which the first is below `A0`.
+    /// Two bytes, of which the first is below `A0`.
     TwoLow,
     TwoHigh,
-    /// Three, of which the first is below `90`.
+    /// Three bytes, of which the first is below `90`.
     ThreeLow,
     ThreeHigh,
 }
@@ -26,8 +26,8 @@ impl Tail {
         matches!(self, Tail::Whole)
     }
 
-    /// The tail with one byte more in front; `None` where no text over the alphabet has such a byte
-    /// there.
+    /// Returns the tail with one more byte before it, or `None` if no text over the alphabet has
+    /// such a byte there.
     pub(crate) fn step(self, alphabet: Alphabet, byte: u8) -> Option<Tail>
         ensures { result ≡ text_step alphabet self byte }
     {
@@ -38,7 +38,7 @@ impl Tail {
         }
     }
 
-    /// The tail with one byte more in front; `None` where UTF-8 has no such byte there.
+    /// Returns the tail with one more byte before it, or `None` if UTF-8 allows no such byte there.
     fn utf8_step(self, byte: u8) -> Option<Tail>
         ensures { result ≡ tail_step self byte }
     {

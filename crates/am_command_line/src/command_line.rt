@@ -17,9 +17,9 @@ pub struct CommandLine<'a> {
     pub files: InputFiles<'a, &'a str>,
 }
 
-/// What a command line asks for. In a request about every alert, `universe` says that a universe
-/// file is given, whose impossible lists count, and `ascii` that only alerts of printable ASCII
-/// count.
+/// What a command line asks for. In a request about every alert, `universe` says whether a universe
+/// file is given, whose impossible lists then count, and `ascii` says whether only alerts of
+/// printable ASCII count.
 #[derive(Drop)]
 pub enum Request<'a> {
     /// What is wrong with a configuration and with silences, for every alert.
@@ -186,7 +186,7 @@ fn alerts_request<'a>(matches: &ArgMatches<'a>) -> Request<'a> {
     }
 }
 
-/// What `universe` asks for: one that is made, or what the one of `--check` lacks.
+/// What `universe` asks for: to make a universe, or to say what the one of `--check` lacks.
 fn universe_request<'a>(
     alloc: Global,
     matches: &ArgMatches<'a>,

@@ -1,4 +1,4 @@
-//! What help says of the program and of each command.
+//! The help texts of the program and of each command.
 
 pub(crate) const ABOUT: &str = "\
 Shows where Alertmanager routes alerts, and what silences or inhibits them

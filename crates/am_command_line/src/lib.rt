@@ -2,7 +2,8 @@
 //! for.
 //!
 //! [`parse_command_line`] reads the words of a command line as a [`CommandLine`]. The crate needs
-//! `clap` alone, so it is proved beside the crates that answer a request, and not after them.
+//! only `clap`, so it is proved at the same time as the crates that answer a request, not after
+//! them.
 #![tactic(auto)]
 
 mod command_line;

@@ -1,5 +1,5 @@
--- The files of a report that are accepted have no first fault, but for the patterns that the engine
--- may refuse.
+-- If the files of a report are accepted, there is no first fault, except for a pattern, which the
+-- engine may refuse.
 use Rattle.std.proofs.Common.{◌≡◌, ℕ, List, [], ◌∷◌}
 use Rattle.am_universe.specs.declared.kind.Kind.TheVariants as kinds
 use Rattle.am_universe.specs.declared.place.Place.{Place}

@@ -1,4 +1,4 @@
--- Calls of `ask` in a row: what each writes is what the one before it left.
+-- Calls of `ask` in a row: each writes what the one before it left.
 use Rattle.std.proofs.Common.{◌≡◌, inr, ℕ, List, [], ◌∷◌, ◌++◌, Option, None, Some}
 use Rattle.std.proofs.Common.{MatchOption, ap, sym, ◌∙◌, refl}
 use Rattle.std.specs.Prelude.{option_map}
@@ -33,7 +33,7 @@ use Rattle.am_commands.proofs.AskedPages.{enough_for}
 abbrev pub lines_left : Space → World → Question → Start → List ℕ
 lines_left s w q start = lines_text s.labels (answers_from (sizes s.labels) (is_answer s w q) start)
 
--- inputs that are accepted in two ways leave the same lines
+-- if the same inputs are accepted in two ways, they leave the same lines
 pub same_lines : (inputs : Inputs) (s t : Space) (w x : World) (q r : Question)
     (start other : Start) → AcceptsInputs inputs s w q start → AcceptsInputs inputs t x r other
     → lines_left s w q start ≡ lines_left t x r other
@@ -41,7 +41,8 @@ same_lines inputs s t w x q r start other said again =
     let same = one_meaning_of_inputs inputs s t w x q r start other said again in
     λ k. lines_left (same.0 k) (same.1 k) (same.2 k) (same.3 k)
 
--- the inputs with the token of a trailer are accepted, and ask for the start that it leaves
+-- the inputs with the token of a trailer are accepted, and ask for the start that the trailer
+-- leaves
 pub goes_on_at : (inputs : Inputs) (s : Space) (w : World) (q : Question) (start next : Start)
     (page : AnswerPage) → AcceptsInputs inputs s w q start
     → IsSearchPage (sizes s.labels) (verdict_of s w q) start page → start_after page.trailer ≡ Some next
@@ -79,7 +80,7 @@ asked_goes_on inputs asked next h ends =
     (searched_page h.2.space h.2.world h.2.question h.2.start asked.limit asked.steps)
     h.2.accepts (asked_page inputs asked h) (ap start_after (sym h.2.trailer_is) ∙ ends)
 
--- what a call has written is the lines of its page
+-- what a call wrote are the lines of its page
 page_lines : (inputs : Inputs) (asked : Asked) (h : IsAskedOf inputs asked)
     → asked.lines
     ≡ lines_text h.2.space.labels
@@ -91,7 +92,7 @@ page_lines inputs asked h =
     (trailer_text (inputs_fingerprint inputs) asked.trailer)
     (ap (λ t. lines_text h.2.space.labels page.choices ++ trailer_text (inputs_fingerprint inputs) t) h.2.trailer_is ∙ sym h.2.text_is))
 
--- the lines of a call, and those of what its trailer leaves, are all from its start on
+-- the lines of a call, and then those that its trailer leaves, are all lines from its start on
 lines_and_rest : (inputs : Inputs) (asked : Asked) (h : IsAskedOf inputs asked)
     → asked.lines
     ++ lines_text h.2.space.labels
@@ -154,7 +155,7 @@ whole_lines inputs asked h unlimited unbudgeted =
     ∙ ap (λ page. lines_text h.2.space.labels page.choices)
     (whole_page inputs asked h unlimited unbudgeted)
 
--- the lines of calls in a row are those of the one call without a limit and without a budget
+-- the lines of calls in a row are those of one call without a limit and without a budget
 pub row_is_one_page : (inputs : Inputs) (row : List Asked) (whole : Asked)
     → AreAskedInARow inputs row → IsAskedOf inputs whole → whole.limit ≡ None
     → whole.steps ≡ None → flat_map (λ (asked : Asked). asked.lines) row ≡ whole.lines
@@ -162,8 +163,8 @@ row_is_one_page inputs row whole h one unlimited unbudgeted =
     lines_of_row inputs row one.2.space one.2.world one.2.question one.2.start h one.2.accepts
     ∙ sym (whole_lines inputs whole one unlimited unbudgeted)
 
--- a call with the token of a trailer, without a limit and without a budget, writes what that trailer
--- left
+-- a call with the token of a trailer, without a limit and without a budget, writes what that
+-- trailer left
 pub again_ends : (inputs : Inputs) (first second : Asked) (next : Start) → IsAskedOf inputs first
     → start_after first.trailer ≡ Some next
     → IsAskedOf (after_token inputs (token_text (inputs_fingerprint inputs) next)) second → second.limit ≡ None

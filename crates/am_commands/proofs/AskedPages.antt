@@ -46,7 +46,7 @@ pub enough_for : (ns : List ℕ) → AreSizes ns → (steps : Option ℕ) → If
 enough_for ns are None h = tt
 enough_for ns are (Some n) h = omega (arith, are.labels, h)
 
--- what is known of the page that a trailer is of
+-- facts about a page with this trailer
 module _ (s : Space) (w : World) (q : Question) (start : Start) (limit steps : Option ℕ) (trailer : Trailer) (is : IsUniverse s.labels) (some : IfSome limit (λ n. 0 < n))
     (ends : trailer ≡ (searched_page s w q start limit steps).trailer) where
   pub rest_of_page : IfSome steps (λ n. MAX_LABELS < n)
@@ -92,7 +92,7 @@ lines_of_search_chain s w q start pages is h =
     lines_of_pages s.labels pages
     ∙ ap (lines_text s.labels) (search_chain_joined (sizes s.labels) (is_answer s w q) (verdict_of s w q) start pages (question_judges s w q is) h)
 
--- the page that is owed where inputs were read is that of the inputs
+-- the page that is owed after the inputs are read is that of the inputs
 pub page_of_read : (inputs : Inputs) (read : AcceptedInputs) (limit steps : Option ℕ) (trailer : Trailer) (text : List ℕ)
     → AcceptsInputs inputs read.space read.world (question_view read.question) read.start → read.fingerprint ≡ inputs_fingerprint inputs
     → IfSome limit (λ n. 0 < n) → IfSome steps (λ n. MAX_LABELS < n) → (page_promise read limit steps).May trailer text
@@ -119,7 +119,7 @@ page_of_read inputs read limit steps trailer text accepts made_from some enough 
       stopped = stopped_page s read.world q read.start limit steps trailer universe some is.0;
     }
 
--- what a call writes is lines and its trailer, so it is a call of which the laws speak
+-- what a call writes is lines and its trailer, so the laws of calls in a row apply to it
 pub asked_from : (inputs : Inputs) (limit steps : Option ℕ) (trailer : Trailer) (text : List ℕ)
     → IfSome limit (λ n. 0 < n) → IfSome steps (λ n. MAX_LABELS < n) → AnswersInputs inputs limit steps trailer text
     → (lines : List ℕ) × IsAskedOf inputs (record { limit = limit; steps = steps; lines = lines; trailer = trailer })

@@ -24,7 +24,7 @@ use Rattle.am_commands.specs.AskOutcome.{AreAskedSoFar}
 use Rattle.am_plans.proofs.Soundness.{question_judges}
 use Rattle.am_commands.proofs.AskedAgain.{asked_page, asked_goes_on}
 
--- the start that the trailer of a call leaves is later than its own
+-- the start that the trailer of a call leaves is later than the start of the call
 goes_later : (inputs : Inputs) (asked : Asked) (next : Start) (h : IsAskedOf inputs asked)
     → start_after asked.trailer ≡ Some next → BeginsLater (sizes h.2.space.labels) h.2.start next
 goes_later inputs asked next h ends =
@@ -48,7 +48,7 @@ again_later inputs first second next asked ends again =
     subst (BeginsLater (sizes asked.2.space.labels) asked.2.start) same.3
     (goes_later inputs first next asked ends)
 
--- how many choices there are from a start on, and in all
+-- the number of choices from a start on, and of all choices
 abbrev left_from : Space → Start → ℕ
 left_from s start = length (choices_from (sizes s.labels) start)
 
@@ -63,7 +63,7 @@ data HowFar (inputs : Inputs) (row : List Asked) (left : ℕ) : Type 0 where
   unfinished : length row < left → HowFar inputs row left
   not_begun : row ≡ [] → HowFar inputs row left
 
--- what follows a trailer that leaves such a start, if it leaves one
+-- what follows a trailer that leaves this start, if it leaves one
 abbrev Follows : (Inputs → List Asked → Type 0) → Inputs → List Asked → Option Start → Type 0
 Follows IsRow inputs more o =
     MatchOption (option_map (token_text (inputs_fingerprint inputs)) o) (more ≡ [])
@@ -109,7 +109,7 @@ how_far inputs (asked ∷ more) s w q start h accepts =
           | not_begun none ↦ unfinished (omega (arith, ap length none, fewer, some))
         ]
 
--- there are no more calls in a row than choices, and where there are so many, they have ended
+-- there are at most as many calls in a row as choices, and if there are as many, they have ended
 pub row_ends : (inputs : Inputs) (s : Space) (row : List Asked)
     → FileSaysUniverse inputs.universe s → AreAskedSoFar inputs row
     → (length row ≤ all_of s) × (all_of s ≤ length row → AreAskedInARow inputs row)

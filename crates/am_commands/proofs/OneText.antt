@@ -1,4 +1,4 @@
--- What a command writes is one text for the same inputs.
+-- The same inputs fix the text that a command writes.
 use Rattle.std.proofs.Common.{◌≡◌, ℕ, List, Option, ap, sym, subst, ◌∙◌}
 use Rattle.am_labels.specs.Space.{Space}
 use Rattle.am_config.specs.ConfigFile.{Configuration}
@@ -32,7 +32,7 @@ one_page inputs limit steps page other trailer again h k =
       h.trailer_is ∙ ap (λ p. p.trailer) pages ∙ sym k.trailer_is,
     )
 
--- a report is known from the files, where it is from what they say
+-- the files fix a report, if what they say fixes it
 one_report : (IsReport : Space → Configuration → List ℕ → Type 0)
     → ((s : Space) (c : Configuration) (report other : List ℕ) → IsReport s c report
     → IsReport s c other → report ≡ other)

@@ -1,4 +1,4 @@
--- What `ask` answers. (This project's own.)
+-- The results of `ask`. (This project's own.)
 use Rattle.std.specs.Prelude.{◌≡◌, ◌≢◌, ◌<◌, ℕ, List, [], ◌∷◌, ◌++◌, Option, None, IfSome}
 use Rattle.std.specs.Prelude.{MatchOption, option_map, ⊤}
 use Rattle.std.specs.List.{filter}
@@ -24,39 +24,39 @@ use Rattle.am_questions.specs.Inputs.{Inputs, inputs_fingerprint, after_token, A
 use Rattle.am_questions.specs.Inputs.{ask_stages}
 
 -- The page of the answers to a question about a world, over a space: from a start on, and under a
--- limit, if there is one.
+-- limit if there is one.
 -- Source: own choice.
--- Example: of three answers, the page from the first choice on under the limit 2 is the first two,
--- and `Next` with the second.
+-- Example: of three answers, the page from the first choice on under the limit 2 has the first two,
+-- and ends with `Next` and the second.
 abbrev pub answer_page : Space → World → Question → Start → Option ℕ → AnswerPage
 answer_page s w q start limit = page_from (sizes s.labels) (is_answer s w q) start limit
 
--- The page of a search for these answers, under a budget of steps too, if there is one. A step is a
--- judgement: at a prefix of a choice the search finds the verdict of the question, in the logic of
--- three values.
+-- The page of a search for these answers, which is also under a budget of steps if there is one. A
+-- step judges a prefix of a choice: the search finds the verdict of the question there, in the
+-- logic of three values.
 -- Source: own choice.
--- Example: over the labels `a` and `b`, each with two values, `{b="0"}` is `Open` at the empty
--- prefix and at 0. Under a budget of 2 the page is empty, and ends with `Stopped` at 0 0.
+-- Example: over the labels `a` and `b`, each with two values, the question `{b="0"}` is `Open` at
+-- the empty prefix and at 0. Under a budget of 2 the page is empty, and ends with `Stopped` at 0 0.
 abbrev pub searched_page : Space → World → Question → Start → Option ℕ → Option ℕ → AnswerPage
 searched_page s w q start limit steps =
     page_under (sizes s.labels) (verdict_of s w q) start limit steps
 
--- That page where the question, its world, its space and its start are what inputs were read as.
+-- That page for inputs that were read: for their question, world, space and start.
 abbrev pub page_of_inputs : AcceptedInputs → Option ℕ → Option ℕ → AnswerPage
 page_of_inputs read limit steps =
     searched_page read.space read.world (question_view read.question) read.start limit steps
 
 -- The inputs are accepted, and the text is the page of their answers, from the start that they ask
--- for, under this limit and under this budget of steps, as far as there are such, and ends with
--- this trailer. Without a budget it is the page of the answers, of which no verdict is asked. What
--- the trailer leaves is exactly the rest: the answers from the start on are those of the page, and
--- after them those from the trailer's start on. Where the search did not stop, it is the page
--- without the budget; where it stopped at a prefix, the lines are exactly the answers from the
--- start on that come before the prefix, and so before its first completion.
+-- for, under this limit and this budget of steps if there are any. The page ends with this trailer.
+-- Without a budget it is the page of the answers, which does not depend on verdicts. The trailer
+-- leaves exactly the rest: the answers from the start on are those of the page, and then those from
+-- the trailer's start on. If the search did not stop, the page is the one without the budget. If it
+-- stopped at a prefix, the lines are exactly the answers from the start on that come before the
+-- prefix, and so before its first completion.
 -- Source: own choice.
--- Example: over a universe whose one label `team` may be `db` or `web`, the page of `any` under the
--- limit 1 is the line `{team="db"}` and the trailer `# next t2:H:0`, where `H` stands for the 32
--- digits of the inputs.
+-- Example: over a universe whose only label `team` may be `db` or `web`, the page of `any` under
+-- the limit 1 is the line `{team="db"}` and the trailer `# next t2:H:0`, where `H` stands for the
+-- 32 digits of the fingerprint of the inputs.
 pub record AnswersInputs (inputs : Inputs) (limit steps : Option ℕ) (trailer : Trailer)
     (text : List ℕ) : Type 0 where
   pub space : Space
@@ -82,7 +82,7 @@ pub record AnswersInputs (inputs : Inputs) (limit steps : Option ℕ) (trailer :
       ≡ filter (λ c. comes_before c prefix)
       (answers_from (sizes space.labels) (is_answer space world question) start)
 
--- What `ask` owes: its stages, and the page of the answers, beside its trailer.
+-- What `ask` owes: its stages, and the page of the answers with its trailer.
 -- Source: own choice.
 -- Example: of three answers under the limit 2 it owes the first two and `# next` with the second.
 abbrev pub ask_promise : Inputs → Option ℕ → Option ℕ → Promise Trailer
@@ -91,7 +91,8 @@ ask_promise inputs limit steps = record {
   May = AnswersInputs inputs limit steps;
 }
 
--- What is owed where inputs were read: the page of their answers. No fault is left but memory.
+-- What is owed after the inputs are read: the page of their answers. The only faults that are left
+-- are `Memory` and `Write`.
 abbrev pub page_promise : AcceptedInputs → Option ℕ → Option ℕ → Promise Trailer
 page_promise read limit steps = record {
   stages = [];
@@ -101,8 +102,8 @@ page_promise read limit steps = record {
 
 -- ---- Calls in a row.
 
--- A call of `ask` that is done: its limit and its budget of steps, as far as it had these, the
--- lines that it wrote, and the trailer behind them.
+-- A call of `ask` that succeeded: its limit and its budget of steps, if it had any, the lines that
+-- it wrote, and the trailer after them.
 pub record Asked : Type 0 where
   pub limit : Option ℕ
   pub steps : Option ℕ
@@ -122,12 +123,11 @@ IsAskedOf inputs asked =
 abbrev pub token_after : List ℕ → Trailer → Option (List ℕ)
 token_after fingerprint trailer = option_map (token_text fingerprint) (start_after trailer)
 
--- Calls in a row, at least one: each under a limit and a budget of its own, the first with these
--- inputs, each later one with the same inputs but the token of the trailer before it, and the last
--- with `End`.
+-- Calls in a row, at least one. Each has its own limit and budget. The first has these inputs, and
+-- each later one the same inputs with the token of the trailer before it. The last ends with `End`.
 -- Source: own choice.
--- Example: a call that ends with `# next` and a token, and one with that token behind `--after`
--- that ends with `# end`.
+-- Example: a call that ends with `# next` and a token, and then a call with `--after` and that
+-- token that ends with `# end`.
 abbrev pub AreAskedInARow : Inputs → List Asked → Type 0
 AreAskedInARow inputs [] = ⊥
 AreAskedInARow inputs (asked ∷ more) =
@@ -135,10 +135,10 @@ AreAskedInARow inputs (asked ∷ more) =
     × MatchOption (token_after (inputs_fingerprint inputs) asked.trailer) (more ≡ [])
     (λ token. AreAskedInARow (after_token inputs token) more)
 
--- Calls in a row, as far as they have come: as above, but the last may end with a token too, behind
--- which no call was made yet.
+-- Calls in a row so far: as above, but there may be none, and the last may also end with a token
+-- with which no call was made yet.
 -- Source: own choice.
--- Example: one call that ends with `# next` and a token; and no call at all.
+-- Example: one call that ends with `# next` and a token; or no call at all.
 abbrev pub AreAskedSoFar : Inputs → List Asked → Type 0
 AreAskedSoFar inputs [] = ⊤
 AreAskedSoFar inputs (asked ∷ more) =

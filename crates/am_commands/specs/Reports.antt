@@ -1,4 +1,4 @@
--- What `dead` and `receivers` answer. (This project's own.)
+-- The results of `dead` and `receivers`. (This project's own.)
 use Rattle.std.specs.Prelude.{ℕ, List, [], ◌∷◌, ⊤}
 use Rattle.am_labels.specs.Space.{Space}
 use Rattle.am_list_files.specs.UniverseFile.{FileSaysUniverse}
@@ -15,8 +15,8 @@ pub record AcceptsReport (universe_file config_file : List ℕ) (space : Space)
 
 -- The files are accepted, and the text is a report of what they say.
 -- Source: own choice.
--- Example: over the universe `{"labels": []}` the report of `dead` on a configuration with the
--- top-level route alone is the lines `/ live {}` and `# end`.
+-- Example: over the universe `{"labels": []}` the report of `dead` on a configuration with only the
+-- top-level route is the lines `/ live {}` and `# end`.
 pub record ReportsFiles (universe_file config_file : List ℕ)
     (IsReport : Space → Configuration → List ℕ → Type 0) (report : List ℕ) : Type 0 where
   pub space : Space
@@ -26,7 +26,7 @@ pub record ReportsFiles (universe_file config_file : List ℕ)
 
 -- What both calls owe. Their stages are the universe file and then the configuration file.
 -- Source: own choice.
--- Example: where neither file is JSON, the first fault is the `not-json` of the universe file.
+-- Example: if neither file is JSON, the first fault is the `not-json` of the universe file.
 abbrev pub report_stages : List ℕ → List ℕ → List Stage
 report_stages universe_file config_file =
     universe_stage universe_file ∷ config_stage config_file ∷ []

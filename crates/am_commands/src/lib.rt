@@ -2,13 +2,13 @@
 //! [`Sink`](am_universe::Sink).
 //!
 //! [`ask`] writes the label sets of a universe that satisfy a question about a configuration,
-//! silences and firing alerts: all of them, or one [`Page`] after another. [`dead`] writes at which
-//! routes no label set of a universe ends, and [`receivers`] to which receivers none goes.
-//! [`explain`] writes why one label set goes where it goes, and [`explain_words`] does so for a set
-//! in words. [`fingerprint`] is what the token of a page knows of the inputs.
+//! silences and firing alerts: all of them, or one [`Page`] after another. [`dead`] writes for each
+//! route whether a label set of a universe ends there, and [`receivers`] for each receiver whether
+//! one goes to it. [`explain`] writes why one label set goes where it goes, and [`explain_words`]
+//! does so for a set in words. [`fingerprint`] is what the token of a page has of the inputs.
 #![tactic(auto)]
 
-// The layers below: what goes in, how a page ends, and how a fault is written.
+// Items of the crates below: the inputs, how a page ends, and how a fault is written.
 pub use am_eval::Files;
 pub use am_questions::fingerprint;
 pub use am_search::{Page, Trailer};
@@ -23,5 +23,5 @@ pub use asking::ask;
 pub use explaining::{explain, explain_words};
 pub use reporting::{dead, receivers};
 
-// What holds of the definitions by themselves.
+// Facts about the definitions alone.
 pub mod laws;

@@ -34,7 +34,7 @@ pub fn dead<W: Sink>(
     config: &[u8],
     out: &mut W,
 ) -> Result<(), Fault>
-    // The line of a route says that it is dead exactly where no label set ends there.
+    // The line of a route says that it is dead exactly if no label set ends there.
     ensures kept { IsKept (dead_promise universe.now config.now)
         W.taken W.failures out.old out.new result }
 {
@@ -57,7 +57,7 @@ pub fn receivers<W: Sink>(
     config: &[u8],
     out: &mut W,
 ) -> Result<(), Fault>
-    // The line of a receiver says that it is unmatched exactly where no label set goes to it.
+    // The line of a receiver says that it is unmatched exactly if no label set goes to it.
     ensures kept { IsKept (receivers_promise universe.now config.now)
         W.taken W.failures out.old out.new result }
 {

@@ -1,4 +1,4 @@
--- Texts that some matchers cannot tell apart: an equivalence; and of fewer matchers.
+-- Texts that some matchers cannot tell apart: this is an equivalence, and holds for fewer matchers.
 use Rattle.std.proofs.Common.{◌≡◌, ℕ, List, [], ◌∷◌, Contains, refl, sym, ◌∙◌, inl, inr, arith}
 use Rattle.std.specs.Cmp.Lexicographic.{bytes_decides}
 use Rattle.std.proofs.lemmas.Grind.{common_steps}
@@ -22,7 +22,7 @@ pub alike_joined : (ms : List Condition) (x y z : List ℕ) → AreAlike ms x y 
 alike_joined [] x y z g h = tt
 alike_joined (m ∷ ms) x y z g h = (g.0 ∙ h.0, alike_joined ms x y z g.1 h.1)
 
--- one text alone
+-- a list of one element contains that element alone
 pub only : {X : Type 0} (y x : X) → Contains (y ∷ []) x → y ≡ x
 only y x there = grind (arith, common_steps)
 

@@ -1,4 +1,4 @@
--- Texts of which no two are alike: that they are distinct, with one more, and how many there are.
+-- Texts, no two of which are alike: they are distinct; with one more; and how many there are.
 use Rattle.std.proofs.Common.{◌≡◌, ◌≤◌, ℕ, zero, suc, true, List, [], ◌∷◌, ◌++◌, length}
 use Rattle.std.proofs.Common.{get_or, refl, subst, inl, inr, arith}
 use Rattle.std.specs.List.{AllByRecursion, IsDistinct}
@@ -64,7 +64,7 @@ alike_through ms x y z e =
 alike_equivalence : (ms : List Condition) → IsEquivalence (alike ms)
 alike_equivalence ms = grind (arith, common_steps, alike_itself_is, turned, alike_through)
 
--- texts of which no two are alike are no more than others, where each has one alike among these
+-- if no two texts are alike, and each has one alike among others, they are no more than the others
 pub apart_are_no_more : (ms : List Condition) (xs ys : List (List ℕ)) → AreApart ms xs
     → AllByRecursion (HasAlikeIn ms ys) xs → length xs ≤ length ys
 apart_are_no_more ms xs ys apart each =

@@ -1,4 +1,4 @@
--- Labels that are asked of: their names, and the matchers on them.
+-- Labels that are asked about: their names, and the matchers on them.
 use Rattle.std.proofs.Common.{◌≡◌, ◌≢◌, ℕ, List, [], ◌∷◌, Contains, refl, sym, ◌∙◌, subst, inl, inr}
 use Rattle.std.specs.Prelude.{IsTrue}
 use Rattle.std.specs.List.{AllByRecursion}
@@ -30,7 +30,7 @@ none_on name (m ∷ ms) none = elim (cases_Bool (same_text m.name name)) [
   | inr differs ↦ rw differs (none_on name ms (λ x i. none x (inr i)))
 ]
 
--- a label that is asked of has the same matchers as stand on it
+-- a label that is asked about has the same matchers as those that are on it
 pub on_name : (asked : List AskedLabel) (ms : List Condition) (l : AskedLabel) → IsAskedOf asked ms
     → IsIn asked l → l.name ≢ [] → HaveSameMatchers l.matchers (about l.name ms)
 on_name asked ms l asks i some =
@@ -46,7 +46,7 @@ on_named asked ms l asks i some =
     (about_is l.name ms m
     (in_there l.matchers (about l.name ms) m (on_name asked ms l asks i some) h)).1)
 
--- and those of impossible lists that ask of it alone are among them
+-- and those of impossible lists that ask about it alone are among them
 all_on : (name : List ℕ) (list : List Condition) → IsTrue (asks_only_of name list)
     → (m : Condition) → IsIn list m → m.name ≡ name
 all_on name list alone m i =
@@ -73,7 +73,7 @@ asked_for impossible asked ms l asks among i some = record {
   lists = those_of_lists ms l impossible among (on_name asked ms l asks i some);
 }
 
--- a name that is not asked of has no matcher on it
+-- a name that is not asked about has no matcher on it
 pub not_asked : (asked : List AskedLabel) (ms : List Condition) (name : List ℕ)
     → IsAskedOf asked ms → (Contains (asked_names asked) name → ⊥) → name ≢ []
     → about name ms ≡ []

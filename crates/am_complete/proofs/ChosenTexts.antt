@@ -1,5 +1,5 @@
--- Texts that stand for classes of texts: others of their classes do too, and so they do in another
--- order.
+-- Texts that stand for classes of texts. Other texts of these classes stand for them too, and so do
+-- the texts in another order.
 use Rattle.std.proofs.Common.{◌≡◌, ◌<◌, ℕ, zero, suc, Bool, true, false, List, [], ◌∷◌, ◌++◌}
 use Rattle.std.proofs.Common.{length, map, take, String, string_bytes, get_or, Option, Some, None}
 use Rattle.std.proofs.Common.{refl, sym, ap, ◌∙◌, subst, inl, inr, arith}
@@ -59,7 +59,7 @@ classes_chosen alphabet ms xs ys all each over classes = record {
   over = over;
 }
 
--- one text more
+-- one more text
 pub one_more_each : (ms : List Condition) (xs ys : List (List ℕ)) (x y : List ℕ)
     → AreAlikeEach ms xs ys → AreAlike ms x y → AreAlikeEach ms (xs ++ x ∷ []) (ys ++ y ∷ [])
 one_more_each ms [] [] x y each here = (here, tt)
@@ -79,7 +79,7 @@ found_among ms have texts j y (Some k) at_y some is =
     let r = some y at_y in
     (r.0, Contains-from_IsIn have r.0 (in_at have k r.0 r.1), r.2)
 
--- what holds of as many texts as there are holds of all
+-- what holds for as many texts as there are holds for all
 pub each_of_all : (P : List ℕ → Type 0) (texts : List (String Global)) (n : ℕ)
     → n ≡ length texts → AllByRecursion P (map string_bytes (take n texts))
     → AllByRecursion P (map string_bytes texts)
@@ -99,7 +99,7 @@ one_truth true false e = absurd (cc)
 one_truth false true e = absurd (cc)
 one_truth false false e = refl
 
--- truths are the same where each gives the other
+-- two truths are the same if each gives the other
 pub same_where_both : (a b : Bool) → (a ≡ true → b ≡ true) → (b ≡ true → a ≡ true) → a ≡ b
 same_where_both true b f g = sym (f refl)
 same_where_both false true f g = g refl

@@ -1,5 +1,5 @@
--- Where a universe and a space are complete: at labels that no matcher is on, and by those alone that
--- matchers ask of.
+-- When a universe and a space are complete: at labels that no matcher is on, and by the labels
+-- alone that matchers ask about.
 use Rattle.std.proofs.Common.{◌≡◌, ◌≢◌, ◌⊎◌, ℕ, ◌<◌, List, [], ◌∷◌, length, map, Bool, ◌&&◌, refl}
 use Rattle.std.proofs.Common.{sym, ◌∙◌, subst, inl, inr, arith, Contains}
 use Rattle.std.specs.Prelude.{unwrap_or, IsTrue}
@@ -45,7 +45,7 @@ complete_without_matchers alphabet u ms name h none text valid =
 
 -- ---- By the labels of the matchers alone.
 
--- a label that no matcher is on, or a matcher on it
+-- no matcher is on a label, or there is a matcher on it
 pub some_about : (name : List ℕ) (ms : List Condition)
     → (about name ms ≡ []) ⊎ ((m : Condition) × IsIn ms m × (m.name ≡ name))
 some_about name [] = inl refl
@@ -57,14 +57,14 @@ some_about name (m ∷ ms) = elim (cases_Bool (same_text m.name name)) [
   ]
 ]
 
--- it is enough to look at the names that matchers ask of
+-- it is enough to look at the names that matchers ask about
 pub by_names : (P : List ℕ → Type 0) (ms : List Condition)
     → ((name : List ℕ) → about name ms ≡ [] → P name)
     → ((m : Condition) → IsIn ms m → m.name ≢ [] → P m.name)
     → (name : List ℕ) → name ≢ [] → P name
 by_names P ms without on name some = grind (arith, common_steps, some_about)
 
--- or at the labels that are asked of
+-- or at the labels that are asked about
 named_by : (asked : List AskedLabel) (ms : List Condition) (m : Condition) → IsAskedOf asked ms
     → IsIn ms m → m.name ≢ [] → (l : AskedLabel) × IsIn asked l × (l.name ≡ m.name)
 named_by asked ms m asks i some =
@@ -99,7 +99,7 @@ space_complete_where_asked alphabet s asked ms h asks =
 
 -- ---- Impossible lists that ask of one label alone.
 
--- a list that asks of one label alone matches a label set where it matches its text of that label
+-- a list about one label alone matches a label set exactly if it matches its text of that label
 pub alone_truth : (set : LabelMap) (name : List ℕ) (list : List Condition)
     → IsTrue (asks_only_of name list) → all_hold set list ≡ matches_text (value_of set name) list
 alone_truth set name [] alone = refl

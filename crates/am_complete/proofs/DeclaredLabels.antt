@@ -1,4 +1,5 @@
--- Why a label is not declared: for a new label name and distinct texts there is no room.
+-- Why a label is not declared: if its label name is new and its texts are distinct, there is no
+-- room.
 use Rattle.std.proofs.Common.{◌≡◌, ◌≢◌, ◌<◌, ◌≤◌, ℕ, List, [], ◌∷◌, length, map, false, refl, sym}
 use Rattle.std.proofs.Common.{ap, ◌∙◌, subst, arith, Some, None, Contains, length-append}
 use Rattle.std.specs.Prelude.{IsTrue, unwrap_or, Option}

@@ -1,4 +1,4 @@
--- The labels that matchers ask of, and the position of each by its name, with one matcher more.
+-- The labels that matchers ask about, and the position of each by its name, with one more matcher.
 use Rattle.std.proofs.Common.{◌≡◌, ℕ, zero, suc, ◌<◌, Bool, true, false, cond, List, [], ◌∷◌, ◌++◌, length}
 use Rattle.std.proofs.Common.{map, set, Some, None, refl, sym, ap, ◌∙◌, subst, inl, inr, arith, Bor}
 use Rattle.std.proofs.Common.{bytes_eq, ◌↔◌, slice_get}
@@ -28,7 +28,7 @@ pub name_at : (labels : List AskedLabel) (i : ℕ) (l : AskedLabel) (name : List
     → slice_get labels i ≡ Some l → l.name ≡ name → slice_get (asked_names labels) i ≡ Some name
 name_at labels i l name at named = grind (arith, common_steps, slice_get-map)
 
--- the label that stands where a name does has that name
+-- the label at the position of a name has that name
 pub named_at : (labels : List AskedLabel) (i : ℕ) (l : AskedLabel) (name : List ℕ)
     → slice_get labels i ≡ Some l → slice_get (asked_names labels) i ≡ Some name → l.name ≡ name
 named_at labels i l name at there =
@@ -39,7 +39,7 @@ pub within_names : (labels : List AskedLabel) (i : ℕ) (name : List ℕ)
     → slice_get (asked_names labels) i ≡ Some name → i < length labels
 within_names labels i name at = grind (arith, common_steps, slice_get_within, length-map)
 
--- where no label has a name, it stands nowhere
+-- a name that no label has is at no position
 unnamed : (labels : List AskedLabel) (name : List ℕ)
     → list_any (λ l. same_text l.name name) labels ≡ false
     → (i : ℕ) → slice_get (asked_names labels) i ≡ Some name → ⊥
@@ -51,7 +51,7 @@ unnamed labels name none i at =
 
 -- ---- A label that was not asked of before.
 
--- the map with the position of one label more
+-- the map with the position of one more label
 pub indexed_push : (before after : BTreeMap (Bor (List ℕ)) ℕ) (labels : List AskedLabel)
     (label : AskedLabel) (key : List ℕ) (n : ℕ) → IsIndexed before labels → label.name ≡ key
     → list_any (λ l. same_text l.name key) labels ≡ false → n ≡ length labels
@@ -92,7 +92,7 @@ indexed_push before after labels label key n indexed named absent counted update
           )
     ])
 
--- where the map has no position of a name, no label has it
+-- if the map has no position for a name, no label has the name
 pub absent_label : (positions : BTreeMap (Bor (List ℕ)) ℕ) (labels : List AskedLabel)
     (name : List ℕ) → IsIndexed positions labels → position_in positions name ≡ None
     → list_any (λ l. same_text l.name name) labels ≡ false
@@ -105,7 +105,7 @@ absent_label positions labels name indexed absent =
 
 -- ---- A label that was asked of before.
 
--- a label in the place of one with the same name
+-- a label that replaces one with the same name
 names_set : (labels : List AskedLabel) (i : ℕ) (l next : AskedLabel) → slice_get labels i ≡ Some l
     → next.name ≡ l.name → asked_names labels ≡ asked_names (set labels i next)
 names_set [] i l next h same = absurd (cc)
@@ -143,7 +143,7 @@ one_gains m (x ∷ labels) (suc i) l h named alone =
       | inr other ↦ rw other (ap (λ ls. x ∷ ls) later)
     ]
 
--- where a label has the name, that label has one matcher more, and is the only one
+-- if a label has the name, that label alone gets one more matcher
 pub asked_again : (positions : BTreeMap (Bor (List ℕ)) ℕ) (labels : List AskedLabel)
     (origin : Origin) (m : Condition) (i : ℕ) (l : AskedLabel) → IsIndexed positions labels
     → position_in positions m.name ≡ Some i → slice_get labels i ≡ Some l
@@ -167,14 +167,14 @@ pub name_kept : {T E : Type 0} (m : Condition) (l next : AskedLabel) (r : Result
 name_kept m l next (Ok x) added same = ap (λ k. k.name) added ∙ with_matcher_name m l
 name_kept m l next (Err e) added same = ap (λ k. k.name) same
 
--- and the names stay where they are
+-- and the names keep their positions
 pub indexed_again : (positions : BTreeMap (Bor (List ℕ)) ℕ) (labels : List AskedLabel)
     (i : ℕ) (l next : AskedLabel) → IsIndexed positions labels → slice_get labels i ≡ Some l
     → next.name ≡ l.name → IsIndexed positions (set labels i next)
 indexed_again positions labels i l next indexed there same q j =
     grind (arith, common_steps, names_set)
 
--- a label stands where the map says
+-- each position in the map is one of a label
 pub within : (positions : BTreeMap (Bor (List ℕ)) ℕ) (labels : List AskedLabel) (name : List ℕ)
     (i : ℕ) → IsIndexed positions labels → position_in positions name ≡ Some i
     → i < length labels

@@ -1,4 +1,4 @@
--- How a universe stands at the labels that are asked of.
+-- What a space lacks at the labels that are asked about.
 use Rattle.std.proofs.Common.{◌≡◌, ◌≢◌, ◌<◌, ◌+◌, ◌==◌, ℕ, Bool, true, false, not, List, [], ◌∷◌}
 use Rattle.std.proofs.Common.{◌++◌, length, map, take, get_or, Option, Some, None, Contains, refl}
 use Rattle.std.proofs.Common.{sym, ap, ◌∙◌, subst, inl, inr, arith, String, string_bytes}
@@ -66,7 +66,7 @@ pub standing_at : (s : Space) (name : List ℕ) (i : ℕ) → label_position s.l
     → map (λ v. unwrap_or v []) (values_at s.labels i) ≡ standing_texts s name
 standing_at s name i e = grind (arith, common_steps, values_of_found, found_at)
 
--- texts in memory, with that of one value more
+-- texts in memory, with the text of one more value
 pub texts_more : (values : Values) (j : ℕ) (texts : List (String Global)) (text : String Global)
     → map string_bytes texts ≡ map (λ v. unwrap_or v []) (take j values)
     → string_bytes text ≡ unwrap_or (get_or values j None) [] → j < length values
@@ -75,7 +75,7 @@ texts_more values j texts text before here lt = grind (arith, common_steps, map-
 
 -- ---- At one label.
 
--- texts that are alike to texts that cover all cover all
+-- if texts cover all, and each has one alike among others, the others cover all too
 pub covered : (alphabet : Alphabet) (impossible : List (List Condition)) (name : List ℕ) (ms : List Condition)
     (have texts : List (List ℕ)) → CoverPossible alphabet impossible name ms texts
     → AllByRecursion (HasAlikeIn ms have) texts → CoverPossible alphabet impossible name ms have
@@ -124,7 +124,7 @@ state_is_so alphabet s asked alerts l state i h =
       unseen = h.unseen;
     }
 
--- a name is declared where a label has it, and else it is not
+-- a name is declared exactly if a label has it
 pub declared_where : (u : List Label) (name : List ℕ) → IsIn (names u) name
     → is_declared u name ≡ true
 declared_where u name i =
@@ -158,7 +158,7 @@ not_declared u name (Some i) false at absent is = ap not (sym (declared_by u i n
 
 -- ---- Label after label.
 
--- what stands at a position
+-- what is at a position
 pub stands_at : {X : Type 0} (xs : List X) (i : ℕ) (x : X) → i < length xs → x ≡ get_or xs i x
     → slice_get xs i ≡ Some x
 stands_at xs i x lt is = slice_get_read xs (length xs) i x refl lt is
@@ -171,7 +171,7 @@ none_more test xs i x at before fails =
     ∙ or_from (list_any test (take i xs)) (test (get_or xs i x)) before
     (ap test (get_or_from_slice_get xs i x x at) ∙ fails)
 
--- a text is empty exactly where it does not begin
+-- a text is empty exactly if it does not begin
 pub empty_begins : (text : List ℕ) → not (length text == 0) ≡ begins text
 empty_begins [] = refl
 empty_begins (c ∷ cs) = grind (arith, nat_tests)
@@ -231,7 +231,7 @@ settled_complete alphabet s ms asked name state_is.Unasked universe so settled =
 settled_complete alphabet s ms asked name state_is.Undeclarable universe so settled = absurd (cc)
 settled_complete alphabet s ms asked name (state_is.Unproved origin) universe so settled = absurd (cc)
 
--- each name that is asked of is reported
+-- each name that is asked about is reported
 reported : (u : List Label) (asked : List AskedLabel) (l : AskedLabel) → IsIn asked l
     → IsIn (reported_names u asked) l.name
 reported u asked l i = elim (cases_Bool (is_declared u l.name)) [
@@ -243,7 +243,7 @@ reported u asked l i = elim (cases_Bool (is_declared u l.name)) [
       (IsIn-map (λ x. x.name) asked l i) (ap not none))
 ]
 
--- where each state is settled, the space is complete
+-- if each state is settled, the space is complete
 pub complete_where_settled : (alphabet : Alphabet) (s : Space) (asked : List AskedLabel)
     (alerts : Option (List LabelMap)) (states : List LabelState) → IsUniverse s.labels
     → names_of states ≡ reported_names s.labels asked

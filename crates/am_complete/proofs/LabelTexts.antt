@@ -29,7 +29,7 @@ found_in name (m ∷ u) l e = elim (cases_Bool (has_name name m)) [
   | inr apart ↦ let r = found_in name u l (rw apart at e) in (inr r.0, r.1)
 ]
 
--- there is none where no name is this one
+-- no label is found if none has this name
 pub none_found : (u : List Label) (name : List ℕ) → (Contains (names u) name → ⊥)
     → find (has_name name) u ≡ None
 none_found u name fresh = by (find (has_name name) u) refl
@@ -41,7 +41,7 @@ none_found u name fresh = by (find (has_name name) u) refl
         absurd (fresh (Contains-from_IsIn (names u) name
         (subst (IsIn (names u)) r.1 (IsIn-map (λ k. k.name) u l r.0))))
 
--- in a universe it is the one with that name
+-- in a universe, the label with a name is found
 pub finds_label : (u : List Label) (l : Label) → IsDistinct same_text (names u) → IsIn u l
     → find (has_name l.name) u ≡ Some l
 finds_label [] l d h = absurd h
@@ -59,18 +59,18 @@ pub declared_texts : (u : List Label) (l : Label) → IsUniverse u → IsIn u l
     → label_texts u l.name ≡ map (λ v. unwrap_or v []) l.values
 declared_texts u l h i = ap texts_of_label (finds_label u l h.distinct i)
 
--- the texts of a name are so where absence alone is, and those of each label of that name
+-- what holds for absence alone, and for the texts of each label of a name, holds for its texts
 pub texts_by : (P : List (List ℕ) → Type 0) (u : List Label) (name : List ℕ) → P ([] ∷ [])
     → ((l : Label) → IsIn u l → l.name ≡ name → P (texts_of_label (Some l)))
     → P (label_texts u name)
 texts_by P u name absent declared = grind (arith, common_steps, found_in)
 
--- a label that no name is of is not declared
+-- a name that no label has stands for absence alone
 pub unnamed_texts : (u : List Label) (name : List ℕ) → (Contains (names u) name → ⊥)
     → label_texts u name ≡ [] ∷ []
 unnamed_texts u name fresh = ap texts_of_label (none_found u name fresh)
 
--- nor is one whose name is none of a label
+-- and so does a name that is no label name, because no label of a universe has it
 pub named_labels : (u : List Label) (name : List ℕ) → IsUniverse u → IsIn (names u) name
     → IsTrue (is_label_name name)
 named_labels u name h i =

@@ -1,4 +1,4 @@
--- Universes that are made beside a space, of what the labels that are asked of lack there.
+-- Universes that are made beside a space, from what the labels that are asked about lack there.
 use Rattle.std.proofs.Common.{◌≡◌, ◌≢◌, ◌<◌, ◌≤◌, ◌+◌, ℕ, zero, suc, List, [], ◌∷◌, ◌++◌}
 use Rattle.std.proofs.Common.{Bool, true, false, not, cond, length, map, take, Option, Some, None, Contains, refl}
 use Rattle.std.proofs.Common.{sym, ap, ◌∙◌, subst, inl, inr, arith, slice_get}
@@ -167,7 +167,7 @@ module _ (a : Alphabet) (s : Space) where
   at_missing (x ∷ asked) (k ∷ missing) zero m zip at = grind (arith, common_steps)
   at_missing (x ∷ asked) (k ∷ missing) (suc i) m zip at = at_missing asked missing i m zip.1 at
 
-  -- and that which is found by a name
+  -- and what is found by a name
   pub by_name : (asked : List AskedLabel) (missing : List MissingTexts) (name : List ℕ)
       (m : MissingTexts) → AreMissing a s asked missing → missing_for missing name ≡ Some m
       → (l : AskedLabel) × IsIn asked l × (l.name ≡ name) × IsMissingAt a s l m
@@ -186,7 +186,7 @@ module _ (a : Alphabet) (s : Space) where
         let r = by_name asked missing name m zip.1 (rw differs at e) in (r.0, inr r.1, r.2, r.3)
   ]
 
-  -- by the name of the label at a position that is what this label lacks
+  -- by the name of the label at a position, what this label lacks is found
   pub named_at : (asked : List AskedLabel) (missing : List MissingTexts) (i : ℕ) (l : AskedLabel)
       (m : MissingTexts) → AreMissing a s asked missing
       → IsDistinct same_text (asked_names asked) → slice_get asked i ≡ Some l
@@ -280,7 +280,7 @@ module _ (a : Alphabet) (s : Space) where
 
   -- ---- What is covered.
 
-  -- a label that lacks texts is declared, there or beside
+  -- a label that lacks texts is declared, in the space or beside it
   named_beside : (missing : List MissingTexts) (m : MissingTexts) → IsIn missing m
       → has_some m.texts ≡ true → IsIn (names s.labels ++ names_to_declare s.labels missing) m.name
   named_beside missing m i some = elim (cases_Bool (is_declared s.labels m.name)) [
@@ -308,7 +308,7 @@ module _ (a : Alphabet) (s : Space) where
       ∙ AllByRecursion-at (IsWhole s missing) v k.0 whole k.1 ∙ ap (whole_texts s missing) k.2
       ∙ ap (λ o. standing_texts s name ++ texts_of_missing o) found
 
-  -- and of one that is not, since it lacks none
+  -- and of one that is not declared, because it lacks none
   alone_there : (missing : List MissingTexts) (v : List Label) (l : AskedLabel)
       (m : MissingTexts) → names v ≡ names s.labels ++ names_to_declare s.labels missing
       → (Contains (names v) l.name → ⊥) → IsIn missing m → m.name ≡ l.name
@@ -387,7 +387,7 @@ module _ (a : Alphabet) (s : Space) where
 
 -- ---- What is kept.
 
--- values that are not the empty text are the same where their texts are
+-- values that are not the empty text are the same if their texts are
 same_values : (v w : Option (List ℕ)) → is_empty_text v ≡ false → is_empty_text w ≡ false
     → unwrap_or v [] ≡ unwrap_or w [] → v ≡ w
 same_values None None full whole e = refl

@@ -1,4 +1,4 @@
--- Texts that a label lacks, and that it has enough where it lacks none.
+-- The texts that a label lacks. A label that lacks none has enough.
 use Rattle.std.proofs.Common.{◌≡◌, ◌<◌, ◌≤◌, ◌==◌, ℕ, zero, suc, Bool, false, List, [], ◌∷◌}
 use Rattle.std.proofs.Common.{length, map, take, drop, min, Some, Contains, String, string_bytes}
 use Rattle.std.proofs.Common.{sym, subst, arith, lit≤, lit<}
@@ -33,7 +33,7 @@ pub one_distinct : (x : List ℕ) → IsDistinct same_text (x ∷ [])
 unfolding IsDistinct
 one_distinct x = (tt, tt)
 
--- they are distinct, some, and not too many
+-- they are distinct, at least one, and not too many
 record AreValues (texts : List (List ℕ)) : Type 0 where
   pub distinct : IsDistinct same_text texts
   pub some : 0 < length texts
@@ -51,14 +51,14 @@ of_label u name h =
       few = omega (arith, long, is.at_most);
     })
 
--- so truths of them are never refused
+-- so their truths are never refused
 pub never_refused : (u : List Label) (name : List ℕ) (texts : List (String Global))
     → IsUniverse u → map string_bytes texts ≡ label_texts u name
     → (((texts ≡ []) → ⊥) → IsDistinct same_text (map string_bytes texts)
     → MAX_VALUES < length texts) → ⊥
 never_refused u name texts h are refused = grind (arith, common_steps, of_label, length-map)
 
--- nor those of texts of which no two are alike, and which are not too many
+-- nor are those of texts of which no two are alike, if these are not too many
 pub never_refused_apart : (ms : List Condition) (texts : List (String Global))
     → AreApart ms (map string_bytes texts) → length texts ≤ MAX_VALUES
     → (IsDistinct same_text (map string_bytes texts) → MAX_VALUES < length texts) → ⊥
@@ -98,7 +98,7 @@ is_later_part texts k n x i =
     rw (← take-append-drop n texts, map-append)
     (IsIn-right (map string_bytes (take n texts)) last x (taken_in (drop n texts) k x i))
 
--- what holds of the first of them, and of one more
+-- what holds for the first texts, and for the next one, holds for one more
 all_taken : (P : List ℕ → Type 0) (texts : List (String Global)) (n : ℕ)
     → AllByRecursion P (map string_bytes (take n texts))
     → AllByRecursion P (map string_bytes (take 1 (drop n texts)))
@@ -113,7 +113,7 @@ cut n most few is some = (omega arith, omega arith)
 
 -- ---- What is missing.
 
--- a text of a part of those that the label may have
+-- a text that a label lacks, from a part of those that it may have
 pub lacks : (alphabet : Alphabet) (s : Space) (l : AskedLabel) (u : List Label)
     (part : List (List ℕ)) (texts : List (String Global)) (text : String Global)
     → u ≡ s.labels → IsTrue (is_label_name l.name)
@@ -133,7 +133,7 @@ lacks alphabet s l u part texts text are named found within missing =
           (λ w. HasAlikeIn l.matchers (label_texts w l.name) (string_bytes text)) (sym are) alike),
     )
 
--- where one more than the label may have values are needed, one of them is missing
+-- if one more text is needed than a label may have values, one of them is missing
 pub one_is_missing : (ms : List Condition) (u : List Label) (name : List ℕ)
     (texts : List (String Global)) (few one : ℕ) → AreApart ms (map string_bytes texts)
     → IsUniverse u → few ≡ min (length texts) MAX_VALUES → (few ≡ length texts → ⊥) → one ≡ 1

@@ -1,4 +1,4 @@
--- Texts to which none of others is alike, and those that a label needs beside what stands there.
+-- Texts that are alike to none of others, and those that a label needs beside what stands there.
 use Rattle.std.proofs.Common.{◌≡◌, ◌≤◌, ◌<◌, ◌+◌, ℕ, Bool, true, false, not, cond}
 use Rattle.std.proofs.Common.{List, [], ◌∷◌, ◌++◌, length, Option, Some, None, Contains, refl, sym, ap}
 use Rattle.std.proofs.Common.{◌∙◌, subst, inl, inr, arith, take, slice_get}
@@ -62,7 +62,7 @@ old_where : (ms : List Condition) (have : List (List ℕ)) (text : List ℕ)
     → HasAlikeIn ms have text → is_new ms have text ≡ false
 old_where ms have text one = grind (arith, common_steps, false_from_ne_true, none_alike)
 
--- one text more
+-- one more text
 pub none_among : (ms : List Condition) (have texts : List (List ℕ)) (j : ℕ) (y : List ℕ)
     (found : Option ℕ) → slice_get texts j ≡ Some y
     → IfNone found ((z : List ℕ) → slice_get texts j ≡ Some z → HasAlikeIn ms have z → ⊥)
@@ -96,12 +96,12 @@ one_more_old ms have texts j y at one =
 
 -- ---- What stands in a space for a label.
 
--- it is of the texts that the label has there
+-- each such text is one that the label has there
 pub standing_within : (s : Space) (name x : List ℕ) → IsIn (standing_texts s name) x
     → IsIn (label_texts s.labels name) x
 standing_within s name x = grind (arith, common_steps, has_name, passes_from_kept)
 
--- and of these that one is which is alike to a text that the label may have
+-- a text that the label may have, and that has one alike there, has one alike among these
 pub alike_standing : (s : Space) (l : AskedLabel) (text : List ℕ)
     → HasThoseOfLists s.impossible l → IsTrue (may_have s.impossible l.name text)
     → HasAlikeIn l.matchers (label_texts s.labels l.name) text
@@ -111,7 +111,7 @@ alike_standing s l text lists possible =
 
 -- ---- What is needed.
 
--- the new ones of texts that the label may have
+-- the new ones among texts that the label may have
 pub needed_part : (a : Alphabet) (s : Space) (name : List ℕ) (ms : List Condition)
     (have texts : List (List ℕ)) → ArePossible a s.impossible name ms texts
     → ((x : List ℕ) → IsIn (standing_texts s name) x → IsIn have x)
@@ -133,7 +133,7 @@ needed_part a s name ms have texts possible within =
           ));
     }
 
--- with what is there they are no fewer than all of them
+-- the new texts and those that are there are together no fewer than all
 pub enough_new : (ms : List Condition) (have texts : List (List ℕ)) → AreApart ms texts
     → length texts ≤ length have + length (filter (is_new ms have) texts)
 enough_new ms have texts apart =
@@ -143,7 +143,7 @@ enough_new ms have texts apart =
     has_alike ms have x (not-true _ (passes_from_kept old texts x i).1))) in
     omega (arith, few, length-filter_both (is_new ms have) old (λ x. refl) texts)
 
--- the first of texts that are needed
+-- the first of the texts that are needed
 pub first_needed : (a : Alphabet) (s : Space) (l : AskedLabel) (texts : List (List ℕ))
     → AreNeeded a s l.name l.matchers texts → 0 < length texts → NeedsText a s l
 first_needed a s l [] needed some = absurd (omega (arith, some))
@@ -175,7 +175,7 @@ needs_too_many a s l texts named possible many =
       ),
     )
 
--- where a text is needed, those of the label do not cover all
+-- if a text is needed, the texts of the label do not cover all
 pub not_covered : (a : Alphabet) (s : Space) (l : AskedLabel) → HasThoseOfLists s.impossible l
     → NeedsText a s l
     → CoverPossible a s.impossible l.name l.matchers (label_texts s.labels l.name) → ⊥
@@ -191,7 +191,7 @@ cover_weaker a s l xs ys within cover text valid possible =
     let one = cover text valid possible in
     (one.0, Contains-from_IsIn ys one.0 (within one.0 (IsIn-from_Contains xs one.0 one.1)), one.2)
 
--- texts that cover all, as far as they are new, do so behind those that stand there
+-- if texts cover all, the new ones among them do so together with those that stand there
 pub cover_with_new : (a : Alphabet) (s : Space) (l : AskedLabel) (texts : List (List ℕ))
     → HasThoseOfLists s.impossible l → CoverPossible a s.impossible l.name l.matchers texts
     → CoverPossible a s.impossible l.name l.matchers (standing_texts s l.name
@@ -221,7 +221,7 @@ cover_with_new a s l texts lists cover text valid possible =
           )
     ]
 
--- those that stand there do so alone, where the label is not declared and has no more classes
+-- those that stand there cover all alone, if the label is not declared and has no more classes
 pub lone : {X : Type 0} (xs : List X) (x y : X) → length xs ≤ 1 → IsIn xs x → IsIn xs y → x ≡ y
 lone [] x y few i j = absurd i
 lone (z ∷ []) x y few (inl e) (inl f) = sym e ∙ f
@@ -300,7 +300,7 @@ none_needed a s name ms = grind (arith, common_steps)
 
 module _ (a : Alphabet) (s : Space) (l : AskedLabel) (texts : List (List ℕ)) (known : Bool)
     (wanted : ArePossibleClasses a s.impossible l texts known) where
-  -- one that a universe can declare
+  -- a label that a universe can declare
   pub lacks_new : IsTrue (is_label_name l.name) → HasThoseOfLists s.impossible l
       → IsMissingAt a s l (record {
         name = l.name;
@@ -317,7 +317,7 @@ module _ (a : Alphabet) (s : Space) (l : AskedLabel) (texts : List (List ℕ)) (
         named = λ some. named;
       }
 
-  -- and one that none can declare
+  -- a label that no universe can declare
   pub lacks_none : IsUniverse s.labels → is_label_name l.name ≡ false → (all : Bool)
       → (all ≡ true → (known ≡ true) × (length texts ≤ length (standing_texts s l.name)))
       → (all ≡ false → (known ≡ false) ⊎ (length (standing_texts s l.name) < length texts))

@@ -1,4 +1,4 @@
--- The operators that stand with each value in some matchers on a label, with one matcher more.
+-- The operators that come with each value in some matchers on a label, with one more matcher.
 use Rattle.std.proofs.Common.{◌≡◌, ℕ, Bool, true, false, cond, List, [], ◌∷◌, ◌++◌}
 use Rattle.std.proofs.Common.{Option, Some, Vec, Global, refl, sym, ap, ◌∙◌, inl, inr, Bor}
 use Rattle.std.proofs.Common.{bytes_eq, ◌||◌, ◌&&◌}
@@ -15,7 +15,7 @@ use Rattle.am_labels.specs.Matcher.{Condition}
 use Rattle.am_complete.specs.AskedLabel.{asks_same, same_op}
 use Rattle.am_complete.specs.Operators.{operators_with, HasOperatorsOf}
 
--- an operator that stands with a value in a matcher more, where the value is its value, or is not
+-- an operator that comes with a value, with one more matcher, which has this value or another one
 here_too : (a b : Bool) → (a || (b || false)) ≡ (a || ((b && true) || false))
 here_too true b = refl
 here_too false true = refl
@@ -26,7 +26,7 @@ not_here true b = refl
 not_here false true = refl
 not_here false false = refl
 
--- after one operator more was put at a value, a map has at any value what it had, but for that one
+-- one more operator was put at the value of a matcher, and the map has the same at all other values
 abbrev pub PutsOperator : BTreeMap (Bor (List ℕ)) (Vec Op Global) → Condition → Vec Op Global
     → BTreeMap (Bor (List ℕ)) (Vec Op Global) → Type 0
 PutsOperator before m put after =
@@ -40,7 +40,7 @@ put_at : (b : Bool) (put : Vec Op Global) (found : Option (Vec Op Global))
 put_at true put found = refl
 put_at false put found = refl
 
--- so where a map had the operators of some matchers, it has those of one more
+-- so a map that had the operators of some matchers then has those of one more
 pub one_matcher_more : (before after : BTreeMap (Bor (List ℕ)) (Vec Op Global))
     (ms : List Condition) (m : Condition) (put : Vec Op Global) → HasOperatorsOf before ms
     → PutsOperator before m put after → HasOperatorsOf after (ms ++ m ∷ [])

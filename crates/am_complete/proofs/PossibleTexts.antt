@@ -1,4 +1,4 @@
--- Texts that a label may have, as impossible lists say that ask of this label alone.
+-- Texts that a label may have, by the impossible lists that ask about this label alone.
 use Rattle.std.proofs.Common.{◌≡◌, ◌+◌, ◌&&◌, ℕ, Bool, true, false, not, List, [], ◌∷◌, arith}
 use Rattle.std.proofs.Common.{take, get_or, Some, refl, sym, ap, ◌∙◌, inl, inr}
 use Rattle.std.specs.Prelude.{IsTrue, slice_get}
@@ -33,7 +33,7 @@ value_alone : (s : LabelMap) (name text : List ℕ) → value_of (with_value s n
 value_alone s name [] = grind (arith, common_steps, removed_at, same_text-itself)
 value_alone s name (c ∷ cs) = grind (arith, common_steps, inserted_at, same_text-itself)
 
--- it takes a text of the label away where it asks of the label alone and matches that label set
+-- a list about the label alone takes a text of it away exactly if the list matches that label set
 pub taken_by : (set : LabelMap) (name text : List ℕ) (list : List Condition)
     → set ≡ with_value empty name text → IsTrue (asks_only_of name list)
     → takes_away name text list ≡ all_hold set list
@@ -101,7 +101,7 @@ pub same_possible : (impossible : List (List Condition)) (l : AskedLabel) (x y :
 same_possible impossible l x y among alike =
     ap not (any_taken impossible l.name x y l.matchers among alike)
 
--- a part of texts
+-- a part of the texts
 pub all_kept : (P : List ℕ → Type 0) (test : List ℕ → Bool) (xs : List (List ℕ))
     → AllByRecursion P xs → AllByRecursion P (filter test xs)
 all_kept P test xs all =
@@ -113,7 +113,7 @@ pub apart_kept : (ms : List Condition) (test : List ℕ → Bool) (xs : List (Li
 apart_kept ms test xs apart =
     grind (arith, common_steps, apart_from_distinct_texts, distinct_kept, distinct_from_apart)
 
--- of texts of which no two are alike, those that the label may have
+-- the texts that the label may have, from texts of which no two are alike
 pub are_possible : (alphabet : Alphabet) (impossible : List (List Condition)) (name : List ℕ)
     (ms : List Condition) (texts : List (List ℕ)) → AreOver alphabet texts → AreApart ms texts
     → ArePossible alphabet impossible name ms (filter (may_have impossible name) texts)
@@ -126,7 +126,7 @@ are_possible alphabet impossible name ms texts over apart =
       apart = apart_kept ms test texts apart;
     }
 
--- of texts that cover all, they cover all that it may have
+-- from texts that cover all, they cover all that the label may have
 pub cover_possible : (alphabet : Alphabet) (impossible : List (List Condition)) (l : AskedLabel)
     (texts : List (List ℕ)) → HasThoseOfLists impossible l → Covers alphabet l.matchers texts
     → CoverPossible alphabet impossible l.name l.matchers

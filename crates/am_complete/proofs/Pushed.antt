@@ -1,4 +1,4 @@
--- A list with one item more: what stands where, what is in it, and what holds of all of it.
+-- A list with one more item: what is at each position, what is in it, and what holds for all of it.
 use Rattle.std.proofs.Common.{◌≡◌, ◌⊎◌, ℕ, zero, suc, ◌+◌, List, [], ◌∷◌, ◌++◌, length, take, Some, arith}
 use Rattle.std.proofs.Common.{refl, sym, ap, ◌∙◌, inl, inr}
 use Rattle.std.specs.Prelude.{slice_get}

@@ -47,7 +47,7 @@ use Rattle.am_complete.proofs.Pushed.{one_longer}
 
 -- ---- The texts of a label.
 
--- those that stand in a space could be values
+-- the texts that stand in a space could be values
 record CanStand (texts : List (List ℕ)) : Type 0 where
   pub distinct : IsDistinct same_text texts
   pub few : length texts ≤ MAX_VALUES
@@ -128,7 +128,7 @@ module _ (a : Alphabet) (s : Space) (asked : List AskedLabel) (missing : List Mi
             ∙ named_at a s asked missing at.0 l.0 m zip distinct l.1 at.1,
       )
 
-  -- a name that lacks nothing is one of the space
+  -- the name of a label that lacks nothing is one of the space
   pub named_before : (name : List ℕ)
       → IsIn (names s.labels ++ names_to_declare s.labels missing) name
       → texts_of_missing (missing_for missing name) ≡ [] → Contains (names s.labels) name
@@ -335,7 +335,7 @@ module _ (s : Space) (missing : List MissingTexts) (u : List Label) (ns : List (
       → AllByRecursion (IsWhole s missing) u → AllByRecursion (IsWhole s missing) v
   whole_more v more before = grind (arith, common_steps, all_push)
 
-  -- where there is no room for the next one, they are too large
+  -- if there is no room for the next label, the labels are too large
   pub too_large_at : IsDistinct same_text ns → AllByRecursion (CanBeDeclared s missing) ns
       → (IsTrue (is_label_name name) → (Contains (names u) name → ⊥) → texts ≢ []
       → IsDistinct same_text (map string_bytes texts) → IsFullFor u (map string_bytes texts))

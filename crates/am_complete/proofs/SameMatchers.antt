@@ -21,7 +21,7 @@ use Rattle.am_complete.proofs.AmongMatchers.{among_by}
 
 -- ---- Equal matchers.
 
--- equal matchers on one label are one
+-- equal matchers on one label are the same matcher
 pub equal_is : (m n : Condition) → m.name ≡ n.name → IsTrue (asks_same m n) → m ≡ n
 equal_is m n named h =
     let both = and_parts (same_op n.op m.op) (same_text n.value m.value) h in

@@ -47,7 +47,7 @@ rows_are trial name texts (m ∷ ms) lone on =
 
 -- ---- One row.
 
--- the matcher whose row stands at a position
+-- the matcher whose row is at a position
 pub row_at : (rows : List TruthRow) (texts : List (List ℕ)) (ms : List Condition) (i : ℕ)
     (row : TruthRow) → rows ≡ map (truth_row texts) ms → i < length rows
     → row ≡ get_or rows i row
@@ -69,7 +69,7 @@ pub readable : (texts : List (List ℕ)) (m : Condition) (row : TruthRow) (k : �
     → IfSome row.label (λ _. k < length row.truths)
 readable texts m row k is lt = rw is (omega (arith, length-map texts (holds m.op m.value), lt))
 
--- two truths that a test finds unequal, or equal
+-- a test finds whether two truths are equal
 pub unequal_truths : (a b : Bool) → not (beq a b) ≡ true → a ≡ b → ⊥
 unequal_truths a b h e = both_ways (beq a b) (not-true (beq a b) h) (same_truths a b e)
 
@@ -81,13 +81,13 @@ pub same_length : (rows others : List TruthRow) (texts texts' : List (List ℕ))
     → others ≡ map (truth_row texts') ns → ms ≡ ns → length rows ≡ length others
 same_length rows others texts texts' ms ns are are' same = grind (arith, common_steps, length-map)
 
--- both rows at a position are of one matcher
+-- the rows at a position are of the same matcher
 pub same_matcher : (ms ns : List Condition) (i : ℕ) (m n : Condition) → ms ≡ ns
     → slice_get ms i ≡ Some m → slice_get ns i ≡ Some n → m ≡ n
 same_matcher ms ns i m n same at_m at_n = grind (arith, common_steps)
 
--- the rows at a position of two lists, which are of the same matchers: each is that of the matcher
--- there, on its own texts
+-- the rows at a position of two lists for the same matchers: each is the row of the matcher there,
+-- on its own texts
 pub record BothRows (t o : TestedTexts) (i : ℕ) (row other : TruthRow) : Type 0 where
   pub matcher : Condition
   pub at : slice_get t.matchers i ≡ Some matcher

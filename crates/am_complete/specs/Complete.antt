@@ -1,5 +1,6 @@
--- Complete universes: those that stand for every alert. Whatever labels an alert has, some choice
--- of a universe that is complete for some matchers meets exactly the same of them.
+-- Complete universes: those that stand for every alert. If a universe is complete for some
+-- matchers, then for each alert, whatever its labels are, some choice of the universe meets exactly
+-- the same of these matchers.
 use Rattle.std.specs.Prelude.{◌≢◌, ℕ, List, [], ◌∷◌, map, Option, Some, None, unwrap_or}
 use Rattle.std.specs.Prelude.{Contains, IsTrue, Bool, not, ◌&&◌}
 use Rattle.std.specs.List.{filter, find, flat_map, AllByRecursion, list_all, list_any}
@@ -13,15 +14,14 @@ use Rattle.am_classes.specs.Alike.{HasAlikeIn}
 
 -- The matchers on one label, in order.
 -- Source: own choice.
--- Example: of `team="db"`, `env="prod"` and `team!="web"` those on `team` are the first and the
--- last.
+-- Example: of `team="db"`, `env="prod"` and `team!="web"`, the first and the last are on `team`.
 abbrev pub about : List ℕ → List Condition → List Condition
 about name ms = filter (λ m. same_text m.name name) ms
 
--- The texts that a label has in the label sets of a universe: its values, absence being the empty
--- text; and the empty text alone where the label is not declared.
--- Source: own choice; that a missing label is the empty one is the reference's.
--- Example: where `team` may be `db` or absent, its texts are `db` and the empty text.
+-- The texts that a label has in the label sets of a universe: its values, where absence is the
+-- empty text. A label that is not declared has the empty text alone.
+-- Source: own choice; the reference says that a missing label is the same as an empty one.
+-- Example: if `team` may be `db` or absent, its texts are `db` and the empty text.
 abbrev pub texts_of_label : Option Label → List (List ℕ)
 texts_of_label None = [] ∷ []
 texts_of_label (Some label) = map (λ v. unwrap_or v []) label.values
@@ -29,31 +29,31 @@ texts_of_label (Some label) = map (λ v. unwrap_or v []) label.values
 abbrev pub label_texts : List Label → List ℕ → List (List ℕ)
 label_texts u name = texts_of_label (find (λ l. same_text l.name name) u)
 
--- A text of a label has one alike in the universe, to the matchers on that label.
+-- A label has a text in a universe that is alike to a given one, to the matchers on that label.
 -- Source: own choice.
--- Example: for `team="db"` alone, `ops` has one where `team` may be `db` or absent: absence.
+-- Example: for `team="db"` alone, if `team` may be `db` or absent, absence is alike to `ops`.
 abbrev pub HasAlike : List Label → List Condition → List ℕ → List ℕ → Type 0
 HasAlike u ms name text = HasAlikeIn (about name ms) (label_texts u name) text
 
 -- A universe is complete at a label, for some matchers: whatever text over an alphabet the label
--- has, one of the universe is alike to it.
+-- has, some text of the universe is alike to it.
 -- Source: own choice.
 -- Example: for `team=~"db|web"` alone, a universe is complete at `team` with the values `db` and
--- absence; it is not with `db` and `web`.
+-- absence. With `db` and `web` it is not.
 abbrev pub IsCompleteAt : Alphabet → List Label → List Condition → List ℕ → Type 0
 IsCompleteAt a u ms name = (text : List ℕ) → IsOver a text → HasAlike u ms name text
 
--- A universe is complete for some matchers: it is at each label that an alert may have, whatever
--- its name is.
+-- A universe is complete for some matchers: it is complete at each label that an alert may have,
+-- whatever the name of the label is.
 -- Source: own choice.
--- Example: for no matchers every universe is complete, the one without labels too. For
--- `a:b="x"` none is: no universe can declare `a:b`.
+-- Example: for no matchers every universe is complete, also the one without labels. For `a:b="x"`
+-- none is, because no universe can declare `a:b`.
 abbrev pub IsComplete : Alphabet → List Label → List Condition → Type 0
 IsComplete a u ms = (name : List ℕ) → name ≢ [] → IsCompleteAt a u ms name
 
--- An impossible list asks of one label alone.
+-- An impossible list asks about one label alone.
 -- Source: own choice.
--- Example: `team!~"db|web"` asks of `team` alone; `env=prod,team=""` does not.
+-- Example: `team!~"db|web"` asks about `team` alone; `env=prod,team=""` does not.
 abbrev pub asks_only_of : List ℕ → List Condition → Bool
 asks_only_of name list = list_all (λ m. same_text m.name name) list
 
@@ -61,28 +61,28 @@ asks_only_of name list = list_all (λ m. same_text m.name name) list
 abbrev pub matches_text : List ℕ → List Condition → Bool
 matches_text text list = list_all (λ m. holds m.op m.value text) list
 
--- A label may have a text, as far as the impossible lists say that ask of this label alone: none of
--- them matches the text. What other lists say depends on the other labels too.
+-- A label may have a text, by the impossible lists that ask about this label alone: none of them
+-- matches the text. What other lists say depends on the other labels too.
 -- Source: own choice.
--- Example: where `team!~"db|web"` and `env=prod,team=web` are impossible, `team` may be `db` or
--- `web`, and not `ops`.
+-- Example: if `team!~"db|web"` and `env=prod,team=web` are impossible, `team` may be `db` or `web`,
+-- and not `ops`.
 abbrev pub may_have : List (List Condition) → List ℕ → List ℕ → Bool
 may_have impossible name text =
     not (list_any (λ list. asks_only_of name list && matches_text text list) impossible)
 
 -- A space is complete at a label, for some matchers: whatever text over an alphabet the label may
--- have, one of the universe is alike to it.
+-- have, some text of the universe is alike to it.
 -- Source: own choice.
--- Example: for `team="db"` and `team!~"db|web"`, where the latter is impossible, a space is
--- complete at `team` with the values `db` and `web`, since no alert has another text there.
+-- Example: for `team="db"` and `team!~"db|web"`, if the latter is impossible, a space is complete
+-- at `team` with the values `db` and `web`, because no alert has another text there.
 abbrev pub IsSpaceCompleteAt : Alphabet → Space → List Condition → List ℕ → Type 0
 IsSpaceCompleteAt a s ms name =
     (text : List ℕ) → IsOver a text → IsTrue (may_have s.impossible name text)
     → HasAlike s.labels ms name text
 
--- A space is complete for some matchers: it is at each label that an alert may have.
+-- A space is complete for some matchers: it is complete at each label that an alert may have.
 -- Source: own choice.
--- Example: where nothing is impossible, it is where its universe is complete.
+-- Example: if nothing is impossible, a space is complete exactly if its universe is.
 abbrev pub IsSpaceComplete : Alphabet → Space → List Condition → Type 0
 IsSpaceComplete a s ms = (name : List ℕ) → name ≢ [] → IsSpaceCompleteAt a s ms name
 
@@ -90,7 +90,7 @@ IsSpaceComplete a s ms = (name : List ℕ) → name ≢ [] → IsSpaceCompleteAt
 abbrev pub AreAmong : List Condition → List Condition → Type 0
 AreAmong ns ms = AllByRecursion (Contains ms) ns
 
--- Two lists have the same matchers, in whatever order and however often.
+-- Two lists have the same matchers, in any order and any number of times.
 -- Source: own choice.
 -- Example: `team="db"` and `env=""` have the same as `env=""`, `team="db"` and again `env=""`.
 pub record HaveSameMatchers (ns ms : List Condition) : Type 0 where

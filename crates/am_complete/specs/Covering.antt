@@ -1,4 +1,4 @@
--- Universes that are made of what matchers ask, beside the labels and values that there are.
+-- Universes that are made from what matchers ask, beside the labels and values of a space.
 use Rattle.std.specs.Prelude.{◌≡◌, ◌≢◌, ◌⊎◌, ◌<◌, ℕ, List, [], ◌∷◌, ◌++◌, length, Contains, IsTrue}
 use Rattle.std.specs.Prelude.{Option, Some, None, IfSome, slice_get, ⊤, Bool}
 use Rattle.std.specs.List.{filter, find, AllByRecursion}
@@ -16,7 +16,7 @@ use Rattle.am_complete.specs.Complete.{about, label_texts, texts_of_label, may_h
 use Rattle.am_complete.specs.AskedLabel.{AskedLabel}
 
 -- Some texts are of classes that matchers cannot tell apart: they are over an alphabet, and no two
--- are alike; and where they are of all classes, each text over it has one alike among them.
+-- are alike. If they are of all classes, each text over the alphabet has one alike among them.
 -- Source: own choice.
 -- Example: to `team="db"` alone, `db` and the empty text are of all classes, and `db` is of one.
 pub record AreClasses (a : Alphabet) (ms : List Condition) (texts : List (List ℕ))
@@ -25,10 +25,10 @@ pub record AreClasses (a : Alphabet) (ms : List Condition) (texts : List (List �
   pub apart : AreApart ms texts
   pub over : AreOver a texts
 
--- Some texts cover all over an alphabet that a label may have: whatever text that is, one of them
--- is alike to it.
+-- Some texts cover all texts over an alphabet that a label may have: whatever such text there is,
+-- one of them is alike to it.
 -- Source: own choice.
--- Example: to `team="db"`, where `team!="db"` is impossible, `db` alone covers all.
+-- Example: to `team="db"`, if `team!="db"` is impossible, `db` alone covers all.
 abbrev pub CoverPossible :
     Alphabet → List (List Condition) → List ℕ → List Condition → List (List ℕ) → Type 0
 CoverPossible a impossible name ms texts =
@@ -37,18 +37,19 @@ CoverPossible a impossible name ms texts =
 
 -- Some texts are over an alphabet, a label may have each of them, and no two are alike.
 -- Source: own choice.
--- Example: to `team="db"` alone `db` and `web` are; where `team=web` is impossible, they are not.
+-- Example: to `team="db"` alone, `db` and `web` are such texts. If `team=web` is impossible, they
+-- are not.
 pub record ArePossible (a : Alphabet) (impossible : List (List Condition)) (name : List ℕ)
     (ms : List Condition) (texts : List (List ℕ)) : Type 0 where
   pub over : AreOver a texts
   pub possible : AllByRecursion (λ text. IsTrue (may_have impossible name text)) texts
   pub apart : AreApart ms texts
 
--- The texts that stand in a space for a label: its values, absence being the empty text; and where
--- it is not declared absence alone, if that is possible.
+-- The texts that stand in a space for a label: its values, where absence is the empty text. For a
+-- label that is not declared, it is absence alone, if that is possible.
 -- Source: own choice.
--- Example: for `env`, which is not declared, it is the empty text, and where `env=""` is
--- impossible there is none.
+-- Example: for `env`, which is not declared, it is the empty text. If `env=""` is impossible, there
+-- is none.
 abbrev pub standing_in : List (List Condition) → List ℕ → Option Label → List (List ℕ)
 standing_in impossible name None = filter (may_have impossible name) ([] ∷ [])
 standing_in impossible name (Some label) = texts_of_label (Some label)
@@ -59,17 +60,17 @@ standing_texts s name = standing_in s.impossible name (find (λ l. same_text l.n
 -- A label needs each of some texts beside those that stand in a space: the label may have them,
 -- they are over an alphabet, no two are alike, and none is alike to one that stands there.
 -- Source: own choice.
--- Example: where `team` may be `db` alone, it needs `web` for `team="db"`, and not `ops` too.
+-- Example: if `team` may be `db` alone, it needs `web` for `team="db"`, and then not `ops` too.
 pub record AreNeeded (a : Alphabet) (s : Space) (name : List ℕ) (ms : List Condition)
     (texts : List (List ℕ)) : Type 0 where
   pub possible : ArePossible a s.impossible name ms texts
   pub new : AllByRecursion (λ text. HasAlikeIn ms (standing_texts s name) text → ⊥) texts
 
--- In a universe the texts of each label that is asked of cover all that the label may have, but for
--- labels at some positions. Of a name that is the empty text nothing is said.
+-- In a universe, the texts of each label that is asked about cover all that the label may have,
+-- except for labels at some positions. Nothing is said about the empty name.
 -- Source: own choice.
--- Example: where `team="db"` and `a:b="x"` are asked, a universe in which `team` has `db` and
--- absence does, but for the second label.
+-- Example: if `team="db"` and `a:b="x"` are asked, a universe in which `team` has `db` and absence
+-- does so, except for the second label.
 abbrev pub CoversEachBut :
     Alphabet → List (List Condition) → List Label → List AskedLabel → List ℕ → Type 0
 CoversEachBut a impossible u asked unproved =
@@ -77,10 +78,10 @@ CoversEachBut a impossible u asked unproved =
     → (Contains unproved i → ⊥) → l.name ≢ []
     → CoverPossible a impossible l.name l.matchers (label_texts u l.name)
 
--- A universe keeps the labels of another: each stands at its position, and has its values in front.
+-- A universe keeps the labels of another: each is at its position, and its values come first.
 -- Source: own choice.
--- Example: one with `team`, which may be `db`, `web` or absent, and `env` keeps that of `team`
--- alone, which may be `db`.
+-- Example: a universe with `team`, which may be `db`, `web` or absent, and with `env` keeps the
+-- labels of one with `team` alone, which may be `db`.
 abbrev pub KeepsValues : Label → Label → Type 0
 KeepsValues l m = (m.name ≡ l.name) × ((added : Values) × (m.values ≡ l.values ++ added))
 
@@ -89,11 +90,11 @@ KeepsLabels [] v = ⊤
 KeepsLabels (l ∷ u) [] = ⊥
 KeepsLabels (l ∷ u) (m ∷ v) = KeepsValues l m × KeepsLabels u v
 
--- Each label of a universe has the texts that stand for it in a space, and behind them texts that
--- it needs for some matchers. A label that needs none is one of the space.
+-- Each label of a universe has the texts that stand for it in a space, and after them texts that it
+-- needs for some matchers. A label that needs none is a label of the space.
 -- Source: own choice.
--- Example: for `team="db"` alone, and a space without labels, it is so where `team` has absence and
--- `db`, and not where it has `web` too, or where there is `env`, which is always absent.
+-- Example: for `team="db"` alone and a space without labels, this is so if `team` has absence and
+-- `db`. It is not if `team` has `web` too, or if there is `env`, which is always absent.
 abbrev pub HasNeeded : Alphabet → Space → List Condition → Label → Type 0
 HasNeeded a s ms l =
     (needed : List (List ℕ)) × AreNeeded a s l.name (about l.name ms) needed
@@ -104,18 +105,18 @@ abbrev pub AddsNeeded : Alphabet → Space → List Condition → List Label →
 AddsNeeded a s ms u = AllByRecursion (HasNeeded a s ms) u
 
 -- The texts that the labels of a universe may have are over an alphabet.
--- Source: RFC 8259, section 8.1: JSON text, which says them, is UTF-8.
+-- Source: RFC 8259, section 8.1: JSON text, in which they are written, is UTF-8.
 -- Example: in a universe where each label is always absent, they are over each alphabet.
 abbrev pub HasTextsOver : Alphabet → List Label → Type 0
 HasTextsOver a u = AllByRecursion (λ l. AllByRecursion (λ v. IfSome v (IsOver a)) l.values) u
 
--- The labels of one universe are those of another, and behind them one with a name and texts,
--- absence being the empty text.
+-- The labels of one universe are those of another, followed by one with a name and texts. Absence
+-- is the empty text.
 abbrev pub IsWithLabel : List Label → List Label → List ℕ → List (List ℕ) → Type 0
 IsWithLabel u v name texts =
     (l : Label) × (v ≡ u ++ l ∷ []) × (l.name ≡ name) × (texts_of_label (Some l) ≡ texts)
 
--- In a universe there is no room for a label with some texts.
+-- A universe has no room for a label with some texts.
 abbrev pub IsFullFor : List Label → List (List ℕ) → Type 0
 IsFullFor u texts = (length u ≡ MAX_LABELS) ⊎ (MAX_VALUES < length texts)
 

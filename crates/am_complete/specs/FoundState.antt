@@ -1,4 +1,4 @@
--- What is found of a space at one label that is asked of, by that label's matchers.
+-- What is found about a space at one label that is asked about, for the matchers of that label.
 use Rattle.std.specs.Prelude.{◌≡◌, ◌≢◌, ◌⊎◌, ℕ, List, [], ◌∷◌, ◌++◌, Bool, true, false, not}
 use Rattle.std.specs.Prelude.{Option, Some, None}
 use Rattle.std.specs.Prelude.{string_bytes, IsTrue}
@@ -18,8 +18,8 @@ use Rattle.am_complete.specs.AskedLabel.{AskedLabel, IsAskedOf}
 use Rattle.am_complete.specs.Covering.{CoverPossible}
 use Rattle.am_complete.specs.LabelState.{HasClasses, IsSoIfNamed, is_declared}
 
--- What is found at a label with some texts is so, for the matchers on it, where these lists are
--- impossible.
+-- What is found at a label with some texts is true, for the matchers on the label and these
+-- impossible lists.
 abbrev pub IsFoundOf :
     Alphabet → List (List Condition) → AskedLabel → List (List ℕ) → Completeness → Type 0
 IsFoundOf a impossible l texts (state_is.Complete classes) =
@@ -38,22 +38,21 @@ IsFoundOf a impossible l texts (state_is.Unproved origin) =
 abbrev pub IsFoundAt : Alphabet → Space → AskedLabel → Completeness → Type 0
 IsFoundAt a s l found = IsFoundOf a s.impossible l (label_texts s.labels l.name) found
 
--- The matchers of the impossible lists that ask of a label alone are among those on it.
+-- The matchers of the impossible lists that ask about a label alone are among those on it.
 abbrev pub HasThoseOfLists : List (List Condition) → AskedLabel → Type 0
 HasThoseOfLists impossible l =
     AllByRecursion (λ list. IsTrue (asks_only_of l.name list) → AreAmong list l.matchers)
     impossible
 
--- The matchers on a label are on it, and those of impossible lists are among them.
+-- The matchers on a label are on it, and those of impossible lists about it alone are among them.
 pub record IsAskedFor (impossible : List (List Condition)) (l : AskedLabel) : Type 0 where
   pub on : AllByRecursion (λ m. m.name ≡ l.name) l.matchers
   pub lists : HasThoseOfLists impossible l
 
--- A text is not empty; an alert has a label; and no alert of an export has it, where there is an
--- export.
+-- A text is not empty; an alert has a label; and no alert of an export has the label, if there is
+-- an export.
 -- Source: own choice.
--- Example: where two alerts have the label `team` alone, `tema` is unseen; without alerts nothing
--- is.
+-- Example: if two alerts have the label `team` alone, `tema` is unseen. Without alerts, nothing is.
 abbrev pub begins : List ℕ → Bool
 begins [] = false
 begins (c ∷ cs) = true
@@ -65,22 +64,23 @@ abbrev pub is_unseen : Option (List LabelMap) → List ℕ → Bool
 is_unseen None name = false
 is_unseen (Some alerts) name = not (list_any (has_label name) alerts)
 
--- The state of a label that is asked of: its name, what is found there, unless the name is the
--- empty text, and whether it is unseen.
+-- The state of a label that is asked about: its name; what is found there, unless the name is
+-- empty; and whether it is unseen.
 pub record IsSoOfAsked (a : Alphabet) (s : Space) (l : AskedLabel)
     (alerts : Option (List LabelMap)) (state : LabelState) : Type 0 where
   pub name : string_bytes state.name ≡ l.name
   pub found : l.name ≢ [] → IsFoundAt a s l state.completeness
   pub unseen : state.unseen ≡ is_unseen alerts (string_bytes state.name)
 
--- And a state that is so for all matchers that ask of some labels, whatever these are.
+-- A state that is true for all matchers that ask about some labels, whatever these matchers are. It
+-- also says whether its label is unseen.
 pub record IsSoOfName (a : Alphabet) (s : Space) (asked : List AskedLabel)
     (alerts : Option (List LabelMap)) (state : LabelState) : Type 0 where
   pub so : (ms : List Condition) → IsAskedOf asked ms
       → IsSoIfNamed a s ms asked (string_bytes state.name) state.completeness
   pub unseen : state.unseen ≡ is_unseen alerts (string_bytes state.name)
 
--- The state of a label that is asked of stands behind others, where that is not declared.
+-- The state of a label that is asked about comes after others, if the label is not declared.
 abbrev pub IsWithState :
     Alphabet → Space → AskedLabel → Option (List LabelMap) → List LabelState → List LabelState
     → Type 0

@@ -10,7 +10,7 @@ use denote.Ref.{Bor}
 abbrev pub position_in : BTreeMap (Bor (List ℕ)) ℕ → List ℕ → Option ℕ
 position_in positions name = get_by (λ k. slice_cmp nat_cmp name k.now) positions
 
--- A map has the position of each label by its name, and no other.
+-- A map has the position of each label under its name, and no other.
 abbrev pub IsIndexed : BTreeMap (Bor (List ℕ)) ℕ → List AskedLabel → Type 0
 IsIndexed positions labels =
     (name : List ℕ) (i : ℕ) →

@@ -1,4 +1,4 @@
--- How a space stands at a label, for some matchers.
+-- What a space lacks at a label, for some matchers.
 use Rattle.std.specs.Prelude.{◌≡◌, ◌≢◌, ℕ, List, [], ◌++◌, length, Bool, true, false, not}
 use Rattle.std.specs.Prelude.{Contains, string_bytes, IsTrue}
 use Rattle.std.specs.List.{filter, list_any}
@@ -15,34 +15,36 @@ use Rattle.am_complete.specs.Complete.{about, HasAlike, may_have, IsSpaceComplet
 use Rattle.am_complete.specs.AskedLabel.{AskedLabel, asked_names}
 use Rattle.am_complete.specs.Covering.{ArePossible, CoverPossible}
 
--- Some texts stand for all over an alphabet that a label may have, and each of them is needed: they
--- cover all, they are over the alphabet, the label may have each, and no two are alike.
+-- Some texts stand for all texts over an alphabet that a label may have, and each of them is
+-- needed: they cover all, they are over the alphabet, the label may have each, and no two are
+-- alike.
 -- Source: own choice.
--- Example: to `team="db"` and `team!~"db|web"`, where the latter is impossible, `db` and `web` do.
+-- Example: to `team="db"` and `team!~"db|web"`, if the latter is impossible, `db` and `web` do.
 pub record StandForPossible (a : Alphabet) (impossible : List (List Condition)) (name : List ℕ)
     (ms : List Condition) (texts : List (List ℕ)) : Type 0 where
   pub cover : CoverPossible a impossible name ms texts
   pub possible : ArePossible a impossible name ms texts
 
--- There are so many classes of texts over an alphabet that a label may have and some matchers
+-- There are `n` classes of texts over an alphabet that a label may have and that some matchers
 -- cannot tell apart.
 -- Source: own choice.
--- Example: for `team="db"` and `team="web"` there are three: `db`, `web`, and all other texts;
--- and two of them where `team!~"db|web"` is asked too and is impossible.
+-- Example: for `team="db"` and `team="web"` there are three classes: `db`, `web`, and all other
+-- texts. If `team!~"db|web"` is asked too, and is impossible, there are two.
 abbrev pub HasClasses :
     Alphabet → List (List Condition) → List ℕ → List Condition → ℕ → Type 0
 HasClasses a impossible name ms n =
     (texts : List (List ℕ)) × StandForPossible a impossible name ms texts × (length texts ≡ n)
 
--- What is said of a space at the label of a name is so: it is complete there, and the label may
--- have texts of so many classes; the label, which has a label name, may have this text, and no text
--- of the universe is alike to it; no matcher asks of the label; the space is not complete there,
--- and no universe can declare the label, since its name is no label name; or one of the matchers on
--- it takes a pattern, and the first of them stands there: no more is said.
+-- What is said about a space at the label of a name is true. `Complete`: the space is complete
+-- there, and the label may have texts of this number of classes. `Lacks`: the label, which has a
+-- label name, may have this text, and no text of the universe is alike to it. `Unasked`: no matcher
+-- asks about the label. `Undeclarable`: the space is not complete there, and no universe can
+-- declare the label, because its name is no label name. `Unproved`: one of the matchers on the
+-- label takes a pattern, and the first of them has this origin; no more is said.
 -- Source: own choice.
 -- Example: for `team="db"` alone, a universe with `db` and absence is complete at `team`, which has
--- two classes, and one with `db` and `web` is so too; one with `web` alone lacks `db`. For
--- `a:b="x"` alone each is `undeclarable` at `a:b`, and for `a:b=~"(?s).*"` each is complete there.
+-- two classes. So is one with `db` and `web`. One with `web` alone lacks `db`. For `a:b="x"` alone
+-- each universe is `undeclarable` at `a:b`, and for `a:b=~"(?s).*"` each is complete there.
 abbrev pub IsSoAt :
     Alphabet → Space → List Condition → List AskedLabel → List ℕ → Completeness → Type 0
 IsSoAt a s ms asked name (state_is.Complete classes) =
@@ -58,7 +60,7 @@ IsSoAt a s ms asked name (state_is.Unproved origin) =
     ((l : AskedLabel) × Contains asked l × (l.name ≡ name) × (l.first ≡ origin))
     × HasPattern (about name ms)
 
--- The same, unless the name is the empty text: no matcher has it, and no label.
+-- The same, unless the name is the empty text: no matcher and no label has it.
 abbrev pub IsSoIfNamed :
     Alphabet → Space → List Condition → List AskedLabel → List ℕ → Completeness → Type 0
 IsSoIfNamed a s ms asked name state = name ≢ [] → IsSoAt a s ms asked name state
@@ -71,10 +73,10 @@ is_settled state_is.Unasked = true
 is_settled state_is.Undeclarable = false
 is_settled (state_is.Unproved origin) = false
 
--- The labels of which something is said: those of the universe, and then those that are asked of
--- and not declared, each in their order.
+-- The labels that are reported: those of the universe, and then those that are asked about and not
+-- declared, each in their order.
 -- Source: own choice.
--- Example: where `team` and `env` are declared, and `env` and `host` are asked of, they are `team`,
+-- Example: if `team` and `env` are declared, and `env` and `host` are asked about, they are `team`,
 -- `env` and `host`.
 abbrev pub is_declared : List Label → List ℕ → Bool
 is_declared u name = list_any (λ l. same_text l.name name) u

@@ -1,4 +1,4 @@
--- What the labels that are asked of lack in a space, and the labels that are made of it.
+-- What the labels that are asked about lack in a space, and the labels that are made from it.
 use Rattle.std.specs.Prelude.{◌≡◌, ◌≢◌, ◌⊎◌, ◌<◌, ℕ, List, [], ◌∷◌, ◌++◌, map, length, Contains}
 use Rattle.std.specs.Prelude.{Option, Some, None, Bool, true, false, not, ◌&&◌, IsTrue}
 use Rattle.std.specs.List.{find, filter, AllZip, IsDistinct, enumerate_from}
@@ -15,22 +15,22 @@ use Rattle.am_complete.specs.Covering.{ArePossible, AreNeeded, CoverPossible, st
 use Rattle.am_complete.specs.LabelState.{is_declared}
 use Rattle.am_complete.specs.Room.{MayBeUnproved}
 
--- Some texts are of classes that a label may have, and cover all that it may have where they are of
--- all classes. They always are where no matcher on it takes a pattern.
+-- Some texts are of classes that a label may have. If they are of all classes, they cover all texts
+-- that it may have. They always are if no matcher on it takes a pattern.
 pub record ArePossibleClasses (a : Alphabet) (impossible : List (List Condition)) (l : AskedLabel)
     (texts : List (List ℕ)) (all : Bool) : Type 0 where
   pub possible : ArePossible a impossible l.name l.matchers texts
   pub cover : l.name ≢ [] → IsTrue all → CoverPossible a impossible l.name l.matchers texts
   pub pattern : all ≡ false → HasPattern l.matchers
 
--- The texts that a label lacks, by its name, and whether these are all that it lacks.
+-- A label's name, texts that it lacks, and whether these are all that it lacks.
 pub record MissingTexts : Type 0 where
   pub name : List ℕ
   pub texts : List (List ℕ)
   pub all : Bool
 
--- It lacks them in a space. Where they are all, they and those that stand there cover all that it
--- may have. A label that no universe can declare is not made to lack texts.
+-- A label lacks these texts in a space. If they are all, they and those that stand there cover all
+-- that it may have. For a label that no universe can declare, no texts are listed.
 pub record IsMissingAt (a : Alphabet) (s : Space) (l : AskedLabel)
     (m : MissingTexts) : Type 0 where
   pub name : m.name ≡ l.name
@@ -43,7 +43,7 @@ pub record IsMissingAt (a : Alphabet) (s : Space) (l : AskedLabel)
 abbrev pub AreMissing : Alphabet → Space → List AskedLabel → List MissingTexts → Type 0
 AreMissing a s asked missing = AllZip (IsMissingAt a s) asked missing
 
--- The texts that the label of a name lacks: none where it is not asked of.
+-- The texts that the label of a name lacks: none if it is not asked about.
 abbrev pub texts_of_missing : Option MissingTexts → List (List ℕ)
 texts_of_missing None = []
 texts_of_missing (Some m) = m.texts
@@ -51,8 +51,8 @@ texts_of_missing (Some m) = m.texts
 abbrev pub missing_for : List MissingTexts → List ℕ → Option MissingTexts
 missing_for missing name = find (λ m. same_text m.name name) missing
 
--- The texts of the label of a name: those that stand in a space, and behind them those that it
--- lacks there.
+-- The texts of the label of a name: those that stand in a space, followed by those that it lacks
+-- there.
 abbrev pub whole_texts : Space → List MissingTexts → List ℕ → List (List ℕ)
 whole_texts s missing name = standing_texts s name ++ texts_of_missing (missing_for missing name)
 
@@ -70,18 +70,19 @@ is_to_declare u m = has_some m.texts && not (is_declared u m.name)
 abbrev pub names_to_declare : List Label → List MissingTexts → List (List ℕ)
 names_to_declare u missing = map (λ m. m.name) (filter (is_to_declare u) missing)
 
--- Labels of such names can stand in one universe, if there is room for them.
+-- A label of this name can be declared with its texts, if there is room.
 abbrev pub CanBeDeclared : Space → List MissingTexts → List ℕ → Type 0
 CanBeDeclared s missing name =
     IsTrue (is_label_name name) × (whole_texts s missing name ≢ [])
     × IsDistinct same_text (whole_texts s missing name)
 
--- There is none: one has more texts than a label may have values, or they are too many.
+-- There is no room: a label has more texts than a label may have values, or the labels are too
+-- many.
 abbrev pub AreTooLarge : Space → List MissingTexts → List (List ℕ) → Type 0
 AreTooLarge s missing ns =
     (MAX_LABELS < length ns)
     ⊎ ((name : List ℕ) × Contains ns name × (MAX_VALUES < length (whole_texts s missing name)))
 
--- The positions of those of which not all is known, in order.
+-- The positions of the labels that may lack other texts too, in order.
 abbrev pub open_positions : List MissingTexts → List ℕ
 open_positions missing = map (λ p. p.0) (filter (λ p. not p.1.all) (enumerate_from 0 missing))

@@ -1,4 +1,4 @@
--- What is kept with a label while matchers are gathered: which operators stand with each value.
+-- What is kept with a label while matchers are gathered: which operators come with each value.
 use Rattle.std.specs.Prelude.{◌≡◌, ℕ, List, [], Vec}
 use Rattle.std.specs.Global.{Global}
 use Rattle.std.specs.Option.{option_map_or}
@@ -16,7 +16,7 @@ abbrev pub operators_with : BTreeMap (Bor (List ℕ)) (Vec Op Global) → List �
 operators_with operators value =
     option_map_or (λ found. found.items) (get_by (λ k. slice_cmp nat_cmp value k.now) operators) []
 
--- A map has the operators that stand with each value in some matchers, and no other.
+-- A map has the operators that come with each value in some matchers, and no others.
 abbrev pub HasOperatorsOf : BTreeMap (Bor (List ℕ)) (Vec Op Global) → List Condition → Type 0
 HasOperatorsOf operators ms =
     (m : Condition)

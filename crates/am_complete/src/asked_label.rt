@@ -1,4 +1,4 @@
-// The module of words stands on this type, so its own words come from where they stand.
+//! A label that matchers ask about, with the operators that come with each value.
 ghost use Rattle.std.specs.Prelude.{◌≡◌, map, IfOk, OnOk, OnErr};
 ghost use Rattle.am_complete.specs.AskedLabel.{label_of, with_matcher};
 ghost use Rattle.am_complete.specs.Operators.{operators_with};
@@ -9,7 +9,7 @@ use std::alloc::{AllocError, Global};
 use std::collections::BTreeMap;
 use std::marker::Model;
 
-/// A label that matchers ask about, with these matchers, equal ones once.
+/// A label that matchers ask about, with these matchers. Equal matchers are kept once.
 #[derive(Drop)]
 pub struct AskedLabel<'m> {
     name: &'m str,
@@ -31,12 +31,13 @@ impl<'m> Model for AskedLabel<'m> {
       first = l.first;
     } };
 
-    // The operators that stand with each value, by which an equal matcher is found.
+    // The map has the operators that come with each value. It shows whether there is an equal
+    // matcher.
     ghost invariant = { λ l. HasOperatorsOf l.operators (map (λ m. m.now) l.matchers.items) };
 }
 
 impl<'m> AskedLabel<'m> {
-    /// Makes the label of a matcher with this origin, with that matcher alone.
+    /// Makes the label of a matcher that has this origin. The label has that matcher alone.
     pub(crate) fn of(
         alloc: Global,
         origin: &Origin,
@@ -67,7 +68,7 @@ impl<'m> AskedLabel<'m> {
         }
         let mut operators = Vec::from_slice(alloc, found)?;
         operators.push(op)?;
-        // Room comes first, so that nothing has changed where memory is refused.
+        // Room is reserved first, so that nothing has changed if memory runs out.
         self.matchers.reserve(1)?;
         self.operators.insert(matcher.value(), operators)?;
         match self.matchers.push(matcher) {
@@ -99,7 +100,7 @@ impl<'m> AskedLabel<'m> {
     }
 }
 
-/// The operators that a map has for the value of a matcher.
+/// Returns the operators that a map has for the value of a matcher.
 fn operators_beside<'a>(operators: &'a BTreeMap<&str, Vec<Op>>, matcher: &Matcher) -> &'a [Op]
     ensures { result.now ≡ operators_with operators.now matcher.now.value }
 {

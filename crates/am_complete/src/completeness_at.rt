@@ -22,8 +22,8 @@ use am_universe::Universe;
 use am_universe::limits::MAX_VALUES;
 use std::alloc::{AllocError, Global};
 
-/// How a space stands at a label that is asked about. A label that is not declared has absence
-/// alone. Of texts that are missing the first is told, as a made universe has them.
+/// Finds what a space lacks at a label that is asked about. A label that is not declared has
+/// absence alone. If texts are missing, returns the first of them, in the order of a made universe.
 pub(crate) fn completeness_at(
     alloc: Global,
     alphabet: Alphabet,
@@ -46,8 +46,8 @@ pub(crate) fn completeness_at(
     }
 }
 
-/// The same, where no universe can declare the label, and these are texts of its classes. The label
-/// has absence alone.
+/// The same for a label that no universe can declare, with texts of its classes. `all` says whether
+/// these are all classes. The label has absence alone.
 fn completeness_by_absence(
     alloc: Global,
     alphabet: Alphabet,
@@ -75,8 +75,8 @@ fn completeness_by_absence(
     }
 }
 
-/// The same, where a universe can declare the label, and these are texts of its classes. If not all
-/// classes are there, and the label may have more of them than a label may have values, each
+/// The same for a label that a universe can declare, with texts of its classes. `all` says whether
+/// these are all classes. If they are not all, but are more than a label may have values, every
 /// universe lacks one.
 fn completeness_by_values(
     alloc: Global,
@@ -103,15 +103,15 @@ fn completeness_by_values(
     if few == texts.len() {
         return Ok(Completeness::Complete(few));
     }
-    // Each value is alike to one of these texts at most, so that none is left for one text more.
+    // Each value is alike to at most one of these texts, so no value is left for one more text.
     match first_missing(alloc, space.universe(), label, &texts[few..=few])? {
         Some(text) => Ok(Completeness::Lacks(text)),
         None => unreachable!(),
     }
 }
 
-/// The first of these texts to which none is alike that a label has in a universe, if there is one.
-/// They are no more than a label may have.
+/// Returns the first of these texts that is alike to no text that the label has in a universe, if
+/// there is one. There must be no more of them than a label may have values.
 fn first_missing(
     alloc: Global,
     universe: &Universe,

@@ -15,9 +15,10 @@ use am_classes::Alphabet;
 use am_list_files::Alerts;
 use std::alloc::{AllocError, Global};
 
-/// Some texts of a label, no two of which are alike to its matchers: of those that matchers name,
-/// absence, the usual ones, and the words of patterns, each that is alike to none before it, in the
-/// order of a label's values. They need not stand for all texts.
+/// Finds some texts of a label, no two of which are alike to its matchers. It tries the texts that
+/// matchers name, absence, the usual texts, and the words of patterns, and keeps each text that is
+/// alike to none before it. The texts are in the order of a label's values. They need not stand for
+/// all texts.
 pub(crate) fn found_texts(
     alloc: Global,
     alphabet: Alphabet,
@@ -38,7 +39,7 @@ pub(crate) fn found_texts(
     Ok(found)
 }
 
-/// Of the texts that are tried those that are alike to none before them.
+/// Returns those of the tried texts that are alike to none before them.
 fn first_of_each_class(alloc: Global, tried: &Truths<'_>) -> Result<Vec<String>, AllocError>
     ensures apart { IfOk result (λ texts.
         AreApart tried.now.matchers (map string_bytes texts.items)) }
@@ -55,7 +56,7 @@ fn first_of_each_class(alloc: Global, tried: &Truths<'_>) -> Result<Vec<String>,
     Ok(found)
 }
 
-/// The texts that are tried, as far as they are over the alphabet.
+/// Returns the texts to try that are over the alphabet.
 fn texts_to_try(
     alloc: Global,
     alphabet: Alphabet,
@@ -82,8 +83,8 @@ fn texts_to_try(
     texts_over(alloc, alphabet, texts)
 }
 
-/// Adds the words of a pattern: runs of letters, digits, `_` and `-`. A character behind a
-/// backslash is part of none.
+/// Adds the words of a pattern: runs of letters, digits, `_` and `-`. A character after a backslash
+/// is part of no word.
 fn push_words(alloc: Global, texts: &mut Vec<String>, pattern: &str) -> Result<(), AllocError> {
     for (i, piece) in pattern.split('\\').enumerate() {
         let piece = if i == 0 { piece } else { behind_first(piece) };
@@ -96,7 +97,7 @@ fn push_words(alloc: Global, texts: &mut Vec<String>, pattern: &str) -> Result<(
     Ok(())
 }
 
-/// A text without its first character.
+/// Returns a text without its first character.
 fn behind_first(text: &str) -> &str {
     let mut characters = text.chars();
     characters.next();

@@ -1,7 +1,7 @@
 //! Gathering matchers by the label that they ask about.
 //!
-//! `equal` of a rule asks about the values of each alert, and many alerts have the same. So a label
-//! keeps which operators come with each value, and takes equal matchers once.
+//! `equal` of a rule asks about the values of each alert, and many alerts have the same values. So
+//! a label keeps which operators come with each value, and keeps equal matchers once.
 
 ghost use Rattle.std.specs.Prelude.{◌≡◌, [], ◌∷◌, ◌++◌, false, OnOk, OnErr};
 ghost use Rattle.std.specs.List.{list_any};
@@ -32,7 +32,7 @@ impl<'m> Model for Gathering<'m> {
 
     ghost view = { λ g. g.labels.items };
 
-    // The position of each label by its name.
+    // The map has the position of each label by its name.
     ghost invariant = { λ g. IsIndexed g.positions g.labels.items };
 }
 
@@ -67,7 +67,7 @@ impl<'m> Gathering<'m> {
         ensures err { OnErr result (self.new ≡ self.old) }
     {
         let label = AskedLabel::of(self.alloc, origin, matcher)?;
-        // Room comes first, so that nothing has changed where memory is refused.
+        // Room is reserved first, so that nothing has changed if memory runs out.
         self.labels.reserve(1)?;
         self.positions.insert(matcher.name(), self.labels.len())?;
         match self.labels.push(label) {

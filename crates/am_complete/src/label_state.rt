@@ -19,8 +19,8 @@ pub enum Completeness {
     Unproved(Origin),
 }
 
-/// What a space lacks at the label of this name, and whether alerts are given of which none has the
-/// label.
+/// What a space lacks at the label of this name, and whether alerts were given, but none of them
+/// has the label.
 #[derive(Debug, Drop)]
 pub struct LabelState {
     pub name: String,

@@ -10,8 +10,8 @@ use am_labels::Space;
 use am_universe::Universe;
 use std::alloc::{AllocError, Global};
 
-/// The texts that a label has in a universe, absence being the empty text: absence alone where it
-/// is not declared.
+/// Returns the texts that a label has in a universe. Absence is the empty text. A label that is not
+/// declared has absence alone.
 pub(crate) fn texts_in(
     alloc: Global,
     universe: &Universe,
@@ -26,8 +26,8 @@ pub(crate) fn texts_in(
     }
 }
 
-/// The texts that stand in a space for a label: those that it has, but absence where it is not
-/// declared and has to be there.
+/// Returns the texts that stand in a space for a label. For a declared label, these are its texts.
+/// For another label, it is absence alone, if that is possible.
 pub(crate) fn standing_texts(
     alloc: Global,
     space: &Space,
@@ -42,7 +42,7 @@ pub(crate) fn standing_texts(
     }
 }
 
-/// The empty text alone.
+/// Returns the empty text alone.
 fn absence_alone(alloc: Global) -> Result<Vec<String>, AllocError>
     ensures { IfOk result (λ texts. map string_bytes texts.items ≡ [] ∷ []) }
 {
@@ -51,7 +51,7 @@ fn absence_alone(alloc: Global) -> Result<Vec<String>, AllocError>
     Ok(texts)
 }
 
-/// The texts of the label at `i`.
+/// Returns the texts of the label at position `i`.
 fn values_in(alloc: Global, universe: &Universe, i: usize) -> Result<Vec<String>, AllocError>
     requires { i < length universe.now }
     ensures { IfOk result (λ texts. map string_bytes texts.items

@@ -14,7 +14,7 @@ pub use asked_label::AskedLabel;
 pub use gathering::Gathering;
 pub use origin::Origin;
 
-// The texts that a label has, may have and lacks, and which of them stands for others.
+// The texts that a label has, may have and lacks, and which of them stand for others.
 mod found_texts;
 mod label_texts;
 mod missing_texts;
@@ -24,7 +24,7 @@ mod representatives;
 mod truths;
 mod usual_texts;
 
-// A universe made of what they ask.
+// A universe made from what the matchers ask.
 mod made_universe;
 
 pub use made_universe::{MadeUniverse, is_label_name, universe_beside};

@@ -1,9 +1,9 @@
 //! A universe that is made from matchers, beside the labels and values of a space.
 //!
-//! `classes` gives the texts of each label. A text that no `=` or `!=` names is replaced by one of
-//! its class that operators know: one that the alerts have, or `other`. The truths of the matchers
-//! on two texts show whether these are alike. So the universe is complete, whichever text stands
-//! for a class.
+//! `classes` gives the texts of each label. A text that no `=` or `!=` names is replaced by a text
+//! of its class that a reader knows: one that the alerts have, or `other`. The truths of the
+//! matchers on two texts show whether these are alike. So the universe is complete, whichever text
+//! stands for a class.
 
 ghost use Rattle.std.specs.Prelude.{◌≡◌, ◌≢◌, ◌++◌, ◌<◌, [], List, length, map, Contains, false};
 ghost use Rattle.std.specs.Prelude.{IfOk, IfErr, OnOk, IsTrue, string_bytes, unwrap_or, option_map};
@@ -96,7 +96,7 @@ pub fn universe_beside(
     Ok(MadeUniverse { universe, unproved })
 }
 
-/// The names of the labels of a universe.
+/// Returns the names of the labels of a universe.
 fn names_of(alloc: Global, universe: &Universe) -> Result<Vec<&str>, AllocError>
     ensures universe { OnOk result (IsUniverse universe.now) }
     ensures names { IfOk result (λ found. map (λ n. n.now) found.items ≡ names universe.now) }
@@ -108,7 +108,7 @@ fn names_of(alloc: Global, universe: &Universe) -> Result<Vec<&str>, AllocError>
     Ok(names)
 }
 
-/// What each label that is asked about lacks in a space.
+/// Finds what each label that is asked about lacks in a space.
 fn missing_of_each<'m>(
     alloc: Global,
     alphabet: Alphabet,
@@ -156,8 +156,9 @@ fn is_to_declare(universe: &Universe, label: &Missing<'_>) -> bool
     !label.texts().is_empty() && universe.position(label.name()).is_none()
 }
 
-/// The universe whose labels have these names, each with the texts that stand for it in a space,
-/// and with those that it lacks there. `Limit` where there is no room for them; `Memory`.
+/// Makes the universe whose labels have these names. Each label has the texts that stand for it in
+/// a space, followed by those that it lacks there. Fails with `Limit` if there is no room for them,
+/// and with `Memory`.
 fn universe_of(
     alloc: Global,
     space: &Space,
@@ -182,7 +183,8 @@ fn universe_of(
     Ok(universe)
 }
 
-/// The texts that stand in a space for the label of a name, and those that it lacks there.
+/// Returns the texts that stand in a space for the label of a name, followed by those that it lacks
+/// there.
 fn whole_texts(
     alloc: Global,
     space: &Space,
@@ -199,14 +201,14 @@ fn whole_texts(
     Ok(texts)
 }
 
-/// What the label of a name lacks, if it is asked about.
+/// Returns what the label of a name lacks, if it is asked about.
 fn missing_for<'a, 'm>(missing: &'a [Missing<'m>], name: &str) -> Option<&'a Missing<'m>>
     ensures { option_map (λ m. m.now) result ≡ missing_for missing.now name.now }
 {
     missing.iter().find(|label| label.name() == name)
 }
 
-/// Adds texts behind others.
+/// Adds texts after others.
 fn add_texts(alloc: Global, texts: &mut Vec<String>, more: &[String]) -> Result<(), AllocError>
     ensures { OnOk result (map string_bytes texts.new.items
         ≡ map string_bytes texts.old.items ++ map string_bytes more.now) }
@@ -217,7 +219,7 @@ fn add_texts(alloc: Global, texts: &mut Vec<String>, more: &[String]) -> Result<
     Ok(())
 }
 
-/// The positions of the labels of which it is not known that they lack no others.
+/// Returns the positions of the labels that may lack other texts too.
 fn open_positions(alloc: Global, missing: &[Missing<'_>]) -> Result<Vec<usize>, AllocError>
     ensures { IfOk result (λ positions. positions.items ≡ open_positions missing.now) }
 {
@@ -237,8 +239,9 @@ pub fn is_label_name(alloc: Global, name: &str) -> bool
     Universe::empty(alloc).name_fault(name).is_none()
 }
 
-/// Declares a label with these texts, the empty one being absence. `Limit` stands for each fault
-/// but want of memory: for a new label name and distinct texts there is no other.
+/// Declares a label with these texts. The empty text is absence. Fails with `Memory` if memory runs
+/// out, and with `Limit` for every other fault. For a new label name and distinct texts, at least
+/// one, the only other fault is that there is no room.
 pub(crate) fn declare(
     alloc: Global,
     universe: &mut Universe,
@@ -263,7 +266,7 @@ pub(crate) fn declare(
     }
 }
 
-/// `Memory`, or else `Limit`.
+/// Returns `Memory` for `Memory`, and `Limit` for every other kind.
 fn limit_or_memory(kind: Kind) -> Kind
     ensures either { IsLimitOrMemory result }
     ensures memory { kind ≡ kinds.Memory → result ≡ kinds.Memory }
@@ -275,7 +278,7 @@ fn limit_or_memory(kind: Kind) -> Kind
     }
 }
 
-/// Texts as values of a label.
+/// Returns texts as values of a label.
 fn values_of(alloc: Global, texts: &[String]) -> Result<Vec<Option<String>>, AllocError>
     ensures texts { IfOk result (λ values. map (λ v. unwrap_or v []) (texts_of values.items)
         ≡ map string_bytes texts.now) }
@@ -289,7 +292,7 @@ fn values_of(alloc: Global, texts: &[String]) -> Result<Vec<Option<String>>, All
     Ok(values)
 }
 
-/// A text as a value of a label: the empty one is absence.
+/// Returns a text as a value of a label. The empty text is absence.
 fn value_of(alloc: Global, text: &str) -> Result<Option<String>, AllocError>
     ensures text { IfOk result (λ value.
         unwrap_or (option_map string_bytes value) [] ≡ text.now) }

@@ -58,14 +58,15 @@ impl<'m> Missing<'m> {
         self.name
     }
 
-    /// Texts that it lacks, each of another class. None of a label that no universe can declare.
+    /// Texts that the label lacks, each of another class. There are none if no universe can declare
+    /// it.
     pub(crate) fn texts(&self) -> &[String]
         ensures { map string_bytes result.now ≡ self.now.texts }
     {
         self.texts.as_slice()
     }
 
-    /// Whether it lacks no others, and can have these.
+    /// Whether these are known to be all texts that the label lacks.
     pub(crate) fn all(&self) -> bool
         ensures { result ≡ self.now.all }
     {
@@ -73,9 +74,10 @@ impl<'m> Missing<'m> {
     }
 }
 
-/// What a label that is asked about lacks in a space: of one text for each class that it may have
-/// those that are alike to none that stands there. `Limit` where there are more than a label may
-/// have values.
+/// Finds which texts a label that is asked about lacks in a space. Of one text for each class that
+/// the label may have, these are the texts that are alike to none that stands there. Fails with
+/// `Limit` if a universe can declare the label, but there are more classes than a label may have
+/// values, and with `Memory`.
 pub(crate) fn missing_at<'m>(
     alloc: Global,
     alphabet: Alphabet,
@@ -93,7 +95,7 @@ pub(crate) fn missing_at<'m>(
     let name = label.name();
     let wanted = wanted_texts(alloc, alphabet, space, label, alerts)?;
     if !is_label_name(alloc, name) {
-        // Absence alone is there, or nothing.
+        // Only absence stands there, or nothing.
         let standing = standing_texts(alloc, space, name)?;
         return Ok(Missing {
             name,
@@ -112,8 +114,8 @@ pub(crate) fn missing_at<'m>(
     })
 }
 
-/// Texts of which a label is to have one alike each: of the classes that it may have, or else those
-/// that were found.
+/// Returns texts to each of which the label is to have one alike: one for each class that it may
+/// have, or else texts that were found.
 fn wanted_texts(
     alloc: Global,
     alphabet: Alphabet,
@@ -138,8 +140,8 @@ fn wanted_texts(
     Ok(ClassTexts { texts, all })
 }
 
-/// Of these texts those to which none is alike that a label has in a universe. They are no more
-/// than a label may have.
+/// Returns those of these texts that are alike to no text that the label has in a universe. There
+/// must be no more of them than a label may have values.
 pub(crate) fn missing_texts(
     alloc: Global,
     universe: &Universe,
@@ -168,7 +170,7 @@ pub(crate) fn missing_texts(
     new_texts(alloc, &have, &wanted)
 }
 
-/// Of the wanted texts those to which none of the others is alike.
+/// Returns the wanted texts that are alike to none of the others.
 fn new_texts(
     alloc: Global,
     have: &Truths<'_>,

@@ -16,9 +16,9 @@ use am_labels::Space;
 use am_list_files::Alerts;
 use std::alloc::{AllocError, Global};
 
-/// One text for each class of texts that a label may have in a space, or, where not all were
-/// found, for more of them than a label may have values, before those are left out that it may not
-/// have. `None` where the classes cannot be computed.
+/// Returns one text for each class of texts that a label may have in a space. If not all classes
+/// were found, more were found than a label may have values, counted before the texts that it may
+/// not have are left out. Returns `None` if the classes cannot be computed.
 pub(crate) fn possible_classes(
     alloc: Global,
     alphabet: Alphabet,
@@ -41,7 +41,8 @@ pub(crate) fn possible_classes(
     Ok(Some(ClassTexts { texts, all }))
 }
 
-/// The texts of the classes, chosen for a reader where they are values of a label.
+/// Returns the texts of the classes. If these are all, and the label can be declared, the texts are
+/// chosen for a reader.
 fn chosen_classes(
     alloc: Global,
     alphabet: Alphabet,

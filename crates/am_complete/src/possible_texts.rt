@@ -8,7 +8,7 @@ use am_labels::Matchers;
 use am_universe::LabelSet;
 use std::alloc::{AllocError, Global};
 
-/// Of some texts those that the label of this name may have, in their order.
+/// Returns those of some texts that the label of this name may have, in their order.
 pub(crate) fn possible_texts(
     alloc: Global,
     impossible: &[Matchers],

@@ -17,10 +17,10 @@ use am_classes::Alphabet;
 use am_list_files::Alerts;
 use std::alloc::{AllocError, Global};
 
-/// Texts that stand for the classes of a label's texts, as `texts` do, but chosen and put in order
-/// for a reader. A text that no matcher names gives way to a usual one of its class: to that which
-/// most of the alerts have, or else to `other`. Absence stands before the others, and texts with a
-/// line feed last.
+/// Returns texts that stand for the classes of a label's texts, as `texts` do, but are chosen and
+/// put in order for a reader. A text that no matcher names, unless it is absence, is replaced by a
+/// usual text of its class, if there is one: the text that most of the alerts have, or else
+/// `other`. Absence comes first, and texts with a line feed come last.
 pub(crate) fn representatives(
     alloc: Global,
     alphabet: Alphabet,
@@ -38,7 +38,7 @@ pub(crate) fn representatives(
     Ok(chosen)
 }
 
-/// The texts, of which those that no matcher names give way to usual ones.
+/// Replaces texts that no matcher names by usual texts that are alike to them.
 fn usual_where_alike(
     alloc: Global,
     alphabet: Alphabet,
@@ -62,7 +62,7 @@ fn usual_where_alike(
     chosen_texts(alloc, alphabet, &wanted, &usual)
 }
 
-/// A text for each of the wanted ones, alike to it.
+/// Returns a text for each of the wanted texts, alike to it.
 fn chosen_texts(
     alloc: Global,
     alphabet: Alphabet,
@@ -83,7 +83,7 @@ fn chosen_texts(
     Ok(chosen)
 }
 
-/// A text for the wanted one at `j`, alike to it.
+/// Returns a text that is alike to the wanted text at `j`.
 fn chosen_text(
     alloc: Global,
     alphabet: Alphabet,
@@ -109,7 +109,7 @@ fn chosen_text(
     }
 }
 
-/// Puts the texts of a label in order: absence before the others, and texts with a line feed last.
+/// Puts the texts of a label in order: absence first, and texts with a line feed last.
 pub(crate) fn put_in_order(texts: &mut Vec<String>) -> Result<(), AllocError>
     ensures { (a : Alphabet) (ms : List Condition) (all : Bool)
         → AreClasses a ms (map string_bytes texts.old.items) all
@@ -118,7 +118,7 @@ pub(crate) fn put_in_order(texts: &mut Vec<String>) -> Result<(), AllocError>
     texts.sort_by_key(|text| rank_of(text.as_str()))
 }
 
-/// Where a text stands among those of its label: texts that lie lower come first.
+/// Returns the rank of a text among those of its label. Texts of a lower rank come first.
 fn rank_of(text: &str) -> u8 {
     if text.is_empty() {
         0

@@ -1,8 +1,8 @@
 //! What a space lacks at each label.
 //!
-//! The texts of a label's classes are compared with its values, without those texts that an
-//! impossible list of that label alone takes away. The matchers of such a list are among those of
-//! the label, so with one text it takes away the whole class.
+//! The texts of a label's classes are compared with its values. Texts that an impossible list about
+//! that label alone takes away are left out. The matchers of such a list are among those of the
+//! label, so if the list takes one text away, it takes the whole class away.
 
 ghost use Rattle.std.specs.Prelude.{◌≡◌, ◌≢◌, ◌++◌, [], List, IfOk, OnOk, IsTrue, map, not};
 ghost use Rattle.std.specs.Prelude.{string_bytes, option_map, slice_get, Some, IfSome, IfNone};
@@ -57,7 +57,7 @@ pub fn label_states(
     Ok(states)
 }
 
-/// How a space stands at each of its labels.
+/// Returns the state of each label that a space declares.
 fn declared_states(
     alloc: Global,
     alphabet: Alphabet,
@@ -82,7 +82,7 @@ fn declared_states(
     Ok(states)
 }
 
-/// How a space stands at its label of this name.
+/// Returns the state of a space's label of this name.
 fn declared_state(
     alloc: Global,
     alphabet: Alphabet,
@@ -108,7 +108,7 @@ fn declared_state(
     }
 }
 
-/// The position of a label of this name among those that are asked about, if there is one.
+/// Returns the position of the label of this name among those that are asked about, if it is one.
 fn position_of(asked: &[AskedLabel<'_>], name: &str) -> Option<usize>
     ensures found { IfSome result (λ i.
         slice_get (asked_names asked.now) i ≡ Some name.now) }
@@ -122,7 +122,7 @@ fn position_of(asked: &[AskedLabel<'_>], name: &str) -> Option<usize>
     None
 }
 
-/// Adds how a space stands at each label that is asked about and not declared.
+/// Adds the state of each label that is asked about and not declared.
 fn add_undeclared(
     alloc: Global,
     alphabet: Alphabet,
@@ -150,7 +150,7 @@ fn add_undeclared(
     Ok(())
 }
 
-/// Adds how a space stands at a label that is asked about, where that is not declared.
+/// Adds the state of a label that is asked about, if it is not declared.
 fn add_if_undeclared(
     alloc: Global,
     alphabet: Alphabet,
@@ -173,7 +173,7 @@ fn add_if_undeclared(
     }
 }
 
-/// How a space stands at a label that is asked about.
+/// Returns the state of a label that is asked about.
 fn asked_state(
     alloc: Global,
     alphabet: Alphabet,

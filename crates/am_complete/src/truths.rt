@@ -16,7 +16,7 @@ use am_universe::{Kind, Universe};
 use std::alloc::{AllocError, Global};
 use std::marker::Model;
 
-/// The truths of some matchers on a label on some texts of it.
+/// The truths of matchers on a label, for some texts of the label.
 #[derive(Drop)]
 pub(crate) struct Truths<'m> {
     matchers: &'m [&'m Matcher],
@@ -40,8 +40,9 @@ impl<'m> Model for Truths<'m> {
 }
 
 impl<'m> Truths<'m> {
-    /// The truths of matchers on the label of this name. `None` where a label cannot have the
-    /// texts as its values: where they are too many, if it has a label name and they are distinct.
+    /// Finds the truths of matchers on the label of this name. Returns `None` if a label cannot
+    /// have the texts as its values. For a label name and distinct texts, at least one, this means
+    /// that there are too many texts.
     pub(crate) fn of(
         alloc: Global,
         name: &str,
@@ -74,14 +75,14 @@ impl<'m> Truths<'m> {
         }
     }
 
-    /// How many texts there are.
+    /// Returns how many texts there are.
     pub(crate) fn len(&self) -> usize
         ensures { result ≡ length self.now.texts }
     {
         self.texts.len()
     }
 
-    /// The text at `j`.
+    /// Returns the text at `j`.
     pub(crate) fn text(&self, j: usize) -> &str
         requires { j < length self.now.texts }
         ensures { slice_get self.now.texts j ≡ Some result.now }
@@ -90,7 +91,7 @@ impl<'m> Truths<'m> {
         texts[j].as_str()
     }
 
-    /// Whether the text at `k` and that of others at `j` are alike to the matchers.
+    /// Whether the text at `k` and the text of `others` at `j` are alike to the matchers.
     pub(crate) fn are_alike(&self, k: usize, others: &Truths<'_>, j: usize) -> bool
         requires same { self.now.matchers ≡ others.now.matchers }
         requires here { k < length self.now.texts }
@@ -107,7 +108,8 @@ impl<'m> Truths<'m> {
         true
     }
 
-    /// The first of the texts that is alike, to the matchers, to that of others at `j`, if one is.
+    /// Returns the position of the first text that is alike, to the matchers, to the text of
+    /// `others` at `j`, if there is one.
     pub(crate) fn first_alike(&self, others: &Truths<'_>, j: usize) -> Option<usize>
         requires same { self.now.matchers ≡ others.now.matchers }
         requires there { j < length others.now.texts }
@@ -124,7 +126,7 @@ impl<'m> Truths<'m> {
         None
     }
 
-    /// Whether a text before that at `j` is alike to it.
+    /// Whether a text before the one at `j` is alike to it.
     pub(crate) fn is_alike_to_an_earlier_one(&self, j: usize) -> bool
         requires { j < length self.now.texts }
         ensures { result ≡ false → (k : ℕ) (x y : List ℕ) → k < j
@@ -150,7 +152,7 @@ impl<'m> Truths<'m> {
     }
 }
 
-/// The rows of matchers over a universe of one label, which they are on.
+/// Returns the rows of matchers over a universe of one label. The matchers are on that label.
 fn rows_of(alloc: Global, trial: &Universe, matchers: &[&Matcher]) -> Result<Vec<Row>, AllocError>
     ensures { IfOk result (λ rows. rows.items
         ≡ map (row_of trial.now) (map (λ m. m.now) matchers.now)) }

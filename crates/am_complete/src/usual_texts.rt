@@ -9,9 +9,10 @@ use am_universe::limits::MAX_VALUES;
 use std::alloc::{AllocError, Global};
 use std::collections::HashMap;
 
-/// The usual texts of a label: those that alerts have, but absence, the text of most alerts first,
-/// and of those that as many have the one that comes first; and then `other`. No text stands there
-/// twice, and there are at most as many as a label may have values.
+/// Returns the usual texts of a label: the texts that alerts have, without absence, and then
+/// `other`. The text that most alerts have comes first. Of texts that as many alerts have, the one
+/// that appears first comes first. No text is listed twice, and there are no more texts than a
+/// label may have values.
 pub(crate) fn usual_texts(
     alloc: Global,
     alerts: Option<&Alerts>,
@@ -27,7 +28,7 @@ pub(crate) fn usual_texts(
     Ok(texts)
 }
 
-/// Of some texts those over an alphabet, in their order.
+/// Returns those of some texts that are over an alphabet, in their order.
 pub(crate) fn texts_over(
     alloc: Global,
     alphabet: Alphabet,
@@ -44,7 +45,7 @@ pub(crate) fn texts_over(
     Ok(kept)
 }
 
-/// Adds a text, unless it is there, or there is no room for one more value of a label.
+/// Adds a text, unless it is there already, or there are as many texts as a label may have values.
 pub(crate) fn push_new(
     alloc: Global,
     texts: &mut Vec<String>,
@@ -56,8 +57,8 @@ pub(crate) fn push_new(
     Ok(())
 }
 
-/// The texts that alerts have for the label of this name, each with the number of those alerts,
-/// which falls.
+/// Returns the texts that alerts have for the label of this name, without absence, each with the
+/// number of these alerts. The highest number comes first.
 fn counted_texts<'a>(
     alloc: Global,
     alerts: &'a Alerts,

@@ -1,4 +1,4 @@
--- The parts of a configuration: what a part says, reading it gives, and the other way.
+-- The parts of a configuration: reading a part gives exactly what the part says.
 use Rattle.std.proofs.Common.{◌≡◌, ◌≢◌, ℕ, ◌+◌, ◌≤◌, List, [], ◌∷◌, ◌++◌, length, Bool}
 use Rattle.std.proofs.Common.{true, false, cond, Option, Some, None, option_and_then, Ok, inl}
 use Rattle.std.proofs.Common.{inr, refl, sym, ap, subst, ◌∙◌, append_assoc, append-nil}
@@ -46,7 +46,7 @@ use Rattle.am_list_files.specs.MatcherTexts.{SaysMatcherText, matcher_text_form}
 
 -- ---- The names of receivers.
 
--- a name is not an earlier one
+-- a name is not among the earlier names
 abbrev pub NameFits : List (List ℕ) → List ℕ → Type 0
 NameFits before name = is_one_of name before ≡ false
 
@@ -227,7 +227,7 @@ append_reads : (before ms : List Condition) → length before + length ms ≤ MA
     → (append_matchers before ms).result ≡ Ok (before ++ ms)
 append_reads before ms le = rw (check_count_fits MAX_MATCHERS (length before + length ms) le) refl
 
--- matchers that are said, behind others
+-- matchers that are said, appended to others
 pub record Adds (Says : List Condition → Type 0) (before all : List Condition) : Type 0 where
   pub matchers : List Condition
   pub says : Says matchers
@@ -246,7 +246,7 @@ adds_none Says before all is says = record {
   few = λ le. subst (λ (ms : List Condition). length ms ≤ MAX_MATCHERS) is le;
 }
 
--- some are added, and then others behind them
+-- some are added, and then others after them
 adds_more : (Says : List Condition → Type 0) (before ms next all : List Condition)
     → Joins before ms next → IsTrue (have_valid_patterns ms)
     → (rest : Adds (λ more. Says (ms ++ more)) next all) → Adds Says before all
@@ -299,7 +299,7 @@ text_reads before i d ms said sound le =
 
 -- ---- Texts.
 
--- the matchers of texts, one behind the other
+-- the matchers of texts, in order
 pub record SaysTexts (ds : List Data) (ms : List Condition) : Type 0 where
   pub lists : List (List Condition)
   pub texts : AllZip SaysMatcherText ds lists

@@ -1,5 +1,5 @@
--- A value says a configuration exactly where reading it finds no fault, and then that
--- configuration.
+-- A value says a configuration exactly if reading it finds no fault, and then it says the
+-- configuration that reading gives.
 use Rattle.std.proofs.Common.{◌≡◌, ℕ, zero, suc, ◌+◌, ◌≤◌, List, [], ◌∷◌, ◌++◌, true, Option}
 use Rattle.std.proofs.Common.{Some, None, Ok, refl, sym, ap, subst, ◌∙◌, append_assoc, append-nil}
 use Rattle.std.proofs.Common.{arith}

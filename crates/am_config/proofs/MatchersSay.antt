@@ -1,4 +1,4 @@
--- The matchers of three fields: a value says them exactly where reading them finds no fault.
+-- The matchers of three fields: a value says them exactly if reading them finds no fault.
 use Rattle.std.proofs.Common.{◌≡◌, ◌+◌, ◌≤◌, List, [], ◌∷◌, ◌++◌, length, Bool, true, false, Option}
 use Rattle.std.proofs.Common.{Some, None, Ok, inl, inr, refl, sym, ap, subst, ◌∙◌, append_assoc}
 use Rattle.std.proofs.Common.{append-nil, length-append, arith, ℕ}
@@ -38,7 +38,7 @@ not_root_reads : (is_root : Bool) (ms : List Condition) → (is_root ≡ true �
 not_root_reads true ms none = rw (none refl) refl
 not_root_reads false ms none = refl
 
--- the matchers of texts that may be absent
+-- the matchers of an optional array of texts
 record SaysOptionalTexts (key : List ℕ) (d : Data) (all : List Condition) : Type 0 where
   pub items : List Data
   pub is_array : HasItems key d items

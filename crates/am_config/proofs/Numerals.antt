@@ -1,4 +1,4 @@
--- Numbers in decimal: what a text must be to be one, and which number it is.
+-- Numbers in decimal: which texts are numbers, and which number a text is.
 use Rattle.std.proofs.Common.{◌≡◌, ℕ, zero, suc, ◌+◌, ◌*◌, ◌/◌, ◌%◌, ◌^◌, ◌<◌, ◌≤◌, List, []}
 use Rattle.std.proofs.Common.{◌∷◌, ◌++◌, ◌&&◌, map, length, get_or, Bool, true, false, cond}
 use Rattle.std.proofs.Common.{refl, sym, ap}
@@ -37,7 +37,7 @@ unfolding numeral
 numeral-positive n some =
     ap (λ b. cond b (codes "0") (map (λ d. 48 + d) (digits_of 10 n))) (ne_eqb n 0 (omega arith))
 
--- where std's `decimal` writes all digits, it writes the same
+-- std's `decimal` writes the same for a number below 2^64, of which it writes all digits
 pub numeral-decimal : (n : ℕ) → n < 2 ^ 64 → numeral n ≡ decimal n
 numeral-decimal zero small = numeral-zero ∙ sym (decimal_digit 0 (omega arith))
 numeral-decimal (suc n) small =
@@ -45,7 +45,7 @@ numeral-decimal (suc n) small =
 
 pub ruleset decimal_steps = (numeral-decimal)
 
--- the last digit behind the others
+-- the last digit, after the others
 numeral_step : (n : ℕ) → 10 ≤ n → numeral n ≡ numeral (n / 10) ++ ((48 + n % 10) ∷ [])
 numeral_step n large =
     let whole = numeral-positive n (omega arith) in
@@ -56,13 +56,13 @@ numeral_step n large =
 
 -- ---- Which texts are written.
 
--- digits, and no zero in front of others
+-- one or more digits, without leading zeros
 pub record IsNumeral (text : List ℕ) : Type 0 where
   pub some : 0 < length text
   pub digits : AllDigits 10 text
   pub lead : get_or text 0 0 ≡ 48 → length text ≡ 1
 
--- the text of a number, of which more is not needed
+-- what the proofs need of the text of a number
 record Says (n : ℕ) (text : List ℕ) : Type 0 where
   is : IsNumeral text
   positive : 0 < n → 48 < get_or text 0 0
@@ -160,11 +160,11 @@ all_digits : (text : List ℕ) → list_all is_ascii_digit text ≡ all_ascii_di
 all_digits [] = refl
 all_digits (c ∷ cs) = ap (λ b. is_ascii_digit c && b) (all_digits cs)
 
--- what the test tells of the digits
+-- what the test says about the digits
 told : IsNumeralModel (λ text. all_ascii_digits text ≡ true) (digits_value 10)
 told = numerals_by_value (λ text. all_ascii_digits text ≡ true) tells_all_ascii_digits
 
--- with a byte, and no zero in front of others, the digits alone decide
+-- for a text that is not empty and has no leading zero, the digits alone decide
 pub digits_decide : (text : List ℕ) → 0 < length text → (get_or text 0 0 ≡ 48 → length text ≡ 1)
     → list_all is_ascii_digit text ≡ reads_back text
 digits_decide text some lead = elim (cases_Bool (list_all is_ascii_digit text)) [

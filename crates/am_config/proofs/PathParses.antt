@@ -1,4 +1,4 @@
--- What parsing a path answers, from the pieces between its slashes.
+-- What parsing a path returns, from the pieces between its slashes.
 use Rattle.std.proofs.Common.{◌≡◌, ◌≢◌, ◌⊎◌, ◌<◌, ℕ, List, [], ◌∷◌, length, Option, Some, None}
 use Rattle.std.proofs.Common.{true, false, IfOk, IfErr, MatchOption, refl, sym, ap, ◌∙◌, arith, inr}
 use Rattle.std.specs.Prelude.{ok_or}
@@ -18,7 +18,7 @@ pub begins_with_slash : (path : List ℕ) → (rest : List ℕ) × (path_text pa
 begins_with_slash [] = ([], refl)
 begins_with_slash (p ∷ ps) = (_, refl)
 
--- where a piece is no number, no path has the text
+-- if a piece is not a number, no path has the text
 pub no_path : (text steps path : List ℕ) → text ≢ 47 ∷ [] → text ≡ 47 ∷ steps
     → list_all reads_back (pieces_of steps) ≡ false → path_text path ≢ text
 no_path text steps [] other is some e = other (sym e)
@@ -26,7 +26,7 @@ no_path text steps (p ∷ ps) other is some e =
     let pieces = pieces_of_path (p ∷ ps) steps (omega arith) (e ∙ is) in
     false≢true (sym some ∙ ap (list_all reads_back) pieces ∙ all_read_back (p ∷ ps))
 
--- the path that has the text, where each piece is a number
+-- the path that has the text, if each piece is a number
 record IsPathOf (steps path : List ℕ) : Type 0 where
   some : 0 < length path
   is : path_text path ≡ 47 ∷ steps
@@ -42,7 +42,7 @@ path_of steps all = record {
   is = path_of_pieces (positions_of (pieces_of steps)) steps (read_back (pieces_of steps) all);
 }
 
--- what is read of the steps is right for each path that has them
+-- the result of reading the steps is right for each path that has them
 abbrev IsStepsResult : List ℕ → Option (List ℕ) → Type 0
 IsStepsResult steps r = (path : List ℕ) → 0 < length path → path_text path ≡ 47 ∷ steps
     → MatchOption r (IsPath path → ⊥) (λ read. (read ≡ path) × IsPath path)

@@ -17,7 +17,7 @@ among_all [] p rest h = h.0
 among_all (q ∷ qs) p rest h = among_all qs p rest h.1
 
 module _ {S : Type 0} (steps : S → Option (Bor (List ℕ)) → S → Type 0) where
-  -- the front of the path is read, and s yields the steps that are left
+  -- a prefix of the path is read, and `s` yields the steps that are left
   pub record IsReadSoFar (path front : List ℕ) (s : S) : Type 0 where
     pub left : List ℕ
     pub all : path ≡ front ++ left
@@ -25,7 +25,7 @@ module _ {S : Type 0} (steps : S → Option (Bor (List ℕ)) → S → Type 0) w
     pub short : length front ≤ MAX_PATH_STEPS
     pub small : AreChildPositions front
 
-  -- the step at which s stands
+  -- the next step that is read, after which `t` yields the steps that are left
   pub record IsNext (path front text : List ℕ) (t : S) : Type 0 where
     pub position : ℕ
     pub rest : List ℕ
@@ -44,7 +44,7 @@ module _ {S : Type 0} (steps : S → Option (Bor (List ℕ)) → S → Type 0) w
           let now = yields.1 part t goes in
           record { position = p; rest = ps; is = sym now.0; all = all; yields = now.1 }
 
-  -- no step is left
+  -- if no step is left, the whole path is read
   pub all_read : (path front : List ℕ) (s t : S) → IsReadSoFar path front s → steps s None t
       → (front ≡ path) × IsPath path
   all_read path front s t h goes = by h.left h.all h.yields

@@ -15,7 +15,7 @@ use Rattle.am_config.specs.Path.{path_text, step_text, numeral}
 use Rattle.am_config.proofs.Numerals.{IsNumeral-numeral, digits_value-numeral, reads_back}
 use Rattle.am_config.proofs.Numerals.{is_numeral}
 
--- the text of a path with a position
+-- the text of a path that has a position
 pub path_text-steps : (path : List ℕ) → 0 < length path → path_text path ≡ flat_map step_text path
 path_text-steps [] some = absurd (omega arith)
 path_text-steps (p ∷ ps) some = refl
@@ -53,7 +53,7 @@ joined_behind : (p : ℕ) (ps : List ℕ)
 joined_behind p [] = append-nil (numeral p)
 joined_behind p (q ∷ qs) = ap (λ t. numeral p ++ (47 ∷ t)) (joined_behind q qs)
 
--- a path of these pieces
+-- a path whose positions are the pieces of a text has this text, with a slash in front
 pub path_of_pieces : (path text : List ℕ) → pieces_of text ≡ map numeral path
     → path_text path ≡ 47 ∷ text
 path_of_pieces [] text e =

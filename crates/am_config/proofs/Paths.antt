@@ -20,7 +20,7 @@ pub list_of-routes_of : (ts : List RouteTree) → list_of (routes_of ts) ≡ ts
 list_of-routes_of [] = refl
 list_of-routes_of (t ∷ ts) = ap (λ rest. t ∷ rest) (list_of-routes_of ts)
 
--- the route to which a path leads from a child, if there is that child
+-- the route to which a path leads from a child, if there is such a child
 abbrev route_below : List ℕ → Option Route → Option RouteTree
 route_below path child = option_and_then (λ c. route_at (route_view c) path) child
 
@@ -116,7 +116,7 @@ and_then_twice f g h same (Some x) = same x
 abbrev pub child_of : ℕ → RouteTree → Option RouteTree
 child_of p parent = slice_get (list_of (children_of parent)) p
 
--- one step more
+-- one more step
 pub route_at-child : (path : List ℕ) (t : RouteTree) (p : ℕ)
     → route_at t (path ++ (p ∷ [])) ≡ option_and_then (child_of p) (route_at t path)
 route_at-child [] t p = and_then-Some (child_of p t)

@@ -1,4 +1,4 @@
--- The position of an element of a list: through a map, and whether there is one.
+-- The position of an element of a list: in a mapped list, and whether there is one.
 use Rattle.std.proofs.Common.{◌≡◌, ℕ, suc, ◌+◌, ◌<◌, ◌≤◌, List, [], ◌∷◌, map, length, Bool, true}
 use Rattle.std.proofs.Common.{false, ◌||◌, cond, not, refl, ap, arith}
 use Rattle.std.specs.Prelude.{is_some}
@@ -17,7 +17,7 @@ pub position-map : {X Y : Type 0} (p : Y → Bool) (f : X → Y) (xs : List X)
     → position p (map f xs) ≡ position (λ x. p (f x)) xs
 position-map p f xs = rw (position_or_len-map p f xs, length-map xs f) refl
 
--- there is a position exactly where some element passes
+-- there is a position exactly if some element passes
 found_at : {X : Type 0} (p : X → Bool) (x : X) (xs : List X) (b : Bool) → p x ≡ b
     → (b || list_any p xs) ≡ true → (list_any p xs ≡ true → position_or_len p xs < length xs)
     → position_or_len p (x ∷ xs) < suc (length xs)

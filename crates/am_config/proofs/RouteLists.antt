@@ -1,5 +1,5 @@
--- The routes of a configuration, one after another: how a walk adds them, where each stands, and
--- what their paths are.
+-- The routes of a configuration, one after another: how a walk adds them, that each is at its path,
+-- and what their paths are.
 use Rattle.std.proofs.Common.{◌≡◌, ℕ, suc, ◌+◌, ◌<◌, ◌≤◌, List, [], ◌∷◌, ◌++◌, length, map, get_or}
 use Rattle.std.proofs.Common.{drop, Some, refl, sym, ap, ◌∙◌, arith, append_assoc}
 use Rattle.std.proofs.Common.{inl, inr, subst, Option, None, Bor}
@@ -47,7 +47,7 @@ child_within routes i child lt is =
 
 -- ---- A walk over the children.
 
--- the routes so far and those of one child more
+-- the routes so far, and the routes of one more child
 pub one_more : {X : Type 0} (f : List ℕ × RouteTree → X) (path child : List ℕ) (i : ℕ) (r : Route)
     (children : List Route) (found next whole : List X) → i < length children
     → r ≡ get_or children i r → child ≡ path ++ i ∷ []
@@ -108,7 +108,7 @@ listed_alike all found are =
     ∙ ap length are.routes ∙ length-map all (λ r. r.1) ∙ sym (length-map all (λ r. r.0))
     ∙ sym (ap length are.paths)
 
--- a path and a route that stand at the same place
+-- a path and a route at the same position in their lists
 pub listed_at : (all : List (List ℕ × RouteTree)) (found : RouteList) (i : ℕ) (path : List ℕ)
     (r : Bor Route) → AreListed all found → i < length found.paths.items
     → path ≡ get_or found.paths.items i path → r ≡ get_or found.routes.items i r
@@ -135,14 +135,14 @@ listed_at all found i path r are lt is also =
 abbrev pub paths_from : ℕ → Routes → List (List ℕ)
 paths_from i ts = map (λ found. found.0) (routes_from [] i ts)
 
--- paths from a child on, and from its parent on
+-- paths from a child down, as paths from its parent down
 pub paths_below : (path : List ℕ) (i : ℕ) (paths : List (List ℕ))
     → map (λ below. (path ++ i ∷ []) ++ below) paths
     ≡ map (λ below. path ++ below) (map (λ below. i ∷ below) paths)
 paths_below path i [] = refl
 paths_below path i (below ∷ paths) = rw (append_assoc, paths_below path i paths) refl
 
--- those of a child, and of the children behind it
+-- the paths of a child, and then those of the children after it
 next_by : (i : ℕ) (t : RouteTree) (ts : Routes)
     → map (λ found. found.0) (routes_at (i ∷ []) t) ≡ map (λ below. i ∷ below) (paths_at t)
     → paths_from i (next_route t ts)

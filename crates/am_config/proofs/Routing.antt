@@ -1,4 +1,4 @@
--- Routes: one is read by its own fields and then its children.
+-- Routes: reading one reads its own fields and then its children.
 use Rattle.std.proofs.Common.{◌≡◌, ◌≢◌, ℕ, suc, ◌+◌, ◌-◌, ◌≤◌, List, [], ◌∷◌, ◌++◌, Option, Ok}
 use Rattle.std.proofs.Common.{refl, sym, subst, arith, inl}
 use Rattle.std.specs.Prelude.{codes}
@@ -40,7 +40,7 @@ route_leads names levels left parent before d is =
 is_suc : (levels : ℕ) → levels ≢ 0 → levels ≡ suc (levels - 1)
 is_suc levels h = omega arith
 
--- no level is left
+-- if no level is left, the route is refused
 pub too_deep : (names : List (List ℕ)) (levels : ℕ) (parent : Option ℕ) (before : ℕ) (d : Data)
     (e : ReadError) → levels ≡ 0 → IsRefusalOrMemory e (refusal_here kinds.Limit)
     → Fails e (route_form names levels parent before d)
@@ -94,7 +94,7 @@ children_give names levels parent before d fields children some gives all =
     (children_lead names levels parent before d fields some gives) in
     sym l.result
 
--- what a route says of itself was read, and the values of its children
+-- there is room for the route, and its settings and the values of its children were read
 pub record AreRead (names : List (List ℕ)) (parent : Option ℕ) (before : ℕ) (d : Data)
     (fields : RouteFields) : Type 0 where
   pub room : before + 1 ≤ MAX_ROUTES

@@ -1,4 +1,4 @@
--- What the worked example of an inhibition rule is read as.
+-- What reading the worked example of an inhibition rule gives.
 use Rattle.std.proofs.Common.{◌≡◌, Ok, refl}
 use Rattle.am_json.specs.Reading.{check_only_fields, read_counted, read_each, read_next_item}
 use Rattle.am_list_files.specs.NamedText.{named_text_form}

@@ -1,4 +1,5 @@
--- Inhibition rules: a value says one exactly where reading it finds no fault, and then that rule.
+-- Inhibition rules: a value says a rule exactly if reading it finds no fault, and then it says the
+-- rule that reading gives.
 use Rattle.std.proofs.Common.{◌≡◌, false, Ok, refl, subst}
 use Rattle.std.specs.Prelude.{codes}
 use Rattle.serde_json.specs.Data.{Data}

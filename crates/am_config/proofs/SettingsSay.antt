@@ -1,4 +1,4 @@
--- What a route says of itself: a value says it exactly where reading it finds no fault.
+-- The settings of a route: a value says them exactly if reading it finds no fault.
 use Rattle.std.proofs.Common.{◌≡◌, ℕ, List, [], true, false, Option, Ok, refl, subst}
 use Rattle.std.specs.Prelude.{codes, is_none}
 use Rattle.serde_json.specs.Data.{Data}

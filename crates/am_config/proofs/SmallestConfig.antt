@@ -1,4 +1,4 @@
--- What the smallest configuration file is read as.
+-- What reading the smallest configuration file gives.
 use Rattle.std.proofs.Common.{◌≡◌, ℕ, List, [], ◌∷◌, length, nat_lt, true, Ok, Some}
 use Rattle.std.proofs.Common.{refl, codes, arith}
 use Rattle.serde_json.specs.Data.{Data, string, array, object, no_items, item, no_members, member}

@@ -1,5 +1,5 @@
--- What holds of each configuration that was read: its receivers are in range, its root has no
--- matchers, and its routes are not too many and not too deep.
+-- What holds for each configuration that was read: its receivers are in range, its top-level route
+-- has no matchers, and it has neither too many routes nor too many levels.
 use Rattle.std.proofs.Common.{◌≡◌, ℕ, zero, suc, ◌+◌, ◌<◌, ◌≤◌, List, [], ◌∷◌, ◌++◌, length}
 use Rattle.std.proofs.Common.{true, nat_lt, Option, Some, None, Ok, refl, sym, ap, subst, ◌∙◌}
 use Rattle.std.proofs.Common.{arith}
@@ -120,7 +120,7 @@ root_matchers_none fields d all h =
 
 -- ---- Routes.
 
--- what holds of a route with so many levels left and so many others before it
+-- what holds for a route with `left` levels left and `before` routes before it
 pub record IsSound (count left before : ℕ) (t : RouteTree) : Type 0 where
   pub in_range : has_receivers_below count t ≡ true
   pub levels : route_levels t ≤ left

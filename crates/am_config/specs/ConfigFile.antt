@@ -20,21 +20,21 @@ use Rattle.am_json.specs.OptionalItems.{HasItems}
 
 -- ---- Configurations.
 
--- What a route says of itself: the position of its receiver, its matchers, and whether later
--- siblings are tried after it. (Reference, "<route>".)
+-- The settings of a route: the position of its receiver, its matchers, and whether later siblings
+-- are tried after it. (Reference, "<route>".)
 pub record RouteSettings : Type 0 where
   pub receiver : ℕ
   pub matchers : List Condition
   pub continues : Bool
 
--- What a route says of itself that sets nothing but these.
+-- The settings of a route that sets nothing but these.
 abbrev pub settings_with : ℕ → List Condition → Bool → RouteSettings
 settings_with receiver matchers continues =
     record { receiver = receiver; matchers = matchers; continues = continues }
 
 -- A tree of routes.
 mutual
-  -- a route: what it says of itself, and its children
+  -- a route: its settings, and its children
   pub data RouteTree : Type 0 where
     route : RouteSettings → Routes → RouteTree
 
@@ -43,9 +43,9 @@ mutual
     no_routes : Routes
     next_route : RouteTree → Routes → Routes
 
--- An inhibition rule: its source side, which is the matchers of the alerts that inhibit; its target
--- side, which is those of the alerts that are inhibited; and the names of the labels that must have
--- the same value in both. (Reference, "<inhibit_rule>".)
+-- An inhibition rule. Its source side has the matchers of the alerts that inhibit, and its target
+-- side has those of the alerts that are inhibited. `equal` has the names of the labels that must
+-- have the same value in both alerts. (Reference, "<inhibit_rule>".)
 pub record Rule : Type 0 where
   pub source : List Condition
   pub target : List Condition
@@ -58,13 +58,13 @@ pub record Configuration : Type 0 where
   pub root : RouteTree
   pub rules : List Rule
 
--- A list of routes as the children of one.
+-- A list of routes as the children of a route.
 abbrev pub routes_of : List RouteTree → Routes
 routes_of [] = no_routes
 routes_of (t ∷ ts) = next_route t (routes_of ts)
 
--- The parts of a route: what it says of itself, which is its matchers, the position of its
--- receiver, and whether later siblings are tried after it; and its children.
+-- The parts of a route: its settings, which are its matchers, the position of its receiver, and
+-- whether later siblings are tried after it; and its children.
 abbrev pub settings_of : RouteTree → RouteSettings
 settings_of (route settings children) = settings
 
@@ -236,8 +236,8 @@ pub record SaysMatchers (fields : MatcherFields) (d : Data) (matchers : List Con
 abbrev pub SaysContinue : Data → Bool → Type 0
 SaysContinue d continues = SaysBooleanOr false (codes "continue") d continues
 
--- A JSON value says what a route sets: it is an object with fields of a route alone, and these say
--- the receiver, the matchers, and whether later siblings are tried.
+-- A JSON value says the settings of a route: it is an object that has only fields of a route, and
+-- these say the receiver, the matchers, and whether later siblings are tried.
 -- Source: Alertmanager configuration reference 0.25, "<route>". Own choice: the fields for grouping
 -- and timing are ignored, and other fields are refused.
 -- Example: let the receivers be `a` and `b`, and `a` the one of the parent. Then
@@ -250,8 +250,8 @@ pub record SaysSettings (names : List (List ℕ)) (parent : Option ℕ) (d : Dat
   pub matchers_are : SaysMatchers route_matcher_fields d settings.matchers
   pub continues_is : SaysContinue d settings.continues
 
--- A JSON value says a route: it says what the route sets, and the items of its `routes` say the
--- children, which inherit the receiver.
+-- A JSON value says a route: it says the settings of the route, and the items of its `routes` say
+-- the children, which inherit the receiver.
 -- Source: Alertmanager configuration reference 0.25, "<route>".
 -- Example: let the receivers be `a` and `b`. Then
 -- `{"receiver": "a", "routes": [{"receiver": "b"}, {}]}` says a route with the receiver `a` and two
@@ -278,13 +278,14 @@ abbrev mutual
 
 -- An item of `equal` says the name of a label: it is a text that is not empty.
 -- Source: Alertmanager configuration reference 0.25, "<inhibit_rule>": `equal`. Own choice: any
--- text but the empty one is a name, and a name may stand twice.
+-- text but the empty one is a name, and a name may occur twice.
 -- Example: `"cluster"` says the name `cluster`. `""` and `1` say none.
 abbrev pub SaysEqualName : Data → List ℕ → Type 0
 SaysEqualName d name = (d ≡ string name) × (name ≢ [])
 
--- A JSON value says an inhibition rule: it is an object with fields of a rule alone, and these say
--- the matchers of both sides and the names in `equal`. A side without matchers matches every alert.
+-- A JSON value says an inhibition rule: it is an object that has only fields of a rule, and these
+-- say the matchers of both sides and the names in `equal`. A side without matchers matches every
+-- alert.
 -- Source: Alertmanager configuration reference 0.25, "<inhibit_rule>". Own choice: the limits;
 -- `name` is ignored, and other fields are refused.
 -- Example: `{"source_match": {"a": "b"}, "target_matchers": ["c=d"], "equal": ["e"]}` says a rule

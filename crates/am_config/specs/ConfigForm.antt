@@ -1,6 +1,6 @@
 -- The form of a configuration file, and its first fault. (Alertmanager configuration reference
--- 0.25; the order and the limits are this project's own.) Each form stands at the value that it
--- looks at; whoever looks at the whole puts the pointer in front.
+-- 0.25; the order and the limits are this project's own.) The pointers of each form start at the
+-- value that it looks at. The form of a value around it puts the pointer to the part in front.
 use Rattle.std.specs.Prelude.{◌≡◌, ◌+◌, ◌&&◌, ℕ, zero, suc, List, [], ◌∷◌, ◌++◌, length, Bool}
 use Rattle.std.specs.Prelude.{true, false, not}
 use Rattle.std.specs.Prelude.{if◌then◌else◌, is_none, Option, Some, None}
@@ -36,14 +36,14 @@ use Rattle.am_list_files.specs.NamedText.{named_text_form}
 
 -- ---- The receivers.
 
--- What is wrong with a name that stands behind these: it is empty, or it is one of them.
+-- What is wrong with the name of a receiver that follows these: it is empty, or it is one of them.
 -- (Reference, "<receiver>": `name`.)
 abbrev pub receiver_name_fault : List (List ℕ) → List ℕ → Option Kind
 receiver_name_fault before [] = Some kinds.Empty
 receiver_name_fault before (c ∷ cs) =
     if is_one_of (c ∷ cs) before then Some kinds.Duplicate else None
 
--- The name of a receiver behind others. Its other fields are not read.
+-- The name of a receiver, after the names that were read before it. Its other fields are not read.
 unfoldable pub next_receiver_form : List (List ℕ) → Data → Reading (List ℕ)
 next_receiver_form before d = do
   _ ← as_object d
@@ -65,11 +65,13 @@ receivers_form d = do
 
 -- ---- The receiver of a route, and the values of its children.
 
--- A receiver that is not set is inherited from the parent route. The top-level route has none.
+-- The receiver of a route that sets none is that of its parent. The top-level route has no parent,
+-- and is refused as `shape`.
 abbrev pub parent_receiver : Option ℕ → Reading ℕ
 parent_receiver parent = accept_or 0 parent (refusal_here kinds.Shape)
 
--- The position of the receiver of this name.
+-- The position of the receiver with this name. It is refused as `undefined-receiver` if there is
+-- none.
 abbrev pub receiver_position : List (List ℕ) → List ℕ → Reading ℕ
 receiver_position names name =
     accept_or 0 (position (λ other. same_text other name) names)
@@ -80,17 +82,17 @@ abbrev pub is_empty : {A : Type 0} → List A → Bool
 is_empty [] = true
 is_empty (x ∷ xs) = false
 
--- The receiver that a route names; the empty text names none.
+-- The receiver of a route whose `receiver` is this text. The empty text counts as not set.
 abbrev pub receiver_named : List (List ℕ) → Option ℕ → List ℕ → Reading ℕ
 receiver_named names parent name =
     if is_empty name then parent_receiver parent else receiver_position names name
 
--- The same, where the field may be absent.
+-- The same, if the field may be absent.
 abbrev pub effective_receiver : List (List ℕ) → Option ℕ → Option Data → Reading ℕ
 effective_receiver names parent None = parent_receiver parent
 effective_receiver names parent (Some d) = as_text d >>= receiver_named names parent
 
--- The receiver of a route, in `receiver`.
+-- The receiver of a route, from its field `receiver`.
 unfoldable pub receiver_form : List (List ℕ) → Option ℕ → Data → Reading ℕ
 receiver_form names parent d =
     reading_within (to_field (codes "receiver"))
@@ -98,20 +100,20 @@ receiver_form names parent d =
 
 -- ---- Matchers.
 
--- Matchers behind others, of which there are not more than 64 together.
+-- Matchers, appended to others. Together there may be at most `MAX_MATCHERS`.
 abbrev pub append_matchers : List Condition → List Condition → Reading (List Condition)
 append_matchers before ms =
     check_count MAX_MATCHERS (length before + length ms) >>= λ _. accept (before ++ ms)
 
--- The matchers of the text of an item, with its position, behind the matchers of others; there the
--- limit is refused at the array.
+-- The matchers of an item, which is a text and comes with its position, appended to those of the
+-- items before it. Too many are refused at the array.
 unfoldable pub next_text_form : List Condition → ℕ × Data → Reading (List Condition)
 next_text_form before item = do
   text ← reading_within (to_item item.0) (as_text item.1)
   ms ← matcher_text_form (to_item item.0) [] text
   append_matchers before ms
 
--- The matchers of texts, one behind the other.
+-- The matchers of the items of an array of texts, in order.
 abbrev pub each_text_form : Form (List Data) (List Condition)
 each_text_form items = read_each next_text_form [] (enumerate_from 0 items)
 
@@ -121,7 +123,7 @@ matcher_pair_form op name d = do
   value ← named_text_form name d
   check_matcher (record { name = name; op = op; value = value })
 
--- The same, behind other matchers.
+-- The same, appended to other matchers.
 unfoldable pub next_pair_form : Op → List Condition → List ℕ × Data → Reading (List Condition)
 next_pair_form op before pair = do
   m ← reading_within (to_field pair.0) (matcher_pair_form op pair.0 pair.1)
@@ -131,7 +133,7 @@ next_pair_form op before pair = do
 abbrev pub given_fault : Bool → List Condition → Option Kind
 given_fault is_root ms = if is_root && not (is_empty ms) then Some kinds.RootMatchers else None
 
--- The top-level route has no matchers.
+-- These matchers. On the top-level route they are refused, if there are any.
 abbrev pub refuse_root_matchers : Bool → List Condition → Reading (List Condition)
 refuse_root_matchers is_root ms =
     refuse_for (given_fault is_root ms) >>= λ _. accept ms
@@ -143,26 +145,27 @@ texts_form is_root d = do
   ms ← each_text_form items
   refuse_root_matchers is_root ms
 
--- The matchers of an object of names and texts, behind others.
+-- The matchers of an object of names and texts, appended to others.
 unfoldable pub pairs_form : Bool → Op → List Condition → Data → Reading (List Condition)
 pairs_form is_root op before d = do
   members ← as_object d
   ms ← read_each (next_pair_form op) before (member_list members)
   refuse_root_matchers is_root ms
 
--- Those of an array that may be absent, as `matchers`.
+-- The matchers of an optional array of texts, as `matchers`.
 abbrev pub optional_texts : Bool → List ℕ → Option Data → Reading (List Condition)
 optional_texts is_root key None = accept []
 optional_texts is_root key (Some d) = reading_within (to_field key) (texts_form is_root d)
 
--- Those of an object that may be absent, as `match` and `match_re`.
+-- The matchers of an optional object of names and texts, as `match` and `match_re`, appended to
+-- others.
 abbrev pub optional_pairs : Bool → Op → List ℕ → List Condition → Option Data
     → Reading (List Condition)
 optional_pairs is_root op key before None = accept before
 optional_pairs is_root op key before (Some d) =
     reading_within (to_field key) (pairs_form is_root op before d)
 
--- The matchers of three fields, one behind the other.
+-- The matchers of three fields, one field after the other.
 unfoldable pub matchers_form : MatcherFields → Bool → Data → Reading (List Condition)
 matchers_form fields is_root d = do
   texts ← optional_texts is_root fields.texts (field fields.texts d)
@@ -171,7 +174,7 @@ matchers_form fields is_root d = do
 
 -- ---- The routes.
 
--- What a route says of itself. `parent` is the receiver of its parent, if it has one.
+-- The settings of a route. `parent` is the receiver of its parent, if it has one.
 unfoldable pub route_settings_form : List (List ℕ) → Option ℕ → Data → Reading RouteSettings
 route_settings_form names parent d = do
   _ ← check_only_fields route_fields d
@@ -180,12 +183,12 @@ route_settings_form names parent d = do
   continues ← read_boolean_or false (codes "continue") d
   accept (record { receiver = receiver; matchers = matchers; continues = continues })
 
--- What is read of a route before its children: what it says of itself, and their values.
+-- What is read of a route before its children: its settings, and the JSON values of the children.
 pub record RouteFields : Type 0 where
   pub settings : RouteSettings
   pub items : List Data
 
--- The fields of a route before which `before` routes stand in preorder.
+-- The fields of a route. `before` is the number of routes before it in preorder.
 unfoldable pub route_fields_form : List (List ℕ) → Option ℕ → ℕ → Data → Reading RouteFields
 route_fields_form names parent before d = do
   _ ← check_count MAX_ROUTES (before + 1)
@@ -197,8 +200,8 @@ route_fields_form names parent before d = do
 abbrev pub bare_route : RouteTree
 bare_route = route (settings_with 0 [] false) no_routes
 
--- A route. `left` levels are left for it and those below it, `before` routes stand before it in
--- preorder, and `parent` is the receiver of its parent, if it has one.
+-- A route. `left` is the number of levels that are left, its own included. `before` is the number
+-- of routes before it in preorder, and `parent` is the receiver of its parent, if it has one.
 unfoldable pub route_form : List (List ℕ) → ℕ → Option ℕ → ℕ → Data → Reading RouteTree
 route_form names zero parent before d = refuse bare_route (refusal_here kinds.Limit)
 route_form names (suc left) parent before d = do
@@ -209,7 +212,7 @@ route_form names (suc left) parent before d = do
       [] fields.items)
   accept (route fields.settings (routes_of children))
 
--- A child of a route, behind those that were read already.
+-- A child of a route, after the children that were read before it.
 abbrev pub next_child_form : List (List ℕ) → ℕ → ℕ → ℕ → List RouteTree → Data → Reading RouteTree
 next_child_form names left receiver before earlier =
     route_form names left (Some receiver) (before + routes_count (routes_of earlier))
@@ -260,13 +263,13 @@ config_file_form bytes = do
 
 -- ---- The first fault.
 
--- The refusal tells of the first fault of a JSON value, and of the bytes of a file.
+-- The refusal is the first fault of a JSON value, or of the bytes of a file.
 abbrev pub IsFirstFaultOfConfig : Data → Refusal → Type 0
 IsFirstFaultOfConfig d r = first_fault (config_form d).objections ≡ Some r
 
 abbrev pub IsFirstFaultOfConfigFile : List ℕ → Refusal → Type 0
 IsFirstFaultOfConfigFile bytes r = first_fault (config_file_form bytes).objections ≡ Some r
 
--- What a file may be refused for: its first fault, or a pattern before any.
+-- What a file may be refused for: its first fault, or a pattern that no fault comes before.
 abbrev pub ConfigFileRefusedFor : List ℕ → Refusal → Type 0
 ConfigFileRefusedFor bytes r = IsRefusedFor (config_file_form bytes).objections r

@@ -8,36 +8,37 @@ use Rattle.am_universe.specs.declared.kind.Kind.TheVariants as kinds
 use Rattle.am_json.specs.Pointer.{Refusal}
 use Rattle.am_json.specs.FormExamples.{object_of, array_of, refused_at}
 
--- A number, which no field that is read may have.
+-- A number. No field that is read may be a number.
 abbrev pub one : Data
 one = number (unsigned 1)
 
--- The one receiver of each file.
+-- The field `receivers` of most files, with the one receiver `a`.
 abbrev pub receivers : List ℕ × Data
 receivers =
     (codes "receivers", array_of (object_of ((codes "name", string (codes "a")) ∷ []) ∷ []))
 
--- A file with this top-level route; and a top-level route with the receiver and these fields.
+-- A file with this top-level route; and a top-level route with the receiver `a` and these fields.
 abbrev pub file_with : Data → Data
 file_with route = object_of (receivers ∷ (codes "route", route) ∷ [])
 
 abbrev pub root_with : List (List ℕ × Data) → Data
 root_with fields = object_of (fields ++ (codes "receiver", string (codes "a")) ∷ [])
 
--- A file whose top-level route has this field beside the receiver; and one whose first child has
--- this field alone.
+-- A file whose top-level route has this field in addition to the receiver; and one whose top-level
+-- route has one child, with this field alone.
 abbrev pub root_field : List ℕ → Data → Data
 root_field key d = file_with (root_with ((key, d) ∷ []))
 
 abbrev pub child_field : List ℕ → Data → Data
 child_field key d = root_field (codes "routes") (array_of (object_of ((key, d) ∷ []) ∷ []))
 
--- Routes in a row, each the only child of the one before, with so many below the first.
+-- A chain of routes, each the only child of the one above. This is the number of routes below the
+-- first.
 abbrev pub deep : ℕ → Data
 deep zero = root_with []
 deep (suc n) = root_with ((codes "routes", array_of (deep n ∷ [])) ∷ [])
 
--- A file with this value in `inhibit_rules`; and one with a rule that has this field.
+-- A file with this value in `inhibit_rules`; and one with one rule, which has this field alone.
 abbrev pub file_with_rules : Data → Data
 file_with_rules rules =
     object_of ((codes "inhibit_rules", rules) ∷ receivers ∷ (codes "route", root_with []) ∷ [])
@@ -51,7 +52,7 @@ at kind pointer = Some (refused_at kind pointer)
 -- Files with their first faults, if they have any.
 abbrev pub fault_examples : List (Data × Option Refusal)
 fault_examples =
-    -- no object, no receivers, no route, and a receiver that stands twice
+    -- not an object, no receivers, no route, and a receiver that occurs twice
     (array_of [], at kinds.Shape (codes ""))
     ∷ (object_of [], at kinds.Shape (codes "/receivers"))
     ∷ (object_of (receivers ∷ []), at kinds.Shape (codes "/route"))
@@ -75,7 +76,7 @@ fault_examples =
       file_with (object_of ((codes "receiver", string []) ∷ [])),
       at kinds.Shape (codes "/route/receiver"),
     )
-    -- a name that is empty, though its value is no text; and one with `/` and `~`
+    -- an empty name comes before a value that is not a text; and a name with `/` and `~`
     ∷ (
       child_field (codes "match") (object_of ((codes "", one) ∷ [])),
       at kinds.Empty (codes "/route/routes/0/match/"),
@@ -84,7 +85,7 @@ fault_examples =
       child_field (codes "match") (object_of ((codes "a/b~c", one) ∷ [])),
       at kinds.Shape (codes "/route/routes/0/match/a~1b~0c"),
     )
-    -- the top-level route has no matchers, but may have texts that spell none
+    -- the top-level route may not have matchers, but may have a text that spells none
     ∷ (root_field (codes "matchers") (array_of (string (codes "{}") ∷ [])), None)
     ∷ (
       root_field (codes "matchers") (array_of (string (codes "a=b") ∷ [])),
@@ -117,12 +118,12 @@ fault_examples =
       root_field (codes "routes") (array_of (replicate 1024 (object_of []))),
       at kinds.Limit (codes "/route/routes/1023"),
     )
-    -- inhibition rules: no array, no object, an unknown field, and a name that is any value
+    -- inhibition rules: not an array, not an object, an unknown field, and a `name` of any kind
     ∷ (file_with_rules one, at kinds.Shape (codes "/inhibit_rules"))
     ∷ (file_with_rules (array_of (one ∷ [])), at kinds.Shape (codes "/inhibit_rules/0"))
     ∷ (rule_field (codes "x") one, at kinds.UnknownField (codes "/inhibit_rules/0/x"))
     ∷ (rule_field (codes "name") one, None)
-    -- names in `equal`: an empty one, one that stands 64 times, and 65 of them
+    -- names in `equal`: an empty one, the same one 64 times, and 65 names
     ∷ (
       rule_field (codes "equal") (array_of (string [] ∷ [])),
       at kinds.Empty (codes "/inhibit_rules/0/equal/0"),
@@ -132,7 +133,8 @@ fault_examples =
       rule_field (codes "equal") (array_of (replicate 65 (string (codes "a")))),
       at kinds.Limit (codes "/inhibit_rules/0/equal"),
     )
-    -- an empty name on the target side; and one there behind a fault of the source side
+    -- an empty name on the target side; and faults on both sides, of which the source side comes
+    -- first
     ∷ (
       rule_field (codes "target_match") (object_of ((codes "", one) ∷ [])),
       at kinds.Empty (codes "/inhibit_rules/0/target_match/"),

@@ -5,11 +5,13 @@ use Rattle.am_config.specs.ConfigFile.{RouteTree, Routes, route, no_routes, next
 use Rattle.am_config.specs.ConfigFile.{Configuration}
 use Rattle.am_config.specs.RouteView.{route_view}
 
--- A route at a path and all routes below it, each with its path, in preorder: a route, then those
--- below it, then its next sibling. Some children of the route at a path, the first of which is at a
--- position, with all routes below them. And all routes of a configuration, with their paths alone.
+-- `routes_at` lists a route, which is at this path, and all routes below it, each with its path, in
+-- preorder: a route, then those below it, then its next sibling. `routes_from` does so for some
+-- children of the route at this path, the first of which has this position. `all_routes` lists the
+-- routes of a configuration. `paths_at` and `paths_of` list only the paths, from a route down and
+-- of a configuration.
 -- Source: own choice.
--- Example: where the top-level route has two children, and the first of these one, the paths are
+-- Example: if the top-level route has two children, and the first of these has one, the paths are
 -- `/`, `/0`, `/0/0` and `/1`.
 abbrev mutual
   pub routes_at : List ℕ → RouteTree → List (List ℕ × RouteTree)
@@ -30,7 +32,8 @@ paths_at t = map (λ found. found.0) (routes_at [] t)
 abbrev pub paths_of : Configuration → List (List ℕ)
 paths_of c = paths_at c.root
 
--- A list has these routes and their paths; and what it has more than before is these.
+-- A list has exactly these routes and their paths; and a list has them in addition to what it had
+-- before, at the end.
 pub record AreListed (all : List (List ℕ × RouteTree)) (found : RouteList) : Type 0 where
   pub paths : found.paths.items ≡ map (λ r. r.0) all
   pub routes : map (λ route. route_view route.now) found.routes.items ≡ map (λ r. r.1) all

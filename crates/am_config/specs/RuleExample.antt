@@ -4,8 +4,8 @@ use Rattle.serde_json.specs.Data.{Data, string, array, object, no_items, item, n
 use Rattle.am_labels.specs.declared.op.Op.TheVariants.{Equal}
 use Rattle.am_config.specs.ConfigFile.{Rule}
 
--- The value of the rule: alerts of the severity `critical` inhibit those of the severity `warning`
--- in the same cluster, which is named twice.
+-- The JSON value of the rule: alerts of the severity `critical` inhibit those of the severity
+-- `warning` in the same cluster. `equal` has the name `cluster` twice.
 abbrev pub rule_example : Data
 rule_example = object
     (member (codes "equal")

@@ -1,6 +1,6 @@
 //! Configurations, as they are kept in memory.
 
-// The module of words stands on this type, so the field's own words come from where they stand.
+// `Config` imports these names for its ghost field, so none is from a module that uses `Config`.
 ghost use Rattle.std.specs.Prelude.{◌≡◌, position};
 ghost use Rattle.am_universe.specs.Text.{same_text};
 ghost use Rattle.am_config.specs.ConfigFile.{IsConfig};

@@ -200,7 +200,7 @@ const MATCHER_FIELDS: MatcherFields<'static> = MatcherFields {
     patterns: "match_re",
 };
 
-/// Reads what a route says of itself.
+/// Reads the settings of a route.
 #[tactic(auto, using(am_json::proofs::Readings::steps), unfolding(crate::specs::ConfigForm::route_settings_form))]
 fn read_route_settings(
     alloc: Global,
@@ -222,7 +222,7 @@ fn read_route_settings(
     })
 }
 
-/// The fields of a route, before its children are read: what it says of itself, and their values.
+/// What is read of a route before its children: its settings, and the JSON values of the children.
 #[derive(Drop)]
 struct RouteFields<'v> {
     settings: RouteSettings,
@@ -248,7 +248,7 @@ fn read_route_fields<'v>(
     Ok(RouteFields { settings, items })
 }
 
-/// Refuses a route that has other fields than those of the form.
+/// Refuses a route with a field that the form does not have.
 fn check_route_fields(alloc: Global, value: &Value) -> Result<(), ReadError>
     ensures { Gives (λ _. tt) result (check_only_fields route_fields (view value.now)) }
 {

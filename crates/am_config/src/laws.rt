@@ -81,11 +81,11 @@ pub fn one_path_a_text()
     ensures one { (p q : List ℕ) → path_text p ≡ path_text q → p ≡ q }
 {}
 
-/// Each route of a configuration is at a path that a `Path` can be.
+/// Each route of a configuration is at a path that a `Path` can hold.
 ///
-/// That path is no longer than the way to the last level, and has no position beyond that of the
-/// last child. So what `Path::parse` refuses with `UnknownRoute` leads to no route of any
-/// configuration. The path of a route with a child has room for one step more, and that step leads
+/// That path is no longer than the way to the last level, and no position in it is beyond that of
+/// the last child. So what `Path::parse` refuses with `UnknownRoute` leads to no route of any
+/// configuration. The path of a route with a child has room for one more step, and that step leads
 /// to the child.
 pub fn routes_have_paths()
     ensures paths { (c : Configuration) (path : List ℕ) (t : RouteTree) → IsConfig c

@@ -5,7 +5,7 @@
 //! part. docs/REFERENCE.md has the form of the file, and the order of its faults.
 #![tactic(auto)]
 
-// How much there may be.
+// The limits of configuration files.
 pub mod limits;
 
 // A configuration: its routes, the paths that lead to them, and its inhibition rules.
@@ -27,5 +27,5 @@ mod route_matchers;
 
 pub use config_file::read_config;
 
-// What holds of the definitions by themselves.
+// Facts about the definitions alone.
 pub mod laws;

@@ -136,7 +136,7 @@ fn is_numeral(text: &str) -> bool
     digits.iter().all(|byte| byte.is_ascii_digit())
 }
 
-/// The number that the text is in decimal, if a child may have it as its position.
+/// Returns the number that the text is in decimal, or `None` if it is too large for a child.
 fn child_position(text: &str) -> Option<u16>
     ensures { (n : ℕ) → numeral n ≡ text.now → MatchOption result (MAX_CHILD_POSITION < n)
         (λ position. (position ≡ n) × (n ≤ MAX_CHILD_POSITION)) }
@@ -153,7 +153,7 @@ fn child_position(text: &str) -> Option<u16>
     }
 }
 
-/// Reads the positions of a path, with a `/` between two; `None` if no path has them.
+/// Reads the positions of a path, separated by `/`. Returns `None` if no path has them.
 fn parse_steps(text: &str) -> Option<Path>
     ensures { (path : List ℕ) → 0 < length path → path_text path ≡ 47 ∷ text.now
         → MatchOption result (IsPath path → ⊥) (λ read. (read ≡ path) × IsPath path) }

@@ -1,6 +1,6 @@
 //! Routes, as they are kept in memory.
 
-// The module of words stands on these types, so their own words come from where they stand.
+// The `impl Model` has imports of its own, so that no import goes in a circle.
 ghost use Rattle.std.specs.Prelude.{◌≡◌, map};
 ghost use Rattle.am_config.specs.ConfigFile.{matchers_of, continues_of, receiver_of, children_of};
 ghost use Rattle.am_config.specs.ConfigFile.{routes_of};
@@ -9,7 +9,7 @@ ghost use Rattle.am_config.specs.RouteView.{route_view};
 use am_labels::Matchers;
 use std::marker::Model;
 
-/// What a route says of itself.
+/// The settings of a route.
 #[derive(Drop)]
 pub struct RouteSettings {
     pub(crate) receiver: usize,

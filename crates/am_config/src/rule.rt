@@ -1,6 +1,6 @@
 //! Inhibition rules, as they are kept in memory.
 
-// The module of words stands on this type, so its own words come from where they stand.
+// The `impl Model` has imports of its own, so that no import goes in a circle.
 ghost use Rattle.std.specs.Prelude.{◌≡◌};
 ghost use Rattle.am_config.specs.RouteView.{names_of};
 

@@ -1,4 +1,4 @@
--- Which of two choices comes first is found position by position.
+-- Which of two choices comes first can be found position by position.
 use Rattle.std.proofs.Common.{◌≡◌, ◌≢◌, ◌⊎◌, inl, inr, ℕ, ◌+◌, ◌-◌, ◌<◌, ◌≤◌, List, [], ◌∷◌}
 use Rattle.std.proofs.Common.{true, false, length, drop, get_or, refl, sym, ◌∙◌, arith}
 use Rattle.std.specs.Prelude.{nat_lt}
@@ -10,7 +10,7 @@ use Rattle.am_search.proofs.PrefixOrder.{before_same}
 by_first : (p q : ℕ) (c d : List ℕ) → p ≢ q → comes_before (p ∷ c) (q ∷ d) ≡ nat_lt p q
 by_first p q c d other = grind (arith, nat_tests)
 
--- where two positions differ, they decide
+-- if the positions differ, they decide
 pub by_position : (c d : List ℕ) (i : ℕ) → i < length c → i < length d
     → get_or c i 0 ≢ get_or d i 0
     → comes_before (drop i c) (drop i d) ≡ nat_lt (get_or c i 0) (get_or d i 0)
@@ -18,7 +18,7 @@ by_position c d i in_c in_d other =
     rw (drop_more c i 0 in_c, drop_more d i 0 in_d)
     (by_first (get_or c i 0) (get_or d i 0) (drop (i + 1) c) (drop (i + 1) d) other)
 
--- and where they are the same, what is behind them does
+-- if the positions are the same, what follows them decides
 pub past_same : (c d : List ℕ) (i : ℕ) → i < length c → i < length d
     → get_or c i 0 ≡ get_or d i 0
     → comes_before (drop i c) (drop i d) ≡ comes_before (drop (i + 1) c) (drop (i + 1) d)
@@ -26,7 +26,7 @@ past_same c d i in_c in_d same =
     rw (drop_more c i 0 in_c, drop_more d i 0 in_d, same)
     (before_same (get_or d i 0) (drop (i + 1) c) (drop (i + 1) d))
 
--- where nothing is left of one, the other comes behind it if something is left of that
+-- if nothing is left of one of two choices, the shorter comes first
 less_is : (p q : ℕ) → p < q → nat_lt p q ≡ true
 less_is p q h = grind (arith, nat_tests)
 

@@ -1,4 +1,5 @@
--- What passes one of some tests first is the earliest of what passes each of them first.
+-- The first item that passes one of several tests is the earliest of the first items that pass each
+-- of them.
 use Rattle.std.proofs.Common.{◌≡◌, ℕ, List, [], ◌∷◌, ◌++◌, map, Bool, false, Option, Some, None}
 use Rattle.std.proofs.Common.{refl, sym, ap, ◌∙◌, inl, inr}
 use Rattle.std.specs.Prelude.{◌||◌}
@@ -18,14 +19,14 @@ none_before : (x : List ℕ) (xs : List (List ℕ)) (y : List ℕ) → Ascends (
 none_before x xs y s (inl same) = ap (λ z. comes_before z x) (sym same) ∙ not_itself x
 none_before x xs y s (inr later) = not_back x y (above_first x xs y s later)
 
--- the first item is no later than what another test finds
+-- no test finds an item that is earlier than the first
 first_kept : (test : List ℕ → Bool) (x : List ℕ) (xs : List (List ℕ)) → Ascends (x ∷ xs)
     → (found : Option (List ℕ)) → find test (x ∷ xs) ≡ found → earlier (Some x) found ≡ Some x
 first_kept test x xs s None e = refl
 first_kept test x xs s (Some y) e =
     rw (none_before x xs y s (is_found test (x ∷ xs) y e).0) refl
 
--- and it is earlier than what a test finds behind it
+-- and the first item is earlier than what a test finds after it
 first_taken : (test : List ℕ → Bool) (x : List ℕ) (xs : List (List ℕ)) → Ascends (x ∷ xs)
     → (found : Option (List ℕ)) → find test xs ≡ found → earlier found (Some x) ≡ Some x
 first_taken test x xs s None e = refl
@@ -57,7 +58,7 @@ earlier_alone : (o : Option (List ℕ)) → earlier o None ≡ o
 earlier_alone None = refl
 earlier_alone (Some x) = refl
 
--- one test more
+-- one more test
 pub find_more : {X : Type 0} (test : X → List ℕ → Bool) (ts : List X) (t : X)
     (xs : List (List ℕ)) → Ascends xs
     → earliest (map (λ u. find (test u) xs) (ts ++ t ∷ []))

@@ -1,4 +1,4 @@
--- A dead route is entered where a route below it is live.
+-- A dead route is entered exactly if a route below it is live.
 use Rattle.std.proofs.Common.{◌≡◌, ◌↔◌, ℕ, List, [], ◌∷◌, map, Contains, Bool, true, false}
 use Rattle.std.proofs.Common.{Option, Some, None, refl, ap, ◌∙◌}
 use Rattle.std.specs.Prelude.{IsTrue, is_some, if◌then◌else◌, ◌||◌}
@@ -20,7 +20,7 @@ use Rattle.am_coverage.proofs.RouteLaws as of_route
 
 -- ---- The earliest of some choices is there where one of them is.
 
--- what is entered where a choice is there
+-- the coverage of a dead route, by whether some choice enters it
 abbrev pub entered_where : Bool → RouteCoverage
 entered_where b = if b then route_is.Entered else route_is.NeverEntered
 

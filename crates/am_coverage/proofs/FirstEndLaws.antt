@@ -1,5 +1,5 @@
--- What enters a route first, and what goes to a receiver first, is the earliest of what ends first
--- at each of some routes.
+-- The first choice that enters a route, or goes to a receiver, is the earliest of the first choices
+-- that end at each of some routes.
 use Rattle.std.proofs.Common.{◌≡◌, ℕ, List, [], ◌∷◌, ◌++◌, map, Bool, ◌∙◌}
 use Rattle.std.specs.List.{list_any, filter, find}
 use Rattle.am_universe.specs.LabelSet.{LabelMap, label_set_of}
@@ -26,7 +26,7 @@ use Rattle.am_coverage.proofs.EarliestFound.{find_any, find_more}
 abbrev is_end : LabelMap → Configuration → List ℕ → Bool
 is_end s c path = list_any (λ end. same_text end path) (ends s c)
 
--- a label set enters a route where it ends at one of the routes to which that leads
+-- a label set enters a route exactly if it ends at the route or at one below it
 enters_by_ends : (s : LabelMap) (c : Configuration) (path : List ℕ)
     → list_any (leads_through path) (ends s c)
     ≡ list_any (is_end s c) (filter (leads_through path) (paths_of c))
@@ -66,7 +66,7 @@ module _ (s : Space) (c : Configuration) where
       ∙ find_any ends_of_choice (paths_to receiver c.root) (all_choices s)
       (space_choices_sorted s)
 
-  -- of some routes and one more
+  -- the earliest of some routes and one more
   pub earliest_more : (paths : List (List ℕ)) (path : List ℕ)
       → earliest (map (first_end s c) (paths ++ path ∷ []))
       ≡ earlier (earliest (map (first_end s c) paths)) (first_end s c path)

@@ -1,4 +1,4 @@
--- The first of all choices of a space that has a property, as a test finds it.
+-- The first choice of a space that has a property, as a test finds it.
 use Rattle.std.proofs.Common.{◌≡◌, ◌↔◌, ℕ, List, [], ◌∷◌, Bool, true, false, Option, Some, None}
 use Rattle.std.proofs.Common.{refl, sym, ap, ◌∙◌, inl, inr}
 use Rattle.std.specs.Prelude.{IsTrue}
@@ -18,7 +18,7 @@ use Rattle.am_search.proofs.ChoiceOrder.{Ascends, above_first, ascends_rest, not
 use Rattle.am_first_sets.proofs.FirstPossible.{is_found}
 use Rattle.am_coverage.specs.Report.{IsFirstChoice}
 
--- where an item passes, one is found
+-- if an item passes, one is found
 finds : {X : Type 0} (test : X → Bool) (xs : List X) (x : X) → IsIn xs x → test x ≡ true
     → (y : X) × (find test xs ≡ Some y)
 finds test [] x h passes = absurd h
@@ -29,7 +29,7 @@ finds test (y ∷ ys) x (inr later) passes = elim (cases_Bool (test y)) [
   | inr fails ↦ let r = finds test ys x later passes in (r.0, rw fails r.1)
 ]
 
--- in a list that ascends no item that passes comes before the one that is found
+-- in a list that ascends, no item that passes comes before the one that is found
 found_first : (test : List ℕ → Bool) (xs : List (List ℕ)) (x y : List ℕ) → Ascends xs
     → find test xs ≡ Some x → IsIn xs y → test y ≡ true → comes_before y x ≡ false
 found_first test [] x y s e h passes = absurd h

@@ -1,9 +1,9 @@
--- What a loop gathers: of each item so far what is made of it.
+-- What a loop gathers: what is made of each item so far.
 use Rattle.std.proofs.Common.{◌≡◌, ℕ, ◌+◌, ◌<◌, List, [], ◌∷◌, ◌++◌, length, map, get_or, take}
 use Rattle.std.proofs.Common.{refl}
 use Rattle.std.proofs.lemmas.List.{map-append, map_more}
 
--- the items so far seen as what is made of the first `i`, and one more
+-- the views so far are what is made of the first `i` items, and of one more
 pub one_more_made : {X Y Z : Type 0} (view : Y → Z) (make : X → Z) (xs : List X) (i : ℕ) (x : X)
     (ys : List Y) (y : Y) → i < length xs → x ≡ get_or xs i x
     → map view ys ≡ map make (take i xs) → view y ≡ make x

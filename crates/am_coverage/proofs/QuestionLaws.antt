@@ -1,4 +1,4 @@
--- What the report tells of a route or a receiver is what the question about it is answered.
+-- A report says of a route or a receiver what the answers to the question about it say.
 use Rattle.std.proofs.Common.{◌≡◌, ◌↔◌, ℕ, List, [], None}
 use Rattle.std.specs.List.{filter, find}
 use Rattle.am_labels.specs.Space.{Space, all_choices}
@@ -12,7 +12,7 @@ use Rattle.am_coverage.specs.Coverage.{IsDead, IsNeverEntered, IsUnmatched}
 use Rattle.am_coverage.proofs.RouteLaws.{dead_by_end, never_by_entry}
 use Rattle.am_coverage.proofs.ReceiverLaws.{unmatched_by_receipt}
 
--- there is no answer exactly where there is no first one
+-- there is no answer exactly if there is no first one
 no_answer : (s : Space) (w : World) (part : Simple)
     → (find (satisfies_at s.labels w (Part part)) (all_choices s) ≡ None)
     ↔ (answers s w (Part part) ≡ [])

@@ -1,4 +1,4 @@
--- What becomes of a receiver is what holds over all label sets, and over its routes.
+-- The coverage of a receiver says what holds over all label sets, and over its routes.
 use Rattle.std.proofs.Common.{◌≡◌, ◌↔◌, ℕ, List, Bool, Contains}
 use Rattle.std.proofs.Common.{Option, Some, None, refl, ap, subst, ◌∙◌}
 use Rattle.std.specs.Prelude.{IsTrue, ◌==◌}

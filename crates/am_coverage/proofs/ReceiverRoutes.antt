@@ -1,4 +1,4 @@
--- What becomes of a receiver, route by route.
+-- The coverage of a receiver, route by route.
 use Rattle.std.proofs.Common.{◌≡◌, ◌≢◌, ℕ, zero, suc, ◌+◌, ◌<◌, List, [], ◌∷◌, ◌++◌, map, get_or, length}
 use Rattle.std.proofs.Common.{Option, Some, Bool, true, false, inl, inr, refl, sym, ap, ◌∙◌, arith}
 use Rattle.std.proofs.Math.ListN.{set}
@@ -35,7 +35,7 @@ use Rattle.am_coverage.proofs.ReceiverLaws.{first_live}
 abbrev has_receiver : Configuration → ℕ → List ℕ → Bool
 has_receiver c receiver path = is_receiver receiver (route_at c.root path)
 
--- what becomes of a receiver as far as some routes tell
+-- the coverage of a receiver by some routes
 abbrev pub covered_by : Space → Configuration → List (List ℕ) → ℕ → ReceiverCoverage
 covered_by s c paths receiver =
     live_or_unmatched (earliest (map (first_end s c) (filter (has_receiver c receiver) paths)))
@@ -86,7 +86,7 @@ receiver_declared config path receiver its_own =
     at.1 in
     omega (arith, below, at.2)
 
--- and known with what ends first at the route
+-- and a first end has the receiver of its route
 pub own_receiver : (c : Configuration) (ends items : List FirstEnd) (i : ℕ) (end : FirstEnd)
     → items ≡ ends → AllByRecursion (λ e. receiver_at c e.path ≡ Some e.receiver) ends
     → i < length items → end ≡ get_or items i end → receiver_at c end.path ≡ Some end.receiver
@@ -96,7 +96,7 @@ own_receiver c ends items i end same each lt is =
     ∙ slice_get_read items (length items) i end refl lt is)
 
 module _ (s : Space) (c : Configuration) (paths : List (List ℕ)) where
-  -- the route at a path tells of its own receiver alone
+  -- the route at a path changes the coverage of its own receiver alone
   pub route_counted : (table : List ReceiverCoverage) (path : List ℕ) (n receiver : ℕ)
       (known told : ReceiverCoverage)
       → table ≡ map (covered_by s c paths) (range_with_len 0 n)

@@ -1,5 +1,5 @@
--- What a report says is what becomes of its routes and receivers: the lines that are written are
--- those that say it, and no other lines do.
+-- A report says the coverage of its routes and receivers: the lines that are written say it, and no
+-- other lines do.
 use Rattle.std.proofs.Common.{◌≡◌, ◌↔◌, ℕ, ◌+◌, zero, suc, List, [], ◌∷◌, ◌++◌, length, map, get_or}
 use Rattle.std.proofs.Common.{codes, drop, Some, refl, sym, ap, ◌∙◌, arith}
 use Rattle.std.specs.Prelude.{slice_get}
@@ -30,13 +30,13 @@ use Rattle.am_coverage.proofs.RouteLaws as of_route
 use Rattle.am_coverage.proofs.RouteLaws.{never_exactly, entered_exactly, dead_from_never}
 use Rattle.am_coverage.proofs.ReceiverLaws as of_receiver
 
--- one text does not go on in two ways whose bytes at a position differ
+-- if a text continues a front in two ways, the bytes at each position are the same
 differ : (a b front line : List ℕ) (i : ℕ) → line ≡ front ++ a → line ≡ front ++ b
     → get_or a i 0 ≡ get_or b i 0
 differ a b front line i is also =
     ap (λ rest. get_or rest i 0) (append_cancel_left front a b (sym is ∙ also))
 
--- a report has one line for each of some things, which is known from the thing
+-- if the line of each thing is known from the thing, the lines of all things are known
 lines_are : {K : Type 0} (IsLine : K → List ℕ → Type 0) (line_at : K → List ℕ)
     → ((k : K) (line : List ℕ) → IsLine k line → line ≡ line_at k)
     → (ks : List K) (lines : List (List ℕ)) → AllZip IsLine ks lines → lines ≡ map line_at ks
@@ -49,7 +49,7 @@ lines_are IsLine line_at is (k ∷ ks) (line ∷ lines) each =
 abbrev report_of : List (List ℕ) → List ℕ
 report_of lines = flat_map (λ line. line) lines ++ codes "# end\n"
 
--- what stands first in the rest from a position on stands there, and the others are behind it
+-- the first item of the rest from a position on is at that position, and the others follow it
 at_front : {X : Type 0} (xs : List X) (i : ℕ) (x : X) (later : List X) → drop i xs ≡ x ∷ later
     → (slice_get xs i ≡ Some x) × (drop (i + 1) xs ≡ later)
 at_front [] zero x later e = absurd (cc)
@@ -58,7 +58,7 @@ at_front (y ∷ xs) zero x later e = (cc, cc)
 at_front (y ∷ xs) (suc i) x later e =
     let n : suc i + 1 ≡ suc (i + 1) = omega arith in rw n (at_front xs i x later e)
 
--- the texts of some items, one behind the other
+-- the texts of some items, one after the other
 joined : {X : Type 0} (line : X → List ℕ) (xs : List X)
     → flat_map line xs ≡ flat_map (λ text. text) (map line xs)
 joined line xs = sym (flat_map-map (λ text. text) line xs)
@@ -166,7 +166,7 @@ module _ (s : Space) (c : Configuration) where
   receiver_said receiver name receiver_is.Unmatched named e =
       unmatched_receiver name named ((of_receiver.unmatched_exactly s c receiver).1 e) refl
 
-  -- the lines of the receivers of these names, from a position on
+  -- the lines of the receivers with these names, from a position on
   abbrev lines_from : ℕ → List (List ℕ) → List (List ℕ)
   lines_from i names =
       map (receiver_line s.labels)

@@ -1,4 +1,4 @@
--- The lines of a report: those of routes, and those of receivers beside their names.
+-- The lines of a report: those of routes, and those of receivers with their names.
 use Rattle.std.proofs.Common.{◌≡◌, ℕ, ◌<◌, ◌≤◌, List, [], ◌++◌, length, get_or, take}
 use Rattle.std.proofs.Common.{◌+◌, drop, codes, Some, ◌∙◌, refl, sym, ap, arith}
 use Rattle.std.specs.Prelude.{slice_get}
@@ -15,20 +15,20 @@ use Rattle.am_coverage.specs.CoverageView.{found_view}
 use Rattle.am_coverage.specs.WrittenCoverage.{route_status, receiver_status}
 use Rattle.am_coverage.specs.WrittenCoverage.{route_line}
 
--- what stands behind the path of a route, and behind the name of a receiver
+-- what follows the path of a route, and the name of a receiver
 abbrev pub route_ending : List Label → RouteCoverage → List ℕ
 route_ending u coverage = route_status u coverage ++ codes "\n"
 
 abbrev pub receiver_ending : List Label → ReceiverCoverage → List ℕ
 receiver_ending u coverage = receiver_status u coverage ++ codes "\n"
 
--- the line of a route as it is kept
+-- the line of a route as it is kept in memory
 abbrev pub line_of : List Label → RouteFound → List ℕ
 line_of u route = route_line u (found_view route)
 
 pub ruleset report_steps = (steps, flat_map-map)
 
--- The lines of what stands side by side in two lists of one length.
+-- The lines of two lists of the same length, position by position.
 module _ {X Y : Type 0} (line : X × Y → List ℕ) (names : List X) (found : List Y)
     (each : length found ≡ length names) where
   length_beside : length (zip names found) ≡ length found

@@ -1,4 +1,4 @@
--- What becomes of a route is what holds over all label sets.
+-- The coverage of a route says what holds over all label sets.
 use Rattle.std.proofs.Common.{◌≡◌, ◌≢◌, ◌↔◌, ℕ, List, Bool, Contains}
 use Rattle.std.proofs.Common.{Option, Some, None, refl, sym, ap, ◌∙◌}
 use Rattle.std.specs.Prelude.{IsTrue}
@@ -84,7 +84,7 @@ module _ (s : Space) (c : Configuration) (path : List ℕ) where
         λ e choice end possible h through. none.1 e choice possible (end, h, through),
       )
 
-  -- where none ends at the route or below it, none ends there
+  -- if no label set ends at the route or below it, none ends at it
   pub dead_from_never : IsNeverEntered s c path → IsDead s c path
   dead_from_never never choice possible h = never choice path possible h (through_itself path)
 

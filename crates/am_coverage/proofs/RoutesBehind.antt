@@ -1,5 +1,5 @@
--- The routes below a route are the first of those behind it in preorder, so that they tell whether
--- it is entered.
+-- The routes below a route are the first of those after it in preorder, so they tell whether it is
+-- entered.
 use Rattle.std.proofs.Common.{◌≡◌, ℕ, zero, suc, ◌+◌, List, [], ◌∷◌, map, drop, get_or, length, ◌<◌}
 use Rattle.std.proofs.Common.{Option, Some, None, Bool, true, false, refl, sym, ap, ◌∙◌}
 use Rattle.std.proofs.Common.{inl, inr, arith}
@@ -125,7 +125,7 @@ module _ (s : Space) (c : Configuration) where
         at.1,
       )
 
-  -- whether one below a route is live, from the first on that may be below it
+  -- whether a route below a path is live, from the first route on that may be below it
   live_alike : (p : List ℕ) (items : List FirstEnd) (paths : List (List ℕ))
       → map end_view items ≡ map made paths
       → is_live_below p items

@@ -1,5 +1,5 @@
--- What clauses read of what was found: a path with what ends first at its route and what becomes of
--- it, and that the choices that are shown are whole.
+-- How contracts see what was found: a path with the first choice that ends at its route, a path
+-- with the coverage of its route, and that the choices that are shown are whole.
 use Rattle.std.specs.Prelude.{ℕ, List, ⊤, Option, Bool, is_some}
 use Rattle.std.specs.List.{list_any, take_while}
 use Rattle.am_universe.specs.Choice.{IsWhole}
@@ -15,18 +15,19 @@ use Rattle.am_coverage.specs.declared.route_coverage.RouteFound.{RouteFound}
 abbrev pub end_view : FirstEnd → List ℕ × Option (List ℕ)
 end_view end = (end.path, end.choice)
 
--- Some label set ends below a route, as is told by those routes behind it in preorder, up to the
--- first that is not below it.
+-- Some label set ends below a route, by what ends first at the routes after it in preorder, up to
+-- the first route that is not below it.
 abbrev pub is_live_below : List ℕ → List FirstEnd → Bool
 is_live_below path behind =
     list_any (λ end. is_some end.choice)
     (take_while (λ end. leads_through path end.path) behind)
 
--- A route, by its path, with what becomes of it.
+-- A route, by its path, with its coverage.
 abbrev pub found_view : RouteFound → List ℕ × RouteCoverage
 found_view found = (found.path, found.coverage)
 
--- The choice that shows a live route is whole; and that of a live receiver.
+-- The choice that shows that a route is live is whole; and so is the choice that shows that a
+-- receiver is live.
 abbrev pub IsShownRoute : List ℕ → RouteCoverage → Type 0
 IsShownRoute sizes (route_is.Live choice) = IsWhole sizes choice
 IsShownRoute sizes route_is.Entered = ⊤

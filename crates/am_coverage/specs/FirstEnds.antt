@@ -1,11 +1,11 @@
--- First ends: the first label sets that end at routes, and the earliest of some.
+-- First ends: the earliest of the first choices that end at routes.
 use Rattle.std.specs.Prelude.{ℕ, List, [], ◌∷◌, Option, Some, None, if◌then◌else◌}
 use Rattle.am_search.specs.Start.{comes_before}
 
--- The earlier of two choices, in declared order, where each of them may be missing; and the
--- earliest of some.
+-- The earlier of two choices, in declared order, and the earliest of a list. Each choice may be
+-- missing.
 -- Source: own choice.
--- Example: of 0 1, a missing one and 0 0 the earliest is 0 0. Where all are missing there is none.
+-- Example: the earliest of 0 1, a missing choice and 0 0 is 0 0. If all are missing, there is none.
 abbrev pub earlier : Option (List ℕ) → Option (List ℕ) → Option (List ℕ)
 earlier None other = other
 earlier (Some choice) None = Some choice

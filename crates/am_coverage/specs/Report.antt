@@ -12,9 +12,9 @@ use Rattle.am_config.specs.RoutePaths.{paths_of}
 use Rattle.am_search.specs.Start.{comes_before}
 use Rattle.am_coverage.specs.Coverage.{IsDead, IsNeverEntered, IsUnmatched}
 
--- Of all choices of a space this is the first, in declared order, that has a property.
+-- This choice is the first of a space, in declared order, that has a property.
 -- Source: own choice.
--- Example: of the choices 0 0, 0 1 and 1 1, which alone have it, the first is 0 0.
+-- Example: if the choices 0 0, 0 1 and 1 1 have the property, and no others do, the first is 0 0.
 pub record IsFirstChoice (s : Space) (Has : List ℕ → Type 0) (choice : List ℕ) : Type 0 where
   pub possible : IsChoiceOf s choice
   pub has : Has choice
@@ -28,8 +28,9 @@ EndsAt s c path choice = Contains (ends (label_set_of s.labels choice) c) path
 abbrev pub GoesTo : Space → Configuration → ℕ → List ℕ → Type 0
 GoesTo s c receiver choice = Contains (receivers (label_set_of s.labels choice) c) receiver
 
--- The line of a route says what is so over all label sets: the route is live, with the first one
--- that ends there; or it is dead, and entered, where some ends below it, or never entered.
+-- The line of a route says what holds over all label sets: the route is live, and the line shows
+-- the first label set that ends there; or the route is dead, and it is entered if some label set
+-- ends below it, and otherwise never entered.
 -- Source: own choice.
 -- Example: `/ live {team="web"}`, `/0 dead entered` and `/1 dead never-entered` are three lines.
 pub data IsRouteLine (s : Space) (c : Configuration) (path line : List ℕ) : Type 0 where
@@ -41,8 +42,8 @@ pub data IsRouteLine (s : Space) (c : Configuration) (path line : List ℕ) : Ty
   never_entered_route : IsNeverEntered s c path
       → line ≡ path_text path ++ codes " dead never-entered\n" → IsRouteLine s c path line
 
--- The line of a receiver says what is so over all label sets: the receiver is live, with the first
--- one that goes to it; or it is unmatched.
+-- The line of a receiver says what holds over all label sets: the receiver is live, and the line
+-- shows the first label set that goes to it; or the receiver is unmatched.
 -- Source: own choice.
 -- Example: `"dba" live {team="db"}` and `"idle" unmatched` are two lines.
 pub data IsReceiverLine (s : Space) (c : Configuration) (receiver : ℕ) (line : List ℕ) :
@@ -55,8 +56,8 @@ pub data IsReceiverLine (s : Space) (c : Configuration) (receiver : ℕ) (line :
       → IsUnmatched s c receiver
       → line ≡ quoted_text name ++ codes " unmatched\n" → IsReceiverLine s c receiver line
 
--- The report of routes: the line of each, in preorder, and then `# end`; and that of receivers: the
--- line of each, in declared order, and then `# end`.
+-- The report of routes has the line of each route, in preorder, and then `# end`. The report of
+-- receivers has the line of each receiver, in declared order, and then `# end`.
 -- Source: own choice.
 -- Example: the report of routes of a configuration with the top-level route alone has two lines.
 pub record IsRoutesReport (s : Space) (c : Configuration) (report : List ℕ) : Type 0 where

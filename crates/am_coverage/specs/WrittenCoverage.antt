@@ -10,8 +10,8 @@ use Rattle.am_coverage.specs.declared.coverage.RouteCoverage.TheVariants as rout
 use Rattle.am_coverage.specs.declared.coverage.ReceiverCoverage.{ReceiverCoverage}
 use Rattle.am_coverage.specs.declared.coverage.ReceiverCoverage.TheVariants as receiver_is
 
--- What becomes of a route, and of a receiver, in words: a live one with the label set that shows
--- it.
+-- The coverage of a route, and that of a receiver, in words. If it is live, the label set that
+-- shows this follows.
 abbrev pub live_text : List Label → List ℕ → List ℕ
 live_text u choice = codes " live " ++ set_text u choice
 
@@ -24,8 +24,8 @@ abbrev pub receiver_status : List Label → ReceiverCoverage → List ℕ
 receiver_status u (receiver_is.Live choice) = live_text u choice
 receiver_status u receiver_is.Unmatched = codes " unmatched"
 
--- The line of a route: its path, and what becomes of it. And the report of some routes: the line of
--- each, and then `# end`.
+-- The line of a route: its path, and its coverage in words. And the report of some routes: the line
+-- of each, and then `# end`.
 -- Source: own choice.
 -- Example: `/ live {team="web"}`, `/0 dead entered` and `/1 dead never-entered` are three lines.
 abbrev pub route_line : List Label → List ℕ × RouteCoverage → List ℕ
@@ -34,8 +34,8 @@ route_line u found = path_text found.0 ++ (route_status u found.1 ++ codes "\n")
 abbrev pub routes_text : List Label → List (List ℕ × RouteCoverage) → List ℕ
 routes_text u routes = flat_map (route_line u) routes ++ codes "# end\n"
 
--- The line of a receiver: its name in quotes, and what becomes of it. And the report of receivers
--- of these names: the line of each, and then `# end`.
+-- The line of a receiver: its name in quotes, and its coverage in words. And the report of
+-- receivers with these names: the line of each, and then `# end`.
 -- Source: own choice.
 -- Example: `"dba" live {team="db"}` and `"idle" unmatched` are two lines.
 abbrev pub receiver_line : List Label → List ℕ × ReceiverCoverage → List ℕ

@@ -1,5 +1,5 @@
-//! The first label set that ends at each route. There is one search for each route, and what else
-//! there is to say of routes and receivers follows from these.
+//! The first label set that ends at each route. There is one search for each route, and everything
+//! else about routes and receivers follows from these.
 //!
 //! A dead route is entered exactly if a route below it is live. In preorder the routes below it
 //! come right after it. The first label set that goes to a receiver is the earliest of those that

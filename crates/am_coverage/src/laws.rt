@@ -115,8 +115,8 @@ pub fn a_receiver_is_live_from_the_first_end_of_its_routes()
         ≡ earliest (map (first_end s c) (paths_to receiver c.root)) }
 {}
 
-/// If the empty list is impossible, which matches every label set, each route is reported as never
-/// entered, and each receiver as unmatched.
+/// The empty list of matchers matches every label set. If it is impossible, each route is reported
+/// as never entered, and each receiver as unmatched.
 pub fn an_empty_space_reaches_nothing()
     ensures routes { (s : Space) (c : Configuration) (path : List ℕ) → Contains s.impossible []
         → route_coverage s c path ≡ route_is.NeverEntered }

@@ -41,8 +41,8 @@ pub fn receivers_covered(
     Ok(found)
 }
 
-/// The coverage of a receiver, from that by some of its routes and the first choice that ends at
-/// one more.
+/// Returns the coverage of a receiver by some of its routes and one more, from its coverage by
+/// those routes and the first choice that ends at the other one.
 fn with_route(known: ReceiverCoverage, choice: Option<Choice>) -> ReceiverCoverage
     ensures earlier { (first : Option (List ℕ)) → known ≡ live_or_unmatched first
         → result ≡ live_or_unmatched (earlier first choice) }

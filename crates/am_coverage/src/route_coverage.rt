@@ -52,7 +52,8 @@ pub fn routes_covered(
     Ok(found)
 }
 
-/// The coverage of a route, from what ends first there and at each route after it.
+/// Returns the coverage of a route, from the first choice that ends there and the first that ends
+/// at each route after it.
 fn coverage_of(end: &FirstEnd, behind: &[FirstEnd]) -> RouteCoverage
     ensures coverage { result
         ≡ live_or (if is_live_below end.now.path behind.now then route_is.Entered
@@ -70,8 +71,8 @@ fn coverage_of(end: &FirstEnd, behind: &[FirstEnd]) -> RouteCoverage
     }
 }
 
-/// Whether some label set ends below a route, from what ends first at each route after it. The
-/// routes below it come first among these.
+/// Whether some label set ends below a route, from the first choice that ends at each route after
+/// it. The routes below it come first among these.
 fn is_live_below(path: &Path, behind: &[FirstEnd]) -> bool
     ensures below { result ≡ is_live_below path.now behind.now }
 {

@@ -1,4 +1,4 @@
-//! The judges of prefixes, of a list of matchers and of a question, under one name.
+//! The judges of prefixes for a list of matchers and for a question, under one name.
 //!
 //! Everything here is defined elsewhere: [`Cube`] in `am_judged_lists`, [`Plan`] in `am_plans`.
 #![tactic(auto)]

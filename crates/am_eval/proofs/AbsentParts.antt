@@ -1,4 +1,4 @@
--- What a configuration does not have: no alert ends there.
+-- No alert ends at a route that the configuration does not have, or goes to such a receiver.
 use Rattle.std.proofs.Common.{◌≡◌, ◌≤◌, ◌<◌, ℕ, zero, suc, List, [], ◌∷◌, ◌++◌, length}
 use Rattle.std.proofs.Common.{Some, None, true, refl, sym, subst, ◌∙◌, arith}
 use Rattle.std.specs.Prelude.{slice_get, IsTrue, IsFalse, nat_lt}
@@ -16,7 +16,7 @@ use Rattle.am_eval.specs.Question.{Receiver, Route, holds_of}
 use Rattle.am_eval.proofs.EndLaws.{at_routes, exactly, itself}
 use Rattle.am_eval.proofs.SimpleParts.{ends_there, goes_there}
 
--- a route below another is on the way to it
+-- if there is a route at a path, there is one at each prefix of the path
 on_the_way : (path below : List ℕ) (t u : RouteTree) → route_at t (path ++ below) ≡ Some u
     → (v : RouteTree) × (route_at t path ≡ Some v)
 on_the_way [] below t u e = (t, refl)

@@ -1,4 +1,4 @@
--- Inputs that are accepted have no first fault, but for the patterns that the engine may refuse.
+-- Inputs that are accepted have no first fault, except a pattern that the engine may refuse.
 use Rattle.std.proofs.Common.{◌≡◌, ℕ, List, [], ◌∷◌, ◌++◌, length, Option, None, Some}
 use Rattle.std.proofs.Common.{sym, ap, ◌∙◌, inl, inr, arith}
 use Rattle.am_universe.specs.declared.kind.Kind.TheVariants as kinds
@@ -50,7 +50,7 @@ alerts_accepted None alerts r said refused = refused
 alerts_accepted (Some bytes) alerts r said refused =
     says_no_fault alerts_file_laws bytes alerts r said refused
 
--- a file says one space, one configuration, one list of alerts, and one of silences
+-- a file says at most one space, one configuration, one list of alerts, and one list of silences
 pub one_space : (bytes : List ℕ) (s t : Space) → FileSaysUniverse bytes s
     → FileSaysUniverse bytes t → s ≡ t
 one_space = universe_file_laws.exact.one
@@ -73,7 +73,7 @@ silences_once (Some bytes) silences others said again =
 
 -- ---- Worlds.
 
--- the inputs of a world are accepted as one world
+-- files are accepted as at most one world
 pub one_world : (inputs : Files) (w x : World) → AcceptsWorld inputs w
     → AcceptsWorld inputs x → w ≡ x
 one_world inputs w x said again =
@@ -108,14 +108,15 @@ pairs_accepted inputs w r accepts refused =
     ≡ pairs_of w.config.rules w.alerts = λ k. pairs_of (config k).rules (alerts k) in
     omega (arith, ap length same, refused.many, accepts.accepts_files.few_pairs)
 
--- what the first fault of some stages is: one of the first stage, or one of those behind it
+-- the first fault of some stages is a fault of the first stage, or the first fault of the later
+-- ones
 pub by_stage : (P : Type 0) (stage : Stage) (later : List Stage) (place : Place) (r : Refusal)
     → (stage.refuses r → P) → (IsFirstFaultOfCall later place r → P)
     → IsFirstFaultOfCall (stage ∷ later) place r → P
 by_stage P stage later place r here behind (inl refused) = here refused.1
 by_stage P stage later place r here behind (inr first) = behind first.1
 
--- the first fault behind a world that is accepted is that of the later stages, or `pattern`
+-- if a world is accepted, the first fault is that of the later stages, or `pattern`
 pub world_accepted : (P : Type 0) (inputs : Files) (w : World) (later : List Stage)
     (place : Place) (r : Refusal) → AcceptsWorld inputs w → (r.kind ≡ kinds.Pattern → P)
     → (IsFirstFaultOfCall later place r → P)
@@ -138,7 +139,7 @@ world_accepted P inputs w later place r accepts pattern behind = by
         absurd (pairs_accepted inputs w r accepts pairs.1)
     by (inr (_, inr (_, inr (_, inr (_, inr first))))) = behind first.1
 
--- nothing is the first fault of no stage
+-- the first fault of inputs of `explain` that are accepted is `pattern`, if there is one
 pub explained_accepted : (inputs : Files) (words : List (List ℕ)) (w : World) (s : LabelMap)
     (place : Place) (r : Refusal) → AcceptsWorld inputs w → WordsSpellSet words s
     → IsFirstFaultOfCall (explain_stages inputs words) place r → r.kind ≡ kinds.Pattern

@@ -38,7 +38,7 @@ answers_sorted s w question =
     IsStrictlySortedBy-filter (slice_cmp nat_cmp) (satisfies_at s.labels w question) (all_choices s)
     (space_choices_sorted s)
 
--- what two filters keep, one behind the other, passes both tests
+-- two filters, one after the other, keep what passes both tests
 twice_step : {X : Type 0} (first second : X → Bool) (x : X) (kept both : List X) (a b : Bool)
     → first x ≡ a → second x ≡ b → filter second kept ≡ both
     → filter second (cond a (x ∷ kept) kept) ≡ cond (second x && first x) (x ∷ both) both
@@ -54,7 +54,7 @@ filter_twice first second (x ∷ xs) =
     twice_step first second x (filter first xs) (filter (λ y. second y && first y) xs) (first x)
     (second x) refl refl (filter_twice first second xs)
 
--- they are the whole choices of the labels of which it is true to be an answer
+-- the answers are the whole choices of the labels that pass the test `is_answer`
 pub answers_of_all : (s : Space) (w : World) (question : Question)
     → answers s w question ≡ filter (is_answer s w question) (choices (sizes s.labels))
 answers_of_all s w question =

@@ -1,4 +1,4 @@
--- The ends at the children of a route, one child after the other.
+-- The ends at and below the children of a route, one child after the other.
 use Rattle.std.proofs.Common.{◌≡◌, ℕ, ◌+◌, List, [], ◌∷◌, ◌++◌, map, refl, sym, ap, ◌∙◌}
 use Rattle.std.proofs.Common.{append_assoc, true, false}
 use Rattle.std.proofs.lemmas.List.{append-nil, map-append}
@@ -8,7 +8,7 @@ use Rattle.am_config.specs.ConfigFile.{RouteTree, routes_of, matchers_of, contin
 use Rattle.am_config.proofs.RouteLists.{paths_below}
 use Rattle.am_eval.specs.Routing.{ends_at, children_seen, ends_tried, is_last}
 
--- the ends at the children from a position on
+-- the ends at and below the children from a position on
 abbrev pub ends_from : LabelMap → ℕ → List RouteTree → List (List ℕ)
 ends_from s i ts = ends_tried (children_seen s i (routes_of ts))
 
@@ -33,7 +33,7 @@ stops : (s : LabelMap) (i : ℕ) (t : RouteTree) (ts : List RouteTree) → is_la
     → ends_from s i (t ∷ ts) ≡ map (λ below. i ∷ below) (ends_at s t)
 stops s i t ts e = rw e (append-nil (map (λ below. i ∷ below) (ends_at s t)))
 
--- the ends so far and those of one child more
+-- the ends so far, and those of one more child
 pub one_more : (s : LabelMap) (path child : List ℕ) (i : ℕ) (t : RouteTree)
     (left more : List RouteTree) (found next whole : List (List ℕ)) → left ≡ t ∷ more
     → child ≡ path ++ i ∷ []

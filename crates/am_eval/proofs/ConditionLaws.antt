@@ -1,5 +1,6 @@
--- A simple part of a question is true exactly where its condition is; and a property is one where
--- what hides an alert is.
+-- A simple part of a question is true exactly if its condition is. And two alerts, each in a world,
+-- have the same properties if both are silenced or neither is, and both are inhibited or neither
+-- is.
 use Rattle.std.proofs.Common.{◌≡◌, Bool, true, false, ◌&&◌, ◌||◌, refl}
 use Rattle.am_universe.specs.LabelSet.{LabelMap}
 use Rattle.am_labels.specs.Matcher.{all_hold}

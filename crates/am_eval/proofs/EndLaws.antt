@@ -43,7 +43,7 @@ goes_on_from path end e =
 
 -- ---- The laws.
 
--- the route to which the way down leads matches
+-- an alert matches each route at which it ends
 route_matches : (s : LabelMap) (t : RouteTree) (path : List ℕ) → EndsThere s t path
     → (u : RouteTree) × (route_at t path ≡ Some u) × IsTrue (all_hold s (matchers_of u))
 route_matches s t [] h = (t, refl, h.0)

@@ -1,4 +1,4 @@
--- Where the first fault of some stages stands among more of them.
+-- The first fault of some stages, if more stages come before or after them.
 use Rattle.std.proofs.Common.{◌≡◌, List, [], ◌∷◌, ◌++◌, inl, inr, Result, Ok, Err, IfErr}
 use Rattle.std.proofs.Common.{sym, subst}
 use Rattle.std.specs.Result.{IsErrAnd}
@@ -13,7 +13,7 @@ use Rattle.am_eval.specs.Faults.{Stage, IsFirstFaultOfCall, SaysFewPairs, instan
 use Rattle.am_eval.specs.Files.{Files, config_of, SaysSilencesIfAny, SaysAlertsIfAny}
 use Rattle.am_eval.specs.AcceptedWorld.{AcceptsFiles, AcceptsWorld, file_stages, pair_stages, timeless_stages, world_stages}
 
--- further stages behind change nothing
+-- more stages after them change nothing
 pub first_of_more : (stages later : List Stage) (place : Place) (r : Refusal)
     → IsFirstFaultOfCall stages place r → IsFirstFaultOfCall (stages ++ later) place r
 first_of_more [] later place r h = absurd h
@@ -32,7 +32,7 @@ says_few files world accepts = record {
   few = accepts.few_pairs;
 }
 
--- behind files that say something the first fault is that of the later stages
+-- if the files say something, the first fault is that of the later stages
 pub behind_read : (files : Files) (configuration : Configuration) (silences : List Silence)
     (alerts : List LabelMap) (later : List Stage) (place : Place) (r : Refusal)
     → FileSaysConfig (config_of files.config) configuration
@@ -41,7 +41,7 @@ pub behind_read : (files : Files) (configuration : Configuration) (silences : Li
 behind_read files configuration silences alerts later place r config hidden firing behind =
     inr ((configuration, config), inr ((silences, hidden), inr ((alerts, firing), behind)))
 
--- and so it is where they are accepted
+-- and also if the files are accepted
 behind_files : (files : Files) (world : World) (later : List Stage) (place : Place) (r : Refusal)
     → AcceptsFiles files world → IsFirstFaultOfCall later place r
     → IsFirstFaultOfCall (file_stages files ++ later) place r
@@ -64,13 +64,13 @@ first_behind_world files world later place r accepts behind =
     place r accepts.accepts_files
     (inr (accepts.has_instant, inr (says_few files world accepts.accepts_files, behind)))
 
--- what holds of a fault holds of what a `?` makes of it
+-- what holds of a fault holds of the fault that `?` makes of it
 pub handed_on : {T : Type 0} (P : Fault → Type 0) (fault : Fault) (result : Result T Fault)
     → IsErrAnd result (λ f. f ≡ fault) → P fault → IfErr result P
 handed_on P fault (Ok x) h holds = tt
 handed_on P fault (Err f) h holds = subst P (sym h) holds
 
--- what holds of each fault of one kind holds of what is answered, and so what follows from it
+-- if `Q` follows from `P` for each fault, it follows for the fault of a result
 pub if_failed : {T : Type 0} (P Q : Fault → Type 0) (result : Result T Fault)
     → ((fault : Fault) → P fault → Q fault) → IfErr result P → IfErr result Q
 if_failed P Q (Ok x) f h = tt

@@ -1,5 +1,5 @@
--- An alert ends at a path exactly where it matches each route on the way, no sibling before one of
--- them stops it, and the last has no child that it matches. And its ends are in order.
+-- An alert ends at a path exactly if it matches each route on the way, no sibling before one of
+-- them stops it, and it matches no child of the last. And its ends are in order.
 use Rattle.std.proofs.Common.{◌≡◌, ◌≢◌, ◌↔◌, ◌⊎◌, inl, inr, ℕ, zero, suc, ◌+◌, List, [], ◌∷◌, ◌++◌}
 use Rattle.std.proofs.Common.{map, Some, Bool, true, false, cond, refl, sym, ap, subst, ◌∙◌, arith}
 use Rattle.std.proofs.Common.{take, Contains, ◌<◌}
@@ -27,7 +27,7 @@ use Rattle.am_eval.proofs.ChildEnds.{is_last-unmatched}
 abbrev NoneStops : LabelMap → List RouteTree → Type 0
 NoneStops s ts = AllByRecursion (λ t. IsFalse (is_last s t)) ts
 
--- an end below a child that is tried
+-- a path of an end at or below a child that is tried
 abbrev IsTriedBelow : LabelMap → ℕ → Routes → List ℕ → Type 0
 IsTriedBelow s i ts path =
     (k : ℕ) × (t : RouteTree) × (rest : List ℕ) × (slice_get (list_of ts) k ≡ Some t)
@@ -46,7 +46,7 @@ here s i t ts path h =
     let at : i ≡ i + 0 = omega arith in
     (0, t, r.0, refl, sym r.2 ∙ ap (λ k. k ∷ r.0) at, tt, r.1)
 
--- behind a route that stops the alert none is tried
+-- after a route that stops the alert, no route is tried
 not_stopped : (b : Bool) (cs : List Child) (path : List ℕ)
     → IsIn (flat_map (λ c. c.ends) (cond b [] cs)) path
     → (b ≡ false) × IsIn (flat_map (λ c. c.ends) cs) path
@@ -66,7 +66,7 @@ is_tried s i (next_route t ts) path h =
           behind s i t ts path more.0 (is_tried s (i + 1) ts path more.1)
     ]
 
--- and an end below a child is one of all, where none before it stops the alert
+-- and an end at or below a child is among all ends, if no route before the child stops the alert
 is_found : (s : LabelMap) (i k : ℕ) (ts : Routes) (t : RouteTree) (rest : List ℕ)
     → slice_get (list_of ts) k ≡ Some t → NoneStops s (take k (list_of ts))
     → IsIn (ends_at s t) rest → IsIn (ends_tried (children_seen s i ts)) ((i + k) ∷ rest)
@@ -232,7 +232,7 @@ ends_exactly s t path = (
 abbrev Ascend : List (List ℕ) → Type 0
 Ascend paths = IsStrictlySortedBy (slice_cmp nat_cmp) paths
 
--- paths below a position, and behind them paths below later ones, ascend where both do
+-- paths below a position, followed by paths below later positions, ascend if both lists do
 pub below_ascend : (i : ℕ) (first later : List (List ℕ)) → Ascend first → Ascend later
     → ((path : List ℕ) → IsIn later path
     → (k : ℕ) × (rest : List ℕ) × (path ≡ ((i + 1) + k) ∷ rest))

@@ -1,4 +1,5 @@
--- An alert is silenced, and it is inhibited, exactly where the ways of it say so.
+-- An alert is silenced exactly if some way to be silenced holds, and inhibited exactly if some way
+-- to be inhibited does.
 use Rattle.std.proofs.Common.{◌≡◌, List, ℕ, [], ◌∷◌, ◌++◌, map, Bool, true, false, cond, not, ◌&&◌}
 use Rattle.std.proofs.Common.{◌||◌, refl, sym, ap, ◌∙◌, inl, inr}
 use Rattle.std.specs.List.{filter, list_all, list_any}
@@ -21,7 +22,7 @@ use Rattle.am_eval.proofs.SomeWay.{some_way-joined}
 same_text-turned : (a b : List ℕ) → same_text a b ≡ same_text b a
 same_text-turned a b = texts_ties a b ∙ flips a b
 
--- matchers that ask for the values of a firing alert say that both have the same
+-- matchers that ask for the values of a firing alert say that both alerts have the same values
 pub same_values : (firing s : LabelMap) (names : List (List ℕ))
     → all_hold s (map (same_value firing) names) ≡ have_equal names firing s
 same_values firing s names =
@@ -32,14 +33,14 @@ and_nothing : (b : Bool) → (b && true) ≡ b
 and_nothing true = refl
 and_nothing false = refl
 
--- where the target side matches the firing alert too, the source side is not to match the other
+-- if the target side matches the firing alert too, the source side must not match the other
 not_both_sides : (s : LabelMap) (source : List Condition) (both : Bool)
     → list_all (literal_holds s) (cond both (not_matching source ∷ []) [])
     ≡ not (both && all_hold s source)
 not_both_sides s source true = and_nothing (not (all_hold s source))
 not_both_sides s source false = refl
 
--- the tests of a rule in the order of its definition, and in that of its way
+-- the tests of a rule in the order of its definition, and in the order of its way
 in_order : (fires both matched other equal : Bool)
     → (fires && matched && equal && not ((fires && both) && (other && matched)))
     ≡ (fires && ((matched && equal) && not (both && other)))

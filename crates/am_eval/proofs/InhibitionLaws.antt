@@ -80,7 +80,7 @@ is_inhibitor w s pair there passes =
     subst (λ (found : List (ℕ × ℕ)). IsIn found (position pair)) (sym (inhibitors_of_pairs w s))
     (IsIn-map position (by_pairs w s) pair kept)
 
--- what is among them is that of a pair
+-- each inhibitor is made of a pair
 of_pair : (w : World) (s : LabelMap) (found : ℕ × ℕ) → IsIn (inhibitors w s) found
     → (pair : Pair) × (position pair ≡ found) × IsIn (all_pairs w) pair
     × IsTrue (pair_inhibits w s pair)
@@ -128,7 +128,7 @@ some w s =
           (some_inhibits w s).1 (h.0, h.1, rule, firing, h.4),
     )
 
--- what inhibits is in the order of the positions
+-- inhibitors are in the order of their positions
 abbrev listed : ℕ × ℕ → List ℕ
 listed found = found.0 ∷ found.1 ∷ []
 

@@ -1,5 +1,5 @@
--- What inhibits by a rule and a firing alert inhibits by the pair of them, so the pairs of a world are
--- enough to look at.
+-- A rule and a firing alert inhibit an alert exactly if the pair of them does, so the pairs of a
+-- world are enough to look at.
 use Rattle.std.proofs.Common.{◌≡◌, inl, inr, ℕ, ◌+◌, ◌<◌, List, [], ◌∷◌, Some, Bool}
 use Rattle.std.proofs.Common.{true, false, length, get_or, cond, Contains, map, refl, sym, ap, ◌∙◌}
 use Rattle.std.specs.Prelude.{slice_get, IsTrue}
@@ -70,7 +70,7 @@ alert_within w alerts pair h e =
     let p = is_pair w.config.rules w.alerts pair (IsIn-from_Contains (all_pairs w) pair h) in
     rw e (slice_get_within w.alerts pair.alert p.1 p.3)
 
--- what they say of each other, and of what the pair inhibits
+-- what is known of a rule and a firing alert that are read by the positions of a pair
 abbrev pub IsRead : World → Pair → Rule → LabelMap → Type 0
 IsRead w pair rule firing =
     IsTrue (all_hold firing rule.source) × (pair.both ≡ all_hold firing rule.target)
@@ -92,7 +92,7 @@ read_pair w rules alerts pair rule firing h e f at_rule at_alert =
 
 -- ---- The inhibitors are those of the pairs.
 
--- a number and its pair are both kept, or both are not
+-- a position and its pair are both kept, or neither is
 one_kept : {X Y Z : Type 0} (source muted : Bool) (test : Y → Bool) (f : ℕ → Z) (g : Y → Z)
     (h : X → Y) (i : ℕ) (x : X) (is : List ℕ) (xs : List X)
     → map f is ≡ map g (filter test (map h xs)) → f i ≡ g (h x) → test (h x) ≡ muted

@@ -6,7 +6,7 @@ use Rattle.std.proofs.lemmas.Bool.{and_parts, and_from}
 use Rattle.std.proofs.lemmas.List.Folds.{Any-from_list_any, list_any-from_Any}
 use Rattle.am_universe.proofs.ListLemmas.{IsIn}
 
--- all items pass a test where each is as the test says
+-- all items pass a test exactly if `P` holds of all, where the test decides `P`
 pub all_exactly : {X : Type 0} (test : X → Bool) (P : X → Type 0)
     → ((x : X) → IsTrue (test x) ↔ P x) → (xs : List X)
     → IsTrue (list_all test xs) ↔ AllByRecursion P xs
@@ -19,7 +19,7 @@ all_exactly test P each (x ∷ xs) =
       λ h. and_from (test x) (list_all test xs) ((each x).1 h.0) (later.1 h.1),
     )
 
--- one that passes, where some do
+-- an item that passes, if some item does
 pub some_passes : {X : Type 0} (test : X → Bool) (xs : List X) → IsTrue (list_any test xs)
     → (x : X) × Contains xs x × IsTrue (test x)
 some_passes test xs h =

@@ -1,4 +1,4 @@
--- Words are those of one label set, and inputs that are accepted explain it in one way.
+-- Words spell at most one label set, and inputs that are accepted explain it in one way.
 use Rattle.std.proofs.Common.{◌≡◌, ℕ, List, ap, sym, ◌∙◌}
 use Rattle.am_universe.specs.LabelSet.{LabelMap}
 use Rattle.am_labels.specs.ParsedLabelSet.{WordsSpellSet, set_of_list}
@@ -18,7 +18,7 @@ one_set words s t spelled again =
     ∙ ap set_of_list (one_list_of_words words spelled.list again.list spelled.spelled again.spelled)
     ∙ sym again.set_is
 
--- what a label set is explained by in a world
+-- the text that explains a label set in a world
 abbrev explained_in : World → LabelMap → List ℕ
 explained_in w s = explanation_text w.config s (ends s w.config) (silencers w s) (inhibitors w s)
 

@@ -1,4 +1,4 @@
--- The ways by which firing alerts inhibit are those of the pairs of a world, in their order.
+-- The ways in which firing alerts inhibit are the ways of the pairs of a world, in the same order.
 use Rattle.std.proofs.Common.{◌≡◌, inl, inr, ℕ, ◌+◌, List, [], ◌∷◌, ◌++◌, Some, map}
 use Rattle.std.proofs.Common.{refl, ◌∙◌}
 use Rattle.std.specs.Prelude.{slice_get}
@@ -36,7 +36,7 @@ by_rule rules alerts rule at_rule from (a ∷ left) each =
       | inr quiet ↦ rw (quiet, later) refl
     ]
 
--- items that are numbered, and what is joined of them and of the items alone
+-- joining what numbered items give is joining what the items alone give
 joined : {X Y Z : Type 0} (f : X → List Z) (g : Y → Z) (h : ℕ × X → List Y) (from : ℕ) (xs : List X)
     → ((p : ℕ × X) → IsIn (enumerate_from from xs) p → map g (h p) ≡ f p.1)
     → map g (flat_map h (enumerate_from from xs)) ≡ flat_map f xs

@@ -84,7 +84,7 @@ numbers_ascend from (x ∷ xs) = (
   numbers_ascend (from + 1) xs,
 )
 
--- lists of numbered items, joined end to end, ascend where each does, and each is below the later
+-- lists of numbered items, joined end to end, ascend if each list does and is below the later ones
 joined_ascend : {X Y : Type 0} (R : Y → Y → Ordering) (f : ℕ × X → List Y)
     → ((p : ℕ × X) → IsStrictlySortedBy R (f p))
     → ((p q : ℕ × X) (a b : Y) → p.0 < q.0 → IsIn (f p) a → IsIn (f q) b → R a b ≡ Less)

@@ -1,5 +1,5 @@
--- The steps of the loops that collect pairs: what is left is what stands at a position, and what is
--- behind it.
+-- The steps of the loops that collect pairs: what is left is the item at a position and the items
+-- after it.
 use Rattle.std.proofs.Common.{◌≡◌, ℕ, ◌+◌, ◌<◌, true, false, List, [], ◌∷◌, ◌++◌, Some, map}
 use Rattle.std.proofs.Common.{length, drop, ap, ◌∙◌, refl, append_assoc, arith}
 use Rattle.std.specs.Prelude.{slice_get}
@@ -33,7 +33,7 @@ one_pair rule found alerts i pair {a = a} here passes says =
     rw (left_at alerts i a here, passes, ← says)
     (append_assoc found (pair ∷ []) (pairs_from rule (i + 1) alerts))
 
--- what the sides of a rule say is said of the rule
+-- a pair made by the sides of a rule is a pair of the rule
 pub pair_of_sides : (rule : ℕ × Rule) (i : ℕ) (a : LabelMap) (pair : Pair) {position : ℕ}
     {target : List Condition} → position ≡ rule.0 → target ≡ rule.1.target
     → pair ≡ record { rule = position; alert = i; both = all_hold a target }
@@ -41,7 +41,7 @@ pub pair_of_sides : (rule : ℕ × Rule) (i : ℕ) (a : LabelMap) (pair : Pair) 
 pair_of_sides rule i a pair e f says =
     says ∙ (λ k. record { rule = e k; alert = i; both = all_hold a (f k) })
 
--- where there are as many as there may be, another is one too many
+-- if there are as many pairs as there may be, one more is too many
 pub one_too_many : (rule : ℕ × Rule) (found all : List Pair) (alerts : List LabelMap) (i n : ℕ)
     {a : LabelMap} → slice_get alerts i ≡ Some a → all_hold a rule.1.source ≡ true
     → length found ≡ n → found ++ pairs_from rule i alerts ≡ all → n < length all

@@ -73,7 +73,7 @@ module _ {A S : Type 0} (promise : Promise A) {taken : S → List ℕ} {failures
     write = λ writing. let both : kinds.Write ≡ kinds.Memory = sym writing ∙ memory in cc;
   }
 
-  -- a text was written that may be
+  -- a text that may be written was written, whole or in part
   pub written : {old new : S} (answer : A) (text : List ℕ) (wrote : Result A Kind)
       (result : Result A Fault) → promise.May answer text → IfOk wrote (λ a. a ≡ answer)
       → Writes taken failures old new text wrote → IsAnswerOfWrite wrote result
@@ -97,13 +97,13 @@ module _ {A S : Type 0} (promise : Promise A) {taken : S → List ℕ} {failures
     write = λ writing. (answer, (text, may, writes.err.1));
   }
 
--- a call that answers nothing else answers that
+-- a call whose answer says nothing answers `tt`
 pub nothing_told : (wrote : Result ⊤ Kind) → IfOk wrote (λ a. a ≡ tt)
 nothing_told (Ok a) = refl
 nothing_told (Err kind) = tt
 
--- a call kept what another promise asks, where each text of the one is one of the other, and no
--- stage was left
+-- a call that keeps a promise without stages keeps another promise, if each text that the first
+-- permits is permitted by the other
 pub kept_as : {A S : Type 0} (p q : Promise A) {taken : S → List ℕ} {failures : S → ℕ}
     {old new : S} (result : Result A Fault) → p.stages ≡ []
     → ((answer : A) (text : List ℕ) → p.May answer text → q.May answer text)
@@ -125,13 +125,13 @@ kept_as p q (Err fault) none may kept = record {
       (told.0, (told.1.0, may told.0 told.1.0 told.1.1, told.1.2));
 }
 
--- and one that answers something answers that under another name
+-- if two answers are the same, a call with one has the other
 pub told_as : {A : Type 0} (wrote : Result A Kind) {told answer : A} → told ≡ answer
     → IfOk wrote (λ a. a ≡ told) → IfOk wrote (λ a. a ≡ answer)
 told_as (Ok a) same is = is ∙ same
 told_as (Err kind) same is = tt
 
--- a call that keeps a promise keeps it for a caller that is told no answer
+-- a call that keeps a promise keeps it for a caller that does not see the answer
 pub any_done : {A S : Type 0} (promise : Promise A) {taken : S → List ℕ} {failures : S → ℕ}
     {old new : S} (answer : A) → IsKept promise taken failures old new (Ok answer)
     → IsKept (any_answer promise) taken failures old new (Ok tt)

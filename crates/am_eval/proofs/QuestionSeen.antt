@@ -1,4 +1,4 @@
--- What each simple question is seen as.
+-- What each question of one simple part is seen as.
 use Rattle.std.proofs.Common.{◌≡◌, ℕ, List, ap, sym, ◌∙◌}
 use Rattle.am_labels.specs.Matcher.{Condition}
 use Rattle.am_eval.specs.declared.property.Property.{Property}

@@ -1,4 +1,5 @@
--- An alert ends at a route, enters it, or goes to a receiver, exactly where the ways there say so.
+-- An alert ends at a route, enters it, or goes to a receiver, exactly if one of the ways there
+-- holds.
 use Rattle.std.proofs.Common.{◌≡◌, ◌↔◌, ℕ, List, [], ◌∷◌, ◌++◌, map, take, Bool, true, false}
 use Rattle.std.proofs.Common.{◌&&◌, ◌||◌, not, cond, Option, Some, None, refl, sym, ap, subst}
 use Rattle.std.proofs.Common.{◌∙◌}
@@ -31,7 +32,7 @@ use Rattle.am_eval.proofs.SimpleParts.{goes_there, ends_there, end_from_test, te
 use Rattle.am_eval.proofs.RoutePathLaws.{is_path}
 use Rattle.am_eval.proofs.SomeWay.{some_way-literal, some_way-front, some_way-joined}
 
--- two tests are the same where each says what the other says
+-- two tests that decide the same are the same
 pub same_test : {P : Type 0} (a b : Bool) → (IsTrue a ↔ P) → (IsTrue b ↔ P) → a ≡ b
 same_test true true h g = refl
 same_test true false h g = sym (g.1 (h.0 refl))
@@ -50,7 +51,7 @@ none_passes test xs says same =
     let none = all_exactly (λ x. not (test x)) _ (λ x. (not-true (test x), λ e. ap not e)) xs in
     (λ h. same ∙ none.1 h, λ h. none.0 (sym same ∙ h))
 
--- one that continues is not asked for, and does not stop an alert
+-- a sibling that continues gives no literal, and does not stop an alert
 one_kept : {X : Type 0} (holds : Literal → Bool) (f : X → Literal) (matches continues : Bool)
     (x : X) (xs : List X) → holds (f x) ≡ not matches
     → list_all holds (map f (cond (not continues) (x ∷ xs) xs))
@@ -87,7 +88,7 @@ abbrev GoesDown : LabelMap → Reach → RouteTree → List ℕ → Type 0
 GoesDown s reach t path =
     IsTrue (some_way_holds (literal_holds s) (ways_into (λ u. ways_below reach u path) (Some t)))
 
--- no further: what is asked of the last route
+-- the path is empty: what is asked at the last route
 or_nothing : (b : Bool) → (b || false) ≡ b
 or_nothing true = refl
 or_nothing false = refl
@@ -104,7 +105,7 @@ there s reach t =
       λ h. all ∙ and_from matched (list_all holds (asked_at reach t)) h.0 h.1,
     )
 
--- and a step further
+-- the path is not empty: a step down to a child
 some_route : (s : LabelMap) (further : RouteTree → List (List Literal)) (o : Option RouteTree)
     → IsTrue (some_way_holds (literal_holds s) (ways_into further o))
     → (t : RouteTree) × (o ≡ Some t)
@@ -156,7 +157,7 @@ matched_at_end : (s : LabelMap) (t : RouteTree) (path : List ℕ) → EndsThere 
 matched_at_end s t [] h = h.0
 matched_at_end s t (p ∷ path) h = h.0
 
--- an alert reaches a route where it ends at it, or also below it
+-- an alert reaches a route if it ends at it or, to enter it, if it ends below it
 abbrev MayBeBelow : Reach → List ℕ → Type 0
 MayBeBelow Ends below = below ≡ []
 MayBeBelow Enters below = Unit {0}
@@ -220,7 +221,7 @@ receiver_there : (receiver : ℕ) (o : Option RouteTree) → IsTrue (is_receiver
 receiver_there receiver None h = absurd (cc)
 receiver_there receiver (Some t) h = (t, refl, eqb-true (receiver_of t) receiver h)
 
--- an alert goes to a receiver where it ends at one of the routes that have it
+-- an alert goes to a receiver exactly if it ends at one of the routes that have it
 pub goes_by_ends : (s : LabelMap) (c : Configuration) (receiver : ℕ)
     → list_any (λ other. other == receiver) (receivers s c)
     ≡ list_any (λ path. list_any (λ end. same_text end path) (ends s c)) (paths_to receiver c.root)

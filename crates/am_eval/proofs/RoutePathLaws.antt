@@ -1,4 +1,4 @@
--- The paths of all routes are those that lead to a route.
+-- The paths of all routes are exactly the paths that lead to a route.
 use Rattle.std.proofs.Common.{◌≡◌, ◌≢◌, ◌↔◌, ℕ, zero, suc, ◌+◌, List, [], ◌∷◌, map}
 use Rattle.std.proofs.Common.{Option, Some, None, refl, sym, ap, subst, ◌∙◌, inl, inr, arith}
 use Rattle.std.proofs.Common.{Contains}
@@ -42,7 +42,7 @@ is_below i (next_route t ts) path h =
       | inr b ↦ behind i t ts path (is_below (i + 1) ts path b)
     ]
 
--- and a path that goes down to one of them is one of all
+-- and a path that goes down to one of them is among all paths
 below_is : (i k : ℕ) (ts : Routes) (t : RouteTree) (rest : List ℕ)
     → slice_get (list_of ts) k ≡ Some t → IsIn (paths_at t) rest
     → IsIn (paths_from i ts) ((i + k) ∷ rest)

@@ -1,5 +1,5 @@
--- Words, as a list of matchers and as a label set, are read or refused, never both, and refused with
--- one kind; but for the patterns that the engine may refuse.
+-- Words that are read, as a list of matchers or as a label set, are not refused, and words are
+-- refused with at most one kind. The exceptions are patterns that the engine may refuse.
 use Rattle.std.proofs.Common.{◌≡◌, ◌≢◌, ◌≤◌, ℕ, List, [], ◌∷◌, ◌++◌, length, Bool, true, false}
 use Rattle.std.proofs.Common.{refl, sym, ap, subst, ◌∙◌, inl, inr, arith}
 use Rattle.std.specs.Prelude.{IsTrue, not, ◌&&◌, ◌||◌, if◌then◌else◌}
@@ -30,7 +30,7 @@ refusal_is : (inside : Bool) (kind : Kind)
 refusal_is true kind e other = absurd (other e)
 refusal_is false kind e other = e
 
--- a valid pattern is refused by the engine alone
+-- only the engine may refuse a valid pattern
 valid_is_inside : (takes inside reads : Bool) → takes ≡ true
     → (not takes || inside && reads) ≡ true → inside ≡ true
 valid_is_inside true true reads e valid = refl
@@ -44,7 +44,7 @@ valid_value m kind valid refused =
     (in_profile m.value) (is_pattern m.value) refused.pattern valid in
     refused.kind_is ∙ ap (λ b. if b then kinds.Pattern else kinds.PatternProfile) inside
 
--- where all pass a test, one of them does
+-- if all items pass a test, each of them does
 passes_at : {X : Type 0} (test : X → Bool) (before : List X) (x : X) (after : List X)
     → list_all test (before ++ x ∷ after) ≡ true → test x ≡ true
 passes_at test [] x after all = (and_parts (test x) (list_all test after) all).0
@@ -71,7 +71,7 @@ list_within : (ms : List Condition) (kind : Kind) → length ms ≤ MAX_MATCHERS
 list_within ms kind few valid (inl many) = absurd (omega (arith, few, many.0))
 list_within ms kind few valid (inr patterns) = valid_list ms kind valid patterns.1
 
--- words that are read are refused at most for a pattern
+-- words that are read are refused only for a pattern
 pub words_accepted : (words : List (List ℕ)) (ms : List Condition) (kind : Kind) → WordsSpell words ms
     → length ms ≤ MAX_MATCHERS → IsTrue (have_valid_patterns ms) → WordsRefusedFor words kind
     → kind ≡ kinds.Pattern
@@ -89,7 +89,7 @@ list_kind ms kind other (inr patterns) (inl many) h k = absurd (omega (arith, ma
 list_kind ms kind other (inr patterns) (inr again) h k =
     profile_kind ms kind patterns.1 h ∙ sym (profile_kind ms other again.1 k)
 
--- words are refused with one kind
+-- words are refused with at most one kind
 pub words_kind : (words : List (List ℕ)) (kind other : Kind) → WordsRefusedFor words kind
     → WordsRefusedFor words other → kind ≢ kinds.Pattern → other ≢ kinds.Pattern → kind ≡ other
 words_kind words kind other (inl none) (inl nothing) h k = none.0 ∙ sym nothing.0
@@ -121,7 +121,7 @@ set_list_refused : (ms : List Condition) (kind : Kind) → are_equalities ms ≡
 set_list_refused ms kind e distinct (inl other) = false≢true (sym other.0 ∙ e)
 set_list_refused ms kind e distinct (inr twice) = false≢true (sym distinct ∙ twice.1)
 
--- the words of a label set are not refused
+-- words that spell a label set are not refused as one
 pub set_accepted : (words : List (List ℕ)) (set : LabelMap) (kind : Kind) → WordsSpellSet words set
     → SetWordsRefusedFor words kind → ⊥
 set_accepted words set kind set_text (inl (inl none)) = none.1 set_text.list set_text.spelled
@@ -141,7 +141,7 @@ set_list_kind ms kind other (inl one) (inr twice) = absurd (false≢true (sym on
 set_list_kind ms kind other (inr twice) (inl one) = absurd (false≢true (sym one.0 ∙ twice.0))
 set_list_kind ms kind other (inr twice) (inr also) = twice.2 ∙ sym also.2
 
--- and are refused with one kind
+-- words are refused as a label set with at most one kind
 pub set_kind : (words : List (List ℕ)) (kind other : Kind) → SetWordsRefusedFor words kind
     → SetWordsRefusedFor words other → kind ≢ kinds.Pattern → other ≢ kinds.Pattern → kind ≡ other
 set_kind words kind other (inl refused) (inl again) h k = words_kind words kind other refused again h k

@@ -1,4 +1,4 @@
--- A child is tried exactly where each sibling before it that matches continues.
+-- A child is tried exactly if each earlier sibling that matches has `continue`.
 use Rattle.std.proofs.Common.{◌≡◌, ◌↔◌, ℕ, List, [], ◌∷◌, Bool, true, false, Some, take, Contains}
 use Rattle.std.proofs.Common.{refl}
 use Rattle.std.specs.Prelude.{slice_get, IsTrue, IsFalse, not, ◌&&◌}
@@ -22,7 +22,7 @@ is_not_last true true h = refl
 is_not_last true false h = let no : false ≡ true = h refl in absurd (cc)
 is_not_last false continues h = refl
 
--- where the route matches, it continues
+-- if the route matches, it has `continue`
 abbrev ContinuesIfMatched : LabelMap → RouteTree → Type 0
 ContinuesIfMatched s t = IsTrue (all_hold s (matchers_of t)) → IsTrue (continues_of t)
 

@@ -35,7 +35,7 @@ use Rattle.am_eval.proofs.SimpleParts.{braces_hold}
 
 -- ---- Silencers.
 
--- the positions of what passes are the numbers of those that do
+-- the positions of the items that pass are the numbers of the numbered items that pass
 positions_are : {X : Type 0} (test : X → Bool) (from : ℕ) (xs : List X)
     → positions_where test from xs
     ≡ map (λ p. p.0) (filter (λ p. test p.1) (enumerate_from from xs))
@@ -116,7 +116,7 @@ none_active instant (silence ∷ silences) e =
 pub no_instant : (w : World) (s : LabelMap) → w.instant ≡ None → IsFalse (is_silenced w s)
 no_instant w s e = inactive w s (none_active w.instant w.silences e)
 
--- a silence that neither begins nor ends is active at both or at neither
+-- a silence that neither begins nor ends is active at both instants or at neither
 steady_active : (from to : ℤ) (silence : Silence) → from ≤ℤ to → IsSteady from to silence
     → is_active (Some from) silence ≡ is_active (Some to) silence
 steady_active from to silence later steady =

@@ -1,4 +1,5 @@
--- What makes a question true: its parts, where it is joined, and what a simple part asks for.
+-- What makes a question true: a joined question depends on its parts, and a simple part on what it
+-- asks for.
 use Rattle.std.proofs.Common.{◌≡◌, ◌↔◌, ℕ, List, [], ◌∷◌, Bool, true, false, Contains}
 use Rattle.std.proofs.Common.{Option, Some, None, refl, sym, ap, subst, ◌∙◌, ◌⊎◌, inl, inr}
 use Rattle.std.specs.Prelude.{IsTrue, option_map, ◌==◌, not, ◌||◌}

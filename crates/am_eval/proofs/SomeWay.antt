@@ -1,4 +1,5 @@
--- Ors of ands, for any truth of literals: joined, and with more literals in each and.
+-- Lists of ways, whatever test decides the literals: several lists joined, and ways with the same
+-- literals added in front.
 use Rattle.std.proofs.Common.{◌≡◌, List, [], ◌∷◌, ◌++◌, map, Bool, true, false, ◌&&◌, ◌||◌}
 use Rattle.std.proofs.Common.{refl, ap, ◌∙◌}
 use Rattle.std.specs.List.{flat_map, list_all, list_any}
@@ -18,7 +19,7 @@ some_way-joined holds f (x ∷ xs) =
     some_way-append holds (f x) (flat_map f xs)
     ∙ ap (λ b. some_way_holds holds (f x) || b) (some_way-joined holds f xs)
 
--- the same in front of each and
+-- what is in front of each way may be tested once
 shared : (a b rest : Bool) → ((a && b) || (a && rest)) ≡ (a && (b || rest))
 shared true b rest = refl
 shared false b rest = refl

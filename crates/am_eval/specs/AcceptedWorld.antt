@@ -10,29 +10,30 @@ use Rattle.am_eval.specs.Faults.{Stage, config_stage, silences_stage, alerts_sta
 use Rattle.am_eval.specs.Faults.{pairs_stage}
 
 -- The files are accepted: they say the world's configuration, silences and alerts, and there are
--- not too many pairs of a rule and an alert that its source side matches. An instant is not looked
--- at.
+-- not too many pairs of a rule and an alert that its source side matches. The instant is ignored.
 -- Source: own choice.
--- Example: without files of silences and of alerts, the world has none.
+-- Example: without a file of silences and a file of alerts, the world has no silences and no
+-- alerts.
 pub record AcceptsFiles (files : Files) (world : World) : Type 0 where
   pub says_config : FileSaysConfig (config_of files.config) world.config
   pub says_silences : SaysSilencesIfAny files.silences world.silences
   pub says_alerts : SaysAlertsIfAny files.alerts world.alerts
   pub few_pairs : length (pairs_of world.config.rules world.alerts) ≤ MAX_PAIRS
 
--- The files are accepted, and the world's instant is the one that is asked about, which is there
--- where it is needed.
+-- The files are accepted, and so is the instant: if there is a text, it says an instant, and if
+-- there is a file of silences, there is a text. The world has the instant that is asked about.
 pub record AcceptsWorld (files : Files) (world : World) : Type 0 where
   pub accepts_files : AcceptsFiles files world
   pub asks_instant : world.instant ≡ asked_instant files.at
   pub has_instant : instant_fault files.silences files.at ≡ None
 
 -- The stages of the files, in order: the configuration file or what stands in for it, the file of
--- silences, the file of alerts. Those of a world without a look at the instant: these, and the
--- pairs. Those of a world: the instant comes before the pairs.
+-- silences, and the file of alerts. After them comes the stage of the pairs. These are the stages
+-- of a world without its instant. The stages of a world have the instant too, just before the
+-- pairs.
 -- Source: own choice.
--- Example: where an export of silences comes without an instant, and there are too many pairs, the
--- first fault is `need-at`; where the instant is not looked at, it is the `limit` of the pairs.
+-- Example: let there be a file of silences, no instant, and too many pairs. Then the first fault is
+-- `need-at`. If the instant is ignored, it is the `limit` of the pairs.
 abbrev pub file_stages : Files → List Stage
 file_stages files =
     config_stage (config_of files.config)

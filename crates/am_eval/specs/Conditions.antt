@@ -1,5 +1,6 @@
--- Conditions: when a simple part of a question is true of an alert, as a list of ways to make it
--- so, each of which is a list of literals. To test them no tree of routes has to be walked.
+-- Conditions: when a simple part of a question is true of an alert. A condition is a list of ways
+-- to make the part true, and a way is a list of literals. To test a condition, no tree of routes
+-- has to be walked.
 use Rattle.std.specs.Prelude.{ℕ, List, [], ◌∷◌, ◌++◌, map, take, slice_get, Bool, true, false, not}
 use Rattle.std.specs.Prelude.{if◌then◌else◌, Option, Some, None, ◌==◌}
 use Rattle.std.specs.List.{filter, flat_map, list_all, list_any}
@@ -20,7 +21,7 @@ use Rattle.am_eval.specs.declared.reach.Reach.{Reach}
 use Rattle.am_eval.specs.declared.reach.Reach.TheVariants.{Ends, Enters}
 use Rattle.am_eval.specs.Question.{Simple, Is, Receiver, Route, Braces}
 
--- A literal: a list of matchers, and whether an alert has to match it or must not match it.
+-- A literal: a list of matchers, and whether an alert must match it or must not match it.
 -- Source: propositional logic, where a literal is a statement or its negation.
 -- Example: `not_matching` of `severity="critical"` says that the alert is not critical.
 pub record Literal : Type 0 where
@@ -33,9 +34,10 @@ matching matchers = record { matchers = matchers; wanted = true }
 abbrev pub not_matching : List Condition → Literal
 not_matching matchers = record { matchers = matchers; wanted = false }
 
--- A literal is true of a label set that matches its list, or, if it is not wanted, of one that does
--- not. A condition is true where all literals of one of its ways are true, whatever decides the
--- literals. A way without literals is true, and a condition without ways is false.
+-- A literal that is wanted is true of a label set that matches its list. One that is not wanted is
+-- true of a label set that does not match it. A condition is true if all literals of one of its
+-- ways are true, whatever test decides the literals. A way without literals is true, and a
+-- condition without ways is false.
 -- Source: propositional logic, the disjunctive normal form.
 -- Example: `not_matching` of `team="web"` is true of `{team="db"}`.
 abbrev pub literal_holds : LabelMap → Literal → Bool
@@ -46,12 +48,12 @@ some_way_holds holds ways = list_any (list_all holds) ways
 
 -- ---- Routes.
 
--- Literals that say: the alert matches none of these siblings that lack `continue`, so that the
--- child behind them is tried; and: it matches no child of a route, so that it ends at the route
--- itself.
+-- The literals that say that the alert matches none of these siblings that lack `continue`, so that
+-- the child after them is tried. And the literals that say that it matches no child of a route, so
+-- that it ends at the route itself.
 -- Source: Alertmanager configuration reference 0.25, "<route>": `continue`.
--- Example: of two siblings of which the first has `continue` and the second lacks it, the second
--- alone must not be matched.
+-- Example: let the first of two siblings have `continue`, and let the second lack it. Then the
+-- alert must not match the second, and may match the first.
 abbrev pub stopped_by_none : List RouteTree → List Literal
 stopped_by_none siblings =
     map (λ t. not_matching (matchers_of t)) (filter (λ t. not (continues_of t)) siblings)
@@ -59,18 +61,19 @@ stopped_by_none siblings =
 abbrev pub no_child_of : RouteTree → List Literal
 no_child_of t = map (λ child. not_matching (matchers_of child)) (list_of (children_of t))
 
--- What is asked at a route that is to be reached: to end there, an alert matches no child of it.
+-- What is asked of an alert at the route that it is to reach. To end there, it must match no child
+-- of the route. To enter the route, nothing more is asked.
 abbrev pub asked_at : Reach → RouteTree → List Literal
 asked_at Ends t = no_child_of t
 asked_at Enters t = []
 
--- How an alert that matches a route gets down from it to the route at a path. At each step it is
--- stopped by none of the siblings before the next route, and matches that route. There is one way,
--- or none if no route is there. And how it matches a route, if there is one, and goes on as
--- `further` says.
+-- How an alert matches a route, if there is one, and goes on as `further` says. And how an alert
+-- that matches a route gets down from it to the route at a path: at each step, none of the siblings
+-- before the next route stops it, and it matches that route. There is one way down, or none if no
+-- route is at the path.
 -- Source: Alertmanager configuration reference 0.25, "<route>".
--- Example: below the top-level route, whose first child lacks `continue`, the way to `/1` is: do
--- not match `/0`, match `/1`.
+-- Example: if `/0` lacks `continue`, the way from the top-level route to enter `/1` is: do not
+-- match `/0`, and match `/1`.
 abbrev pub ways_into : (RouteTree → List (List Literal)) → Option RouteTree → List (List Literal)
 ways_into further None = []
 ways_into further (Some t) = map (λ way. matching (matchers_of t) ∷ way) (further t)
@@ -81,11 +84,11 @@ ways_below reach t (p ∷ path) =
     map (λ way. stopped_by_none (take p (list_of (children_of t))) ++ way)
     (ways_into (λ child. ways_below reach child path) (slice_get (list_of (children_of t)) p))
 
--- An alert reaches the route at a path where it matches the top-level route and gets down from
--- there by that path. It goes to a receiver where it ends at a route that has it.
+-- An alert reaches the route at a path if it matches the top-level route and gets down from there
+-- by that path. It goes to a receiver if it ends at a route that has this receiver.
 -- Source: Alertmanager configuration reference 0.25, "<route>".
 -- Example: there is one way to end at `/`: match the top-level route, which has no matchers, and
--- none of its children.
+-- match none of its children.
 abbrev pub ways_to_reach : Configuration → Reach → List ℕ → List (List Literal)
 ways_to_reach c reach path = ways_into (λ t. ways_below reach t path) (Some c.root)
 
@@ -101,7 +104,8 @@ ways_to_receiver c receiver = flat_map (ways_to_reach c Ends) (paths_to receiver
 
 -- ---- Silences and inhibition rules.
 
--- An alert is silenced where it matches all matchers of an active silence: one way for each.
+-- An alert is silenced if it matches all matchers of an active silence. There is one way for each
+-- active silence.
 -- Source: Alertmanager documentation 0.25, "Silences".
 -- Example: a silence that is not active gives no way.
 abbrev pub silencing_ways : World → List (List Literal)
@@ -109,24 +113,25 @@ silencing_ways w =
     map (λ (silence : Silence). matching silence.matchers ∷ [])
     (filter (is_active w.instant) w.silences)
 
--- The matcher that asks for the value which a firing alert has for a label.
+-- The matcher that asks for the value that a firing alert has for a label.
 -- Source: Alertmanager configuration reference 0.25, "<inhibit_rule>": `equal`; a missing label and
 -- a label with an empty value are the same thing.
--- Example: for the label `team` it is `team="db"` where the firing alert is of the team `db`, and
--- `team=""` where it has no team.
+-- Example: for the label `team` it is `team="db"` if the firing alert is of the team `db`, and
+-- `team=""` if it has no team.
 abbrev pub same_value : LabelMap → List ℕ → Condition
 same_value firing name =
     record { name = name; op = ops.Equal; value = value_of firing name }
 
--- How a firing alert that matches the source side of a rule inhibits another by that rule. The
--- other matches one list: the target side, and the firing alert's values for the labels in `equal`.
--- If the firing alert matches the target side too, the other must not match the source side. And
--- all ways of a world: one for each rule and each firing alert that its source side matches.
+-- How a firing alert that matches the source side of a rule inhibits another alert by that rule.
+-- The other alert matches one list: the target side, and the firing alert's values for the labels
+-- in `equal`. If the firing alert matches the target side too, the other must not match the source
+-- side. And all such ways of a world: one for each rule and each firing alert that its source side
+-- matches.
 -- Source: Alertmanager configuration reference 0.25, "<inhibit_rule>".
--- Example: where the source side asks for the severity `critical`, the target side for `warning`,
--- and `equal` has `team`, a firing critical alert of the team `db` inhibits what matches
--- `severity="warning"` and `team="db"`. Where both sides ask for any severity it inhibits nothing:
--- the other alert would have to match this, and not to match it.
+-- Example: let the source side ask for the severity `critical`, the target side for `warning`, and
+-- let `equal` have `team`. Then a firing critical alert of the team `db` inhibits what matches
+-- `severity="warning"` and `team="db"`. If both sides ask for any severity, it inhibits nothing:
+-- the other alert would have to match that, and not match it.
 abbrev pub inhibiting_way : Rule → LabelMap → List Literal
 inhibiting_way rule firing =
     matching (rule.target ++ map (same_value firing) rule.equal)
@@ -138,7 +143,8 @@ inhibiting_ways w =
     (λ rule. map (inhibiting_way rule) (filter (λ firing. all_hold firing rule.source) w.alerts))
     w.config.rules
 
--- The same of a pair of a rule and a firing alert that its source side matches, by their positions.
+-- The same for a pair of a rule and a firing alert that its source side matches, by their
+-- positions.
 abbrev pub way_of_alert : Rule → Option LabelMap → List Literal
 way_of_alert rule None = []
 way_of_alert rule (Some firing) = inhibiting_way rule firing
@@ -153,9 +159,9 @@ pair_way rules alerts pair =
 
 -- ---- Questions.
 
--- The condition of a property, and that of a simple part. The law
+-- The condition of a property, and the condition of a simple part. The law
 -- `a_simple_part_is_true_where_its_condition_holds` says that the part is true of an alert exactly
--- where its condition is.
+-- if its condition is.
 -- Source: own choice.
 -- Example: `any` has one way, without literals. `{team="db"}` has one way, with one literal.
 abbrev pub ways_to_have : World → Property → List (List Literal)

@@ -17,14 +17,14 @@ use Rattle.am_eval.specs.Promise.{Promise}
 use Rattle.am_eval.specs.Files.{Files}
 use Rattle.am_eval.specs.AcceptedWorld.{AcceptsWorld, world_stages}
 
--- The name of the receiver of the route at a path.
+-- The name of the receiver of the route at a path, or the empty text if there is none.
 abbrev pub receiver_name_at : Configuration → List ℕ → List ℕ
 receiver_name_at c path =
     unwrap_or (option_and_then (slice_get c.receivers) (receiver_at c path)) []
 
--- The line of an end, with the path of the route and the name of its receiver in quotes; that of a
--- silence; and that of a rule and a firing alert. Silences, rules and alerts are told by their
--- positions, in decimal.
+-- The line of an end, with the path of the route and the name of its receiver in quotes; the line
+-- of a silence; and the line of a rule and a firing alert. Silences, rules and alerts are given by
+-- their positions, in decimal.
 abbrev pub end_line : Configuration → List ℕ → List ℕ
 end_line c path =
     codes "end " ++ (path_text path
@@ -38,24 +38,25 @@ inhibited_line found =
     codes "inhibited " ++ (decimal found.0 ++ (codes " " ++ (decimal found.1 ++ codes "\n")))
 
 -- The text that explains a label set by its ends, the silences that hide it, and the rules and
--- firing alerts that inhibit it: the set itself, with its labels in the order of the bytes of their
--- names; then a line for each end, in order; for each silence; and for each rule and alert.
+-- firing alerts that inhibit it. The first line is the set itself, with its labels in the order of
+-- the bytes of their names. Then come a line for each end, in order; a line for each silence; and a
+-- line for each rule with its alert.
 -- Source: own choice.
--- Example: where `{team="db"}` ends at `/0`, whose receiver is `dba`, the first silence hides it,
--- and by the first rule the third alert inhibits it, the lines are `{team="db"}`, `end /0 "dba"`,
--- `silenced 0` and `inhibited 0 2`.
+-- Example: let `{team="db"}` end at `/0`, whose receiver is `dba`. Let the first silence hide it,
+-- and let the third alert inhibit it by the first rule. Then the lines are `{team="db"}`,
+-- `end /0 "dba"`, `silenced 0` and `inhibited 0 2`.
 abbrev pub explanation_text : Configuration → LabelMap → List (List ℕ) → List ℕ → List (ℕ × ℕ)
     → List ℕ
 explanation_text c set ends silencers inhibitors =
     map_text set ++ (codes "\n" ++ (flat_map (end_line c) ends
     ++ (flat_map silenced_line silencers ++ flat_map inhibited_line inhibitors)))
 
--- The world is accepted, the words are those of the label set, and the text explains the set by all
--- its ends in the world, all silences that hide it there, and all rules and alerts that inhibit it
--- there.
+-- The files are accepted as the world, the words spell the label set, and the text explains the set
+-- by all its ends in the world, all silences that hide it there, and all rules and alerts that
+-- inhibit it there.
 -- Source: own choice.
--- Example: where the top-level route stands alone and has the receiver `a`, and there are no
--- silences and no alerts, the text for the words `team=db` is the lines `{team="db"}` and
+-- Example: if the top-level route is the only route and has the receiver `a`, and there are no
+-- silences and no alerts, the text for the word `team=db` is the lines `{team="db"}` and
 -- `end / "a"`.
 pub record ExplainsSet (files : Files) (words : List (List ℕ)) (text : List ℕ) : Type 0 where
   pub world : World
@@ -67,9 +68,9 @@ pub record ExplainsSet (files : Files) (words : List (List ℕ)) (text : List �
 
 -- What `explain` owes. Its stages are those of the world, and then the words of the label set.
 -- Source: own choice.
--- Example: where the configuration is accepted, there are no silences, the file of alerts is `{}`
--- and the one word of the set is `a!=b`, the first fault is the `shape` of the alerts; without that
--- file it is the `bad-matcher` of the set.
+-- Example: let the configuration be accepted, let there be no silences, let the file of alerts be
+-- `{}`, and let the one word of the set be `a!=b`. Then the first fault is the `shape` of the
+-- alerts. Without that file it is the `bad-matcher` of the set.
 abbrev pub explain_stages : Files → List (List ℕ) → List Stage
 explain_stages files words = world_stages files ++ set_stage words ∷ []
 

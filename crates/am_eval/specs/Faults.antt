@@ -21,24 +21,23 @@ use Rattle.am_eval.specs.Pairs.{pairs_of}
 use Rattle.am_eval.specs.Files.{SaysSilencesIfAny, SaysAlertsIfAny}
 use Rattle.am_eval.specs.AskedInstant.{instant_fault}
 
--- A stage of a call, which reads one of its inputs: the place of its faults, that the input is
--- accepted, and what it may be refused for.
+-- A stage of a call, which reads one of its inputs. It has the place of its faults, what it means
+-- that the input is accepted, and what the input may be refused for.
 pub record Stage : Type 1 where
   pub place : Place
   pub accepts : Type 0
   pub refuses : Refusal → Type 0
 
--- The first fault of a call whose stages come in this order, unless memory runs out: one stage
--- refuses its input for it, and every earlier stage accepts its own.
+-- The first fault of a call with these stages in this order, unless memory runs out: one stage
+-- refuses its input for this fault, and every earlier stage accepts its own input.
 -- Source: own choice.
--- Example: where both files of `dead` are `{`, the first fault is the `not-json` of the universe
--- file.
+-- Example: if both files of `dead` are `{`, the first fault is the `not-json` of the universe file.
 abbrev pub IsFirstFaultOfCall : List Stage → Place → Refusal → Type 0
 IsFirstFaultOfCall [] place r = ⊥
 IsFirstFaultOfCall (stage ∷ later) place r =
     ((place ≡ stage.place) × stage.refuses r) ⊎ (stage.accepts × IsFirstFaultOfCall later place r)
 
--- The fault is the first of a call whose stages come in this order, unless memory ran out.
+-- The fault is the first fault of a call with these stages in this order, unless memory ran out.
 abbrev pub IsFirstFault : List Stage → Fault → Type 0
 IsFirstFault stages fault =
     fault.kind ≢ kinds.Memory → IsFirstFaultOfCall stages fault.place (refusal_of fault)
@@ -62,8 +61,8 @@ abbrev pub SilencesRefusedFor : Option (List ℕ) → Refusal → Type 0
 SilencesRefusedFor None r = ⊥
 SilencesRefusedFor (Some bytes) r = SilencesFileRefusedFor bytes r
 
--- Why the text of the instant is refused, or that there is none, beside this file of silences. Such
--- a fault stands at no part of a file.
+-- Why the instant is refused: for its text, or because there is no text beside this file of
+-- silences. Such a fault has the empty pointer.
 abbrev pub InstantRefusedFor : Option (List ℕ) → Option (List ℕ) → Refusal → Type 0
 InstantRefusedFor silences at r = (instant_fault silences at ≡ Some r.kind) × (r.pointer ≡ [])
 
@@ -76,7 +75,7 @@ abbrev pub AlertsRefusedFor : Option (List ℕ) → Refusal → Type 0
 AlertsRefusedFor None r = ⊥
 AlertsRefusedFor (Some bytes) r = IsFirstFaultOfAlertsFile bytes r
 
--- The files say a configuration and alerts of which there are not too many pairs.
+-- The files say a configuration and alerts, and these do not have too many pairs.
 pub record SaysFewPairs (config : List ℕ) (file : Option (List ℕ)) : Type 0 where
   pub configuration : Configuration
   pub says_config : FileSaysConfig config configuration
@@ -84,11 +83,11 @@ pub record SaysFewPairs (config : List ℕ) (file : Option (List ℕ)) : Type 0 
   pub says_alerts : SaysAlertsIfAny file alerts
   pub few : length (pairs_of configuration.rules alerts) ≤ MAX_PAIRS
 
--- The files say a configuration and alerts of which there are too many pairs. Such a fault stands
--- at no part of a file.
+-- The files say a configuration and alerts, and these have too many pairs. Such a fault has the
+-- empty pointer.
 -- Source: own choice.
--- Example: 128 rules and 128 alerts are accepted, where each source side matches each alert. With a
--- 129th such rule there are 16,512 pairs, and it is `limit`.
+-- Example: let each source side match each alert. Then 128 rules and 128 alerts are accepted. With
+-- a 129th such rule there are 16,512 pairs, and the fault is `limit`.
 pub record PairsRefusedFor (config : List ℕ) (file : Option (List ℕ)) (r : Refusal)
     : Type 0 where
   pub configuration : Configuration
@@ -98,15 +97,15 @@ pub record PairsRefusedFor (config : List ℕ) (file : Option (List ℕ)) (r : R
   pub many : MAX_PAIRS < length (pairs_of configuration.rules alerts)
   pub refusal : r ≡ refusal_here kinds.Limit
 
--- The words are those of a label set.
+-- The words spell a label set.
 abbrev pub WordsSpellSomeSet : List (List ℕ) → Type 0
 WordsSpellSomeSet words = (set : LabelMap) × WordsSpellSet words set
 
--- Why the words are refused as those of a label set; their faults stand at no part of a file.
+-- Why the words are refused as a label set. Such a fault has the empty pointer.
 abbrev pub SetStageRefusedFor : List (List ℕ) → Refusal → Type 0
 SetStageRefusedFor words r = SetWordsRefusedFor words r.kind × (r.pointer ≡ [])
 
--- The universe file.
+-- The stage of the universe file.
 abbrev pub universe_stage : List ℕ → Stage
 universe_stage bytes = record {
   place = places.Universe;
@@ -114,7 +113,7 @@ universe_stage bytes = record {
   refuses = UniverseFileRefusedFor bytes;
 }
 
--- The configuration file.
+-- The stage of the configuration file.
 abbrev pub config_stage : List ℕ → Stage
 config_stage bytes = record {
   place = places.Config;
@@ -122,7 +121,7 @@ config_stage bytes = record {
   refuses = ConfigFileRefusedFor bytes;
 }
 
--- The file of silences, if there is one.
+-- The stage of the file of silences, if there is one.
 abbrev pub silences_stage : Option (List ℕ) → Stage
 silences_stage file = record {
   place = places.Silences;
@@ -130,7 +129,7 @@ silences_stage file = record {
   refuses = SilencesRefusedFor file;
 }
 
--- The file of alerts, if there is one.
+-- The stage of the file of alerts, if there is one.
 abbrev pub alerts_stage : Option (List ℕ) → Stage
 alerts_stage file = record {
   place = places.Alerts;
@@ -138,7 +137,8 @@ alerts_stage file = record {
   refuses = AlertsRefusedFor file;
 }
 
--- The text of the instant, if there is one, beside a file of silences, if there is one.
+-- The stage of the text of the instant, if there is one, beside a file of silences, if there is
+-- one.
 abbrev pub instant_stage : Option (List ℕ) → Option (List ℕ) → Stage
 instant_stage silences at = record {
   place = places.Instant;
@@ -146,7 +146,8 @@ instant_stage silences at = record {
   refuses = InstantRefusedFor silences at;
 }
 
--- The pairs of the rules of a configuration file and the alerts of a file, if there is one.
+-- The stage of the pairs of the rules of a configuration file and the alerts of a file, if there is
+-- one.
 abbrev pub pairs_stage : List ℕ → Option (List ℕ) → Stage
 pairs_stage config file = record {
   place = places.Alerts;
@@ -154,7 +155,7 @@ pairs_stage config file = record {
   refuses = PairsRefusedFor config file;
 }
 
--- The words of a label set.
+-- The stage of the words of a label set.
 abbrev pub set_stage : List (List ℕ) → Stage
 set_stage words = record {
   place = places.Set;

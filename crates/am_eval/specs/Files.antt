@@ -1,12 +1,12 @@
--- What the input files say, and what stands for one that is not handed in.
+-- What the input files say, and what stands in for a file that is not given.
 use Rattle.std.specs.Prelude.{◌≡◌, ℕ, List, [], Option, Some, None, unwrap_or}
 use Rattle.am_config.specs.SmallestConfig.{smallest_config_file}
 use Rattle.am_universe.specs.LabelSet.{LabelMap}
 use Rattle.am_list_files.specs.SilencesFile.{Silence, FileSaysSilences}
 use Rattle.am_list_files.specs.AlertsFile.{FileSaysAlerts}
 
--- The input files beside the universe, each as its bytes, and the text of the instant that is asked
--- about, as far as they are handed in.
+-- The input files other than the universe file, each as its bytes, and the text of the instant that
+-- is asked about. All are optional.
 pub record Files : Type 0 where
   pub config : Option (List ℕ)
   pub silences : Option (List ℕ)

@@ -47,7 +47,7 @@ abbrev pub is_inhibited : World → LabelMap → Bool
 is_inhibited w s = list_any (λ rule. list_any (λ a. inhibits rule a s) w.alerts) w.config.rules
 
 -- What inhibits an alert: a rule and a firing alert that inhibits it by this rule, each by its
--- position. They stand rule by rule, and for each rule alert by alert.
+-- position. They are listed rule by rule, and for each rule alert by alert.
 -- Source: own choice.
 -- Example: let the first and the third alert inhibit an alert by the second rule, and let there be
 -- no others. Then its inhibitors are 1 0 and 1 2.
@@ -57,7 +57,7 @@ inhibitors w s =
     (λ rule. map (λ i. (rule.0, i)) (positions_where (λ a. inhibits rule.1 a s) 0 w.alerts))
     (enumerate_from 0 w.config.rules)
 
--- The same of a pair of a rule and a firing alert, by their positions.
+-- The same for a pair of a rule and a firing alert, by their positions.
 abbrev pub alert_inhibits : LabelMap → Rule → Option LabelMap → Bool
 alert_inhibits s rule None = false
 alert_inhibits s rule (Some a) = inhibits rule a s

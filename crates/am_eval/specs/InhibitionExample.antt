@@ -1,4 +1,4 @@
--- A worked example of inhibition: worlds with one rule and one firing alert.
+-- A worked example of inhibition: worlds with one firing alert and one or two rules.
 use Rattle.std.specs.Prelude.{ℕ, List, [], ◌∷◌, None, codes}
 use Rattle.std.specs.FinMap.{from_entries}
 use Rattle.am_universe.specs.LabelSet.{LabelMap}
@@ -21,12 +21,12 @@ severity_warning = record { name = codes "severity"; op = Equal; value = codes "
 abbrev pub severity_any : Condition
 severity_any = record { name = codes "severity"; op = NotEqual; value = [] }
 
--- A rule whose sides have a matcher each, and whose `equal` has one label.
+-- A rule with one matcher on each side, and with one label in `equal`.
 abbrev pub example_rule : Condition → Condition → List ℕ → Rule
 example_rule source target label =
     record { source = source ∷ []; target = target ∷ []; equal = label ∷ [] }
 
--- The world of that alert and these rules; and the world of the alert and one rule.
+-- The world of that alert and some rules, and the world of that alert and one rule.
 abbrev pub world_of_rules : List Rule → World
 world_of_rules rules = record {
   config = record { receivers = worked.receivers; root = worked.root; rules = rules };
@@ -38,7 +38,7 @@ world_of_rules rules = record {
 abbrev pub inhibiting_world : Condition → Condition → List ℕ → World
 inhibiting_world source target label = world_of_rules (example_rule source target label ∷ [])
 
--- The world of the alert and two rules for the same team: from `warning` to `critical`, and from
+-- The world of that alert and two rules for the same team: from `warning` to `critical`, and from
 -- `critical` to `warning`.
 abbrev pub two_rules_world : World
 two_rules_world =

@@ -6,13 +6,13 @@ use Rattle.am_labels.specs.Matcher.{all_hold}
 use Rattle.am_config.specs.ConfigFile.{Rule}
 use Rattle.am_eval.specs.declared.pair.Pair.{Pair}
 
--- The pairs of rules and the firing alerts that they are about: each rule with each alert that its
--- source side matches, by their positions, rule by rule, and for each rule alert by alert. Beside
--- them stands whether the target side matches that alert too.
+-- The pairs of rules and firing alerts: each rule with each alert that its source side matches, by
+-- their positions, rule by rule, and for each rule alert by alert. A pair also says whether the
+-- target side matches that alert too.
 -- Source: own choice; the sides are those of the Alertmanager configuration reference 0.25,
 -- "<inhibit_rule>".
--- Example: where the first rule's source side matches the second of two alerts, and that of the
--- second rule matches each of them, the pairs are 0 1, 1 0 and 1 1.
+-- Example: let the source side of the first rule match the second of two alerts alone, and let that
+-- of the second rule match both. Then the pairs are 0 1, 1 0 and 1 1.
 abbrev pub pair_of : ℕ × Rule → ℕ × LabelMap → Pair
 pair_of rule alert =
     record { rule = rule.0; alert = alert.0; both = all_hold alert.1 rule.1.target }

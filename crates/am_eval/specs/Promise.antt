@@ -5,33 +5,34 @@ use Rattle.am_universe.specs.declared.kind.Kind.TheVariants as kinds
 use Rattle.am_universe.specs.Sink.{Wrote, WroteInPart}
 use Rattle.am_eval.specs.Faults.{Stage, IsFirstFault}
 
--- What a command owes for its inputs: the stages in which it reads them; and the texts that may be
--- written where they are accepted, each beside what the call then answers.
+-- What a command owes for its inputs: the stages in which it reads them, and the texts that it may
+-- write if they are accepted, each with the answer of the call.
 -- Source: own choice.
--- Example: of `dead` the stages are the universe file and the configuration file, and the one text
+-- Example: the stages of `dead` are the universe file and the configuration file, and its one text
 -- is the report on the routes of what they say.
 pub record Promise (A : Type 0) : Type 1 where
   pub stages : List Stage
   pub May : A → List ℕ → Type 0
 
--- The same, for a caller that is told no answer.
+-- The same, for a caller that does not see the answer.
 abbrev pub any_answer : {A : Type 0} → Promise A → Promise ⊤
 any_answer {A = A} promise = record {
   stages = promise.stages;
   May = λ _ text. (answer : A) × promise.May answer text;
 }
 
--- Some text that may be written, beside some answer, was written as this says: whole, or in part.
+-- Some text that may be written with this answer was written as `IsWritten` says: whole, or in
+-- part.
 abbrev pub SomeText : {A : Type 0} → Promise A → A → (List ℕ → Type 0) → Type 0
 SomeText promise answer IsWritten = (text : List ℕ) × promise.May answer text × IsWritten text
 
--- The call kept the promise with what it answered, and with what the sink took since it was as
--- `old`. Where it is done, the sink took such a text. Where it failed but for writing, the fault is
--- the first of the inputs, unless memory ran out, and the sink is as it was. Where writing failed,
--- the sink took a part of such a text, from its front.
+-- The call kept the promise with its result, and with what the sink took since it was `old`. If the
+-- call succeeded, the sink took a text that may be written with its answer. If it failed, but not
+-- with `Write`, the fault is the first of the inputs, unless memory ran out, and the sink is as it
+-- was. If it failed with `Write`, the sink took a proper prefix of a text that may be written.
 -- Source: own choice.
--- Example: where a writer takes five bytes of a report and then fails, the fault is `write`, and
--- these five bytes went out.
+-- Example: if a writer takes five bytes of a report and then fails, the fault is `write`, and these
+-- five bytes are the output.
 pub record IsKept {A S : Type 0} (promise : Promise A) (taken : S → List ℕ) (failures : S → ℕ)
     (old new : S) (result : Result A Fault) : Type 0 where
   pub done : IfOk result (λ answer. SomeText promise answer (Wrote taken failures old new))

@@ -34,8 +34,9 @@ abbrev pub Question : Type 0
 Question = Tree Simple
 
 -- A label set has a property: each has `any`, one that a silence hides has `silenced`, and one that
--- a firing alert inhibits has `inhibited`. And an alert that ends at one path reaches the route at
--- another: for `ends` the two are the same, and for `enters` the route may also stand above.
+-- a firing alert inhibits has `inhibited`. And an alert that ends at the path `end` reaches the
+-- route at `path`: for `ends` the two paths are the same, and for `enters` the route may also be
+-- above the end.
 abbrev pub has_property : World → Property → LabelMap → Bool
 has_property w Any s = true
 has_property w Silenced s = is_silenced w s

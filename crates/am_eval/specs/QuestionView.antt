@@ -5,7 +5,7 @@ use Rattle.am_eval.specs.declared.question.Question.TheOpen.{Question-F}
 use Rattle.am_eval.specs.Tree.{Part, Not, And, Or}
 use Rattle.am_eval.specs.Question.{Question, Is, Receiver, Route, Braces}
 
--- One part, with each question in it already seen.
+-- One level of a question, in which each smaller question is already seen.
 abbrev pub view_step : Question-F Question → Question
 view_step (Question-F.Is property) = Part (Is property)
 view_step (Question-F.Receiver receiver) = Part (Receiver receiver)

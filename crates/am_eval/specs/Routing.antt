@@ -82,7 +82,7 @@ EndsThere s t (p ∷ path) =
     × EndsThere s child path
 
 -- The receivers of an alert, by their positions: the receiver of each end, in order. If two ends
--- have the same receiver, it stands twice.
+-- have the same receiver, it occurs twice.
 -- Source: Alertmanager configuration reference 0.25, "<route>": `receiver`.
 -- Example: if an alert ends at `/0` and `/1`, and both have the receiver at position 2, the
 -- receivers are 2 and 2.

@@ -6,7 +6,7 @@ use Rattle.am_labels.specs.Matcher.{Condition}
 use Rattle.am_labels.specs.declared.op.Op.TheVariants.{Equal}
 use Rattle.am_config.specs.ConfigFile.{Configuration, RouteTree, route, routes_of, settings_with}
 
--- A route, by its receiver, its matchers, whether it continues, and its children.
+-- A route with this receiver, these matchers, with or without `continue`, and with these children.
 abbrev pub node : ℕ → List Condition → Bool → List RouteTree → RouteTree
 node receiver matchers continues children =
     route (settings_with receiver matchers continues) (routes_of children)
@@ -18,9 +18,9 @@ team_db = record { name = codes "team"; op = Equal; value = codes "db" }
 abbrev pub severity_critical : Condition
 severity_critical = record { name = codes "severity"; op = Equal; value = codes "critical" }
 
--- The configuration: below the top-level route, which has the receiver `default`, `/0` asks for the
--- team `db` and continues, and has a child that asks for the severity `critical`; `/1` asks for
--- that too; and `/2` asks for both. Each has a receiver of its own.
+-- In the configuration, the top-level route has the receiver `default`. Below it, `/0` asks for the
+-- team `db` and has `continue`, and its child asks for the severity `critical`. `/1` asks for that
+-- severity too, and `/2` asks for both. Each route has a receiver of its own.
 abbrev pub worked : Configuration
 worked = record {
   receivers = codes "default" ∷ codes "dba" ∷ codes "pager" ∷ codes "ops" ∷ codes "late"
@@ -32,7 +32,7 @@ worked = record {
   rules = [];
 }
 
--- A label set has these values of `team` and `severity`, where the empty text is a missing label.
+-- A label set has these values of `team` and `severity`. An empty text is a missing label.
 abbrev pub Has : LabelMap → List ℕ → List ℕ → Type 0
 Has s team severity =
     (value_of s (codes "team") ≡ team) × (value_of s (codes "severity") ≡ severity)

@@ -3,8 +3,8 @@ use Rattle.std.specs.Prelude.{[], ◌∷◌, pos, None}
 use Rattle.am_eval.specs.RoutingExamples.{worked, team_db}
 use Rattle.am_eval.specs.World.{World}
 
--- The configuration of the example of routing, with a silence of the team `db` from the instant 10
--- to the instant 20, and no instant that is asked about.
+-- A world with the configuration of the routing example and one silence, which is of the team `db`
+-- and goes from the instant 10 to the instant 20. The world has no instant.
 abbrev pub silenced_world : World
 silenced_world = record {
   config = worked;

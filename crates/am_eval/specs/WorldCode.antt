@@ -15,7 +15,7 @@ use Rattle.am_config.specs.contracts.route.RouteSettings as own
 use Rattle.am_config.specs.contracts.rule.Rule as rule
 use Rattle.am_eval.specs.World.{World}
 
--- The parts of a code.
+-- The two parts of a code, and whether it has them.
 abbrev head : Gv → Gv
 head gnil = gnil
 head (gnum n) = gnil
@@ -41,7 +41,7 @@ abbrev mutual
   routes_code no_routes = gnil
   routes_code (next_route t ts) = gcons (route_code t) (routes_code ts)
 
--- Where the codes are the same, the trees are.
+-- If the codes are the same, the trees are the same.
 mutual
   pub route_told : (t u : RouteTree) → route_code t ≡ route_code u → t ≡ u
   route_told (route a ts) (route b us) e =
@@ -61,7 +61,7 @@ coded_route = record { code = route_code; inj = route_told }
 abbrev coded_rules : Coded (List Rule)
 coded_rules = coded_list rule.the_row.coded
 
--- The code of a world, as that of its parts.
+-- The code of a world is made of the codes of its parts.
 abbrev pub coded_world : Coded World
 coded_world =
     code_by

@@ -51,7 +51,7 @@ pub fn explanation_of(
 
 /// Writes the label set, and a line for each end, each silence, and each rule with its alert.
 ///
-/// Fails only with `Kind::Write`; what was written is then a proper prefix of that. Takes no
+/// Fails only with `Kind::Write`; then the sink has taken a proper prefix of that text. Takes no
 /// memory.
 pub fn write_explanation<W: Sink>(
     config: &Config,

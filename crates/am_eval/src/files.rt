@@ -11,14 +11,14 @@ pub struct Files<'a> {
     /// The silences, as `amtool silence query -o json` writes them. Without them there are none.
     pub silences: Option<&'a [u8]>,
     /// The firing alerts, as `amtool alert query -a -s -i -u -o json` writes them. Without these
-    /// letters, `amtool` leaves out alerts that are silenced or inhibited. Without the file none
-    /// fires.
+    /// letters, `amtool` leaves out alerts that are silenced or inhibited. Without the file no
+    /// alert fires.
     pub alerts: Option<&'a [u8]>,
     /// The instant that is asked about, as a text. It is required if there is a file of silences.
     pub at: Option<&'a str>,
 }
 
-/// The configuration that is used without one: one receiver, and the top-level route alone.
+/// The configuration that is used if none is given: one receiver, and the top-level route alone.
 const STAND_IN_CONFIG: &[u8] =
     b"{\"receivers\":[{\"name\":\"none\"}],\"route\":{\"receiver\":\"none\"}}";
 
@@ -37,7 +37,7 @@ impl<'a> Model for Files<'a> {
 }
 
 impl<'a> Files<'a> {
-    /// The bytes of the configuration, or of the one that is used without it.
+    /// The bytes of the configuration, or of the one that is used if none is given.
     pub fn config(&self) -> &'a [u8]
         ensures bytes { result.now ≡ config_of self.now.config }
     {

@@ -12,8 +12,8 @@ use am_config::Rule;
 use am_universe::LabelSet;
 use std::alloc::{AllocError, Global};
 
-/// Returns what inhibits an alert with these labels: each rule with each firing alert that does so
-/// by it.
+/// Returns what inhibits an alert with these labels: each rule, with each firing alert that
+/// inhibits it by that rule.
 ///
 /// Both are given by their positions, rule by rule, and for each rule alert by alert (Alertmanager
 /// configuration reference 0.25, `<inhibit_rule>`). Fails only if memory runs out.

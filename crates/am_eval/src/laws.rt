@@ -91,10 +91,10 @@ pub fn a_child_is_tried_where_each_match_before_it_continues()
         × Contains (ends_at s child) path)) }
 {}
 
-/// An example: where label sets end that have neither label, the team `db` alone, the severity
+/// An example: where a label set ends if it has neither label, the team `db` alone, the severity
 /// `critical` alone, or both.
 ///
-/// With both, a sibling is tried after the first end.
+/// If it has both, a sibling is tried after the first end.
 pub fn an_example_of_routing()
     ensures none { (s : LabelMap) → Has s [] []
         → (ends s worked ≡ [] ∷ []) × (receivers s worked ≡ 0 ∷ []) }
@@ -295,10 +295,10 @@ pub fn without_alerts_or_rules_nothing_is_inhibited()
 
 /// An example: what rules inhibit while a critical alert of the team `db` fires.
 ///
-/// The rules go from `critical` to `warning` for the same team, and for the same region, which
-/// neither alert has; from any severity to any; and from any severity to `warning`. Then: which
-/// rule of two, and which alert, by their positions, inhibit a warning of the team, and the line
-/// that says so, in which the rule comes first.
+/// The rules go from `critical` to `warning` for the same team; from `critical` to `warning` for
+/// the same region, which neither alert has; from any severity to any; and from any severity to
+/// `warning`. Of two rules, the second inhibits a warning of the team, by the alert at position 0.
+/// The line that says so has the rule first.
 pub fn an_example_of_inhibition()
     ensures same_team { (s : LabelMap) → Has s (codes "db") (codes "warning")
         → is_inhibited (inhibiting_world severity_critical severity_warning (codes "team")) s
@@ -348,8 +348,8 @@ pub fn answers_ascend()
 
 /// Words that spell a label set are not refused.
 ///
-/// Words that are refused are refused with one kind, apart from refusals of patterns, which are the
-/// engine's to make.
+/// Words are refused with at most one kind, apart from refusals of patterns, which are the engine's
+/// to make.
 pub fn a_set_is_not_read_and_refused()
     ensures accepted { (words : List (List ℕ)) (set : LabelMap) (kind : Kind)
         → WordsSpellSet words set → SetWordsRefusedFor words kind → ⊥ }
@@ -376,7 +376,7 @@ pub fn an_explanation_is_one_text()
         → explanation ≡ other }
 {}
 
-/// The limit of the pairs of a world.
+/// The limit on the pairs of a world.
 pub fn worlds_have_a_limit()
     ensures pairs { MAX_PAIRS ≡ 16384 }
 {}

@@ -4,11 +4,11 @@
 //! [`ends`] returns the routes that handle an alert, and [`receivers_of`] their receivers. A
 //! [`World`] has silences and firing alerts too: [`silenced_by`] returns the silences that hide an
 //! alert, and [`inhibited_by`] what inhibits it. [`read_world`] reads a world from its [`Files`].
-//! An [`Explanation`] says of one label set where it goes and why, and a [`Question`] asks about
-//! any.
+//! An [`Explanation`] says where one label set goes and why, and a [`Question`] asks about any
+//! label set.
 #![tactic(auto)]
 
-// How much there may be.
+// Limits.
 pub mod limits;
 
 // Routing.
@@ -16,7 +16,7 @@ mod routing;
 
 pub use routing::{ends, receivers_of};
 
-// What alerts are looked at in: what silences hide them, and what firing alerts inhibit them.
+// Worlds: which silences hide an alert, and which firing alerts inhibit it.
 mod inhibition;
 mod pair;
 mod silencing;
@@ -27,7 +27,7 @@ pub use pair::Pair;
 pub use silencing::silenced_by;
 pub use world::World;
 
-// What a world is read from, and a label set.
+// Reading a world, and a label set.
 mod files;
 mod world_inputs;
 
@@ -48,5 +48,5 @@ pub use property::Property;
 pub use question::Question;
 pub use reach::Reach;
 
-// What holds of the definitions by themselves.
+// Facts about the definitions alone.
 pub mod laws;

@@ -1,6 +1,5 @@
-//! The firing alerts that inhibition rules are about.
+//! Pairs of an inhibition rule and a firing alert that its source side matches.
 
-// The module of words stands on this type, so its own words come from where they stand.
 ghost use Rattle.std.specs.Prelude.{◌≡◌, ◌≢◌, ◌<◌, ◌≤◌, ◌++◌, ◌∷◌, [], length, is_some, IfOk};
 ghost use Rattle.std.specs.Prelude.{IfErr, IfSome, OnOk};
 ghost use Rattle.am_universe.specs.declared.kind.Kind.TheVariants as kinds;
@@ -26,8 +25,8 @@ pub struct Pair {
     pub both: bool,
 }
 
-/// The pairs of all rules, rule by rule, and for each rule alert by alert. Fails with `Limit` for
-/// more than [`MAX_PAIRS`], and with `Memory` if memory runs out.
+/// Returns the pairs of all rules, rule by rule, and for each rule alert by alert. Fails with
+/// `Limit` if there are more than [`MAX_PAIRS`], and with `Memory` if memory runs out.
 pub(crate) fn pairs_of(alloc: Global, rules: &[Rule], alerts: &Alerts) -> Result<Vec<Pair>, Kind>
     ensures pairs { IfOk result (λ found. found.items ≡ pairs_of rules.now alerts.now) }
     ensures few { IfOk result (λ found. length found.items ≤ MAX_PAIRS) }
@@ -70,7 +69,7 @@ fn add_pairs(
     Ok(())
 }
 
-/// The sides of the rule at a position, on which one alert after another is tested.
+/// Both sides of the rule at a position, prepared to test one alert after another.
 #[derive(Drop)]
 struct Sides<'r> {
     rule: usize,
@@ -79,8 +78,8 @@ struct Sides<'r> {
 }
 
 impl<'r> Sides<'r> {
-    /// The pair of the rule and the alert at this position, if the source side matches the alert.
-    /// Only then is the target side tested.
+    /// Returns the pair of the rule and the alert at this position, if the source side matches the
+    /// alert. The target side is tested only then.
     fn pair_with(
         &mut self,
         alloc: Global,
@@ -107,8 +106,8 @@ impl<'r> Sides<'r> {
     }
 }
 
-/// Adds a pair. Fails with `Limit` if there are [`MAX_PAIRS`], and with `Memory` if memory runs
-/// out.
+/// Adds a pair. Fails with `Limit` if there are [`MAX_PAIRS`] already, and with `Memory` if memory
+/// runs out.
 fn add_pair(found: &mut Vec<Pair>, pair: Pair) -> Result<(), Kind>
     requires { length found.old.items ≤ MAX_PAIRS }
     ensures added { OnOk result (found.new.items ≡ found.old.items ++ pair ∷ []) }

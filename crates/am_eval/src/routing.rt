@@ -56,7 +56,7 @@ fn add_ends(
     Ok(true)
 }
 
-/// Adds the ends at the children that are tried, and below them.
+/// Adds the ends at and below the children that are tried.
 #[cycle(ends)]
 fn add_ends_of_children(
     alloc: Global,

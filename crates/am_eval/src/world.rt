@@ -1,6 +1,5 @@
 //! What questions are asked about: a configuration, silences, firing alerts and an instant.
 
-// The module of words stands on this type, so its own words come from where they stand.
 ghost use Rattle.std.specs.Prelude.{◌≡◌, ◌<◌, ◌≤◌, length, option_map, slice_get, Some, IfOk};
 ghost use Rattle.std.specs.Prelude.{IfErr};
 ghost use Rattle.am_universe.specs.declared.kind.Kind.TheVariants as kinds;
@@ -128,7 +127,7 @@ impl World {
 
     /// Whether the silence at `i` is active at the instant: it has begun, and has not ended.
     ///
-    /// Without an instant it is not.
+    /// Without an instant no silence is active.
     pub fn active(&self, i: usize) -> bool
         requires silence { i < length self.now.silences }
         ensures active { (silence : _) → slice_get self.now.silences i ≡ Some silence

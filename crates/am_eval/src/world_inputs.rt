@@ -71,7 +71,7 @@ fn read_files(alloc: Global, files: &Files<'_>) -> Result<ReadFiles, Fault>
     })
 }
 
-/// The silences of a file; without one there are none. A fault is at `Silences`, as in
+/// Reads the silences of a file. Without a file there are none. A fault is at `Silences`, as in
 /// `read_silences`, or is `Memory`.
 fn read_silences_if_any(alloc: Global, file: Option<&[u8]>) -> Result<Silences, Fault>
     ensures says { IfOk result (SaysSilencesIfAny (option_copied file.entry)) }
@@ -84,8 +84,8 @@ fn read_silences_if_any(alloc: Global, file: Option<&[u8]>) -> Result<Silences, 
     }
 }
 
-/// The alerts of a file; without one there are none. A fault is at `Alerts`, as in `read_alerts`,
-/// or is `Memory`.
+/// Reads the alerts of a file. Without a file there are none. A fault is at `Alerts`, as in
+/// `read_alerts`, or is `Memory`.
 fn read_alerts_if_any(alloc: Global, file: Option<&[u8]>) -> Result<Alerts, Fault>
     ensures says { IfOk result (SaysAlertsIfAny (option_copied file.entry)) }
     ensures first { IfErr result (IsRefusalAt places.Alerts
@@ -97,8 +97,8 @@ fn read_alerts_if_any(alloc: Global, file: Option<&[u8]>) -> Result<Alerts, Faul
     }
 }
 
-/// The instant that is asked about, if there is one. Fails with `BadTime` if the text is not an
-/// instant, and with `NeedAt` if there is a file of silences and no text.
+/// Reads the instant that is asked about, if there is one. Fails with `BadTime` if the text is not
+/// an instant, and with `NeedAt` if there is a file of silences and no text.
 fn read_instant_for(alloc: Global, files: &Files<'_>) -> Result<Option<Timestamp>, Fault>
     ensures asked { IfOk result (λ instant.
         option_map (λ t. t.nanosecond) instant ≡ asked_instant files.now.at) }

@@ -1,4 +1,4 @@
--- What the pattern `.*` finds: each text of printable ASCII, and no line feed.
+-- The pattern `.*` matches each text of printable ASCII, and does not match a line feed.
 use Rattle.std.proofs.Common.{◌≡◌, ℕ, zero, suc, ◌+◌, ◌<◌, ◌≤◌, Bool, true, false, cond, not}
 use Rattle.std.proofs.Common.{◌&&◌, List, [], ◌∷◌, length, Option, Some, None, is_some, slice_get}
 use Rattle.std.proofs.Common.{if◌then◌else◌, refl, sym, ap, ◌∙◌, subst, inl, inr, arith, codes}
@@ -85,7 +85,7 @@ one_char text i h ordinary =
     let one = ap (λ n. i + n) (sym (len_utf8_ascii b.0 small)) in
     (b.0, char_at_ascii text i b.0 b.1 small, printable_in b.0 b.2, one)
 
--- as many as stand in the text
+-- as many as the text has
 all_chars : (text : List ℕ) (n : ℕ) → n < length text → IsOrdinary text
     → Rounds (Matches text any_char) 0 (n + 1)
 all_chars text zero h ordinary = one_round 1 (one_char text 0 h ordinary)

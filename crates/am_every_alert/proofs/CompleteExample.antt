@@ -1,4 +1,5 @@
--- Examples: universes that are complete for `team="db"` and for `team=~".*"`, and that are not.
+-- Examples: universes that are complete for `team="db"` and for `team=~".*"`, and others that are
+-- not.
 use Rattle.std.proofs.Common.{◌≡◌, [], ◌∷◌, codes, true, false, not, ◌&&◌, ◌||◌, refl, sym, ap, ◌∙◌}
 use Rattle.std.proofs.Common.{lit<, lit≤, inl, inr}
 use Rattle.std.proofs.lemmas.Bool.{cases_Bool}
@@ -18,7 +19,7 @@ use Rattle.am_every_alert.specs.CompleteExample.{db_alone_possible, any_line, ab
 use Rattle.am_every_alert.proofs.CompleteSpaces.{complete_by_names, space_complete_by_names}
 use Rattle.am_every_alert.proofs.AnyLine.{finds_ordinary, finds_none, line_feed, line_feed_is_utf8}
 
--- a label alone is a universe
+-- a single label is a universe
 lone_is_universe : (l : Label) → IsLabel l → IsUniverse (l ∷ [])
 unfolding IsDistinct
 lone_is_universe l is = record { at_most = lit≤ tt; labels = (is, tt); distinct = (tt, tt) }
@@ -71,7 +72,7 @@ incomplete a complete =
       | inr none ↦ none
     ]
 
--- where no other team is possible
+-- if no other team is possible
 possible_at_team : (a : Alphabet)
     → IsSpaceCompleteAt a db_alone_possible (team_db ∷ team_not_db ∷ []) (codes "team")
 possible_at_team a text valid may = elim (cases_Bool (same_text text (codes "db"))) [
@@ -90,7 +91,7 @@ possible a =
     space_complete_by_names a db_alone_possible (team_db ∷ team_not_db ∷ []) db_alone_is_universe
     ((λ some. possible_at_team a), ((λ some. possible_at_team a), tt))
 
--- where `team` is always absent
+-- if `team` is always absent
 absent_is_universe : IsUniverse (team_universe absent_alone)
 unfolding IsDistinct
 absent_is_universe = lone_is_universe _ (record {

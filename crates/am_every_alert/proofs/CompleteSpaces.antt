@@ -1,5 +1,5 @@
--- Where a universe and a space are complete: by texts that cover all, and for matchers that are among
--- others.
+-- When a universe and a space are complete: if some texts cover all, and for matchers that are
+-- among others.
 use Rattle.std.proofs.Common.{◌≡◌, ◌≢◌, ℕ, List, [], ◌∷◌, ◌++◌, refl, ap, subst, inl, inr}
 use Rattle.std.proofs.Common.{Contains}
 use Rattle.std.specs.List.{AllByRecursion}
@@ -38,7 +38,7 @@ complete_by_cover a u ms name texts covers each text valid =
 
 -- ---- For fewer matchers.
 
--- some of the matchers on a label are among all of them
+-- if matchers are among others, those of them on one label are too
 about_among : (name : List ℕ) (ns ms : List Condition) → AreAmong ns ms
     → AreAmong (about name ns) (about name ms)
 about_among name ns ms among =
@@ -69,7 +69,8 @@ complete_by_names a u ms h each =
 
 -- ---- Spaces.
 
--- a space is complete where its universe is, and this is where nothing is impossible
+-- a space is complete if its universe is; and if nothing is impossible, its universe is complete if
+-- the space is
 pub complete_space : (a : Alphabet) (s : Space) (ms : List Condition) → IsComplete a s.labels ms
     → IsSpaceComplete a s ms
 complete_space a s ms complete name some text valid possible = complete name some text valid
@@ -111,7 +112,7 @@ among_itself : (ms : List Condition) → AreAmong ms ms
 among_itself ms =
     AllByRecursion-each (Contains ms) ms (λ m i. Contains-from_IsIn ms m i)
 
--- what is behind others, after the first of two further ones
+-- the last of three lists is among all of them
 behind_more : (ms ns ks : List Condition) → AreAmong ks (ms ++ (ns ++ ks))
 behind_more ms ns ks =
     among_through ks (ns ++ ks) (ms ++ (ns ++ ks)) (last_among ns ks) (last_among ms (ns ++ ks))
@@ -178,7 +179,7 @@ complete_for_question a s w questions q there complete =
     (both_among world (one ++ lists) all (first_among world (asked ++ lists))
     (both_among one lists all among (behind_more world asked lists))) complete
 
--- where nothing is impossible
+-- if nothing is impossible
 pub complete_without_lists : (a : Alphabet) (u : List Label) (c : Configuration)
     (ms : List Condition) → AreAmong (route_conditions c.root) ms → IsComplete a u ms
     → IsComplete a u (coverage_conditions (record { labels = u; impossible = [] }) c)

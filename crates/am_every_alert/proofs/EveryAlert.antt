@@ -1,4 +1,4 @@
--- What the label sets of a universe say of every alert.
+-- What the label sets of a universe say about every alert.
 use Rattle.std.proofs.Common.{◌≡◌, ◌↔◌, ℕ, List, Contains, sym, subst}
 use Rattle.std.specs.Prelude.{IsTrue}
 use Rattle.am_universe.specs.Universe.{IsUniverse}

@@ -1,4 +1,4 @@
--- The strings of the JSON value of a file are UTF-8, and so the texts of a universe file are.
+-- The strings of the JSON value of a file are UTF-8, and so are the texts of a universe file.
 use Rattle.std.proofs.Common.{◌≡◌, ℕ, List, [], ◌∷◌, Bool, true, false, cond, Option, Some, None}
 use Rattle.std.proofs.Common.{option_map, option_and_then, IsUtf8, subst, inl, inr, codes}
 use Rattle.std.specs.Prelude.{⊤, IfSome}
@@ -26,7 +26,7 @@ use Rattle.am_every_alert.proofs.OptionParts.{mapped, then_some}
 use Rattle.am_every_alert.proofs.JsonGrammar.{HasTexts, ItemsHaveTexts, MembersHaveTexts}
 use Rattle.am_every_alert.proofs.JsonGrammar.{json_of_text}
 
--- each string that is a value, here or inside, is UTF-8
+-- each string that is a value, at the top or inside, is UTF-8
 abbrev mutual
   HasText : Data → Type 0
   HasText (string s) = IsUtf8 s

@@ -1,4 +1,4 @@
--- The strings of a JSON value are UTF-8, where its text is.
+-- The strings of a JSON value are UTF-8, if its text is.
 use Rattle.std.proofs.Common.{◌≡◌, ℕ, zero, suc, List, [], ◌∷◌, length, Option, Some, None}
 use Rattle.std.proofs.Common.{option_and_then, IsUtf8, refl, ap, ◌∙◌, subst}
 use Rattle.std.specs.Prelude.{⊤}
@@ -12,7 +12,7 @@ use Rattle.json.specs.Json.{if_last}
 use Rattle.am_every_alert.proofs.JsonTokens.{AreTokens, tokens_of_text}
 use Rattle.am_every_alert.proofs.OptionParts.{mapped, then_some}
 
--- each string that is a value, here or inside, is UTF-8
+-- each string that is a value, at the top or inside, is UTF-8
 abbrev mutual
   pub HasTexts : Json → Type 0
   HasTexts (string s) = IsUtf8 s
@@ -28,7 +28,8 @@ abbrev mutual
   MembersHaveTexts no_members = ⊤
   MembersHaveTexts (member k j ms) = HasTexts j × MembersHaveTexts ms
 
--- what is read from such tokens has a property, and such tokens are left
+-- what is read from tokens with UTF-8 strings has a property, and the tokens that are left have
+-- UTF-8 strings
 abbrev Reads : {A : Type 0} → (A → Type 0) → Parse A → Type 0
 Reads {A} P read =
     (ts : List Token) (a : A) (rest : List Token) → AreTokens ts → read ts ≡ Some (a, rest)

@@ -1,4 +1,4 @@
--- The text of a JSON string is UTF-8, where the bytes that are read are.
+-- The text of a JSON string is UTF-8, if the bytes that are read are.
 use Rattle.std.proofs.Common.{◌≡◌, ℕ, zero, suc, ◌+◌, ◌*◌, ◌<◌, ◌≤◌, Bool, true, false, cond}
 use Rattle.std.proofs.Common.{nat_le, ltb-true, ◌⊎◌, ◌&&◌, ◌==◌, nat_lt, List, [], ◌∷◌, ◌++◌}
 use Rattle.std.proofs.Common.{length, Some, None, IsUtf8, inl, inr, refl, sym, ap, ◌∙◌, subst}
@@ -25,7 +25,7 @@ use Rattle.json.specs.Text.{prepend, content}
 abbrev AreHigh : List ℕ → Type 0
 AreHigh bs = AllByRecursion (λ b. 128 ≤ b) bs
 
--- the bytes of a character behind its first
+-- the bytes of a character after its first
 later_bytes : (c x : ℕ) (bs : List ℕ) → encode c ≡ x ∷ bs → AreHigh bs
 later_bytes c x bs e =
     AllByRecursion-each (λ b. 128 ≤ b) bs (λ b i. elim (cases_lt b 128) [
@@ -40,7 +40,8 @@ later_bytes c x bs e =
       | inr large ↦ large
     ])
 
--- a text is a character, with its later bytes, and a text behind it
+-- a text begins with a character: its first byte, its later bytes, and then the rest, which is a
+-- text
 pub record Front (x : ℕ) (xs : List ℕ) : Type 0 where
   pub c : ℕ
   pub bs : List ℕ
@@ -76,7 +77,7 @@ front x xs u = by u.0 u.1.0 u.1.1
         let parts = and_parts (scalar c) (scalars cs) valid in
         begins c (encode c) cs refl parts.0 parts.1 e
 
--- behind an ASCII byte there is a text, and before a text one may stand
+-- what follows an ASCII byte of a text is a text, and an ASCII byte in front of a text makes a text
 after_ascii : (x : ℕ) (xs : List ℕ) → x < 128 → IsUtf8 (x ∷ xs) → IsUtf8 xs
 after_ascii x xs small u =
     IsUtf8-drop (x ∷ xs) 1 u (IsCharBoundary-after_ascii (x ∷ xs) 0 u (omega arith) small)
@@ -106,12 +107,12 @@ pub rest_behind : (k x : ℕ) (xs : List ℕ) → IsRest k (x ∷ xs) → (j : �
 rest_behind zero x xs u = let f = front x xs u in (length f.bs, behind_front x xs f)
 rest_behind (suc k) x xs h = (k, h.1)
 
--- an ASCII byte begins a character, and so does what is behind it
+-- an ASCII byte begins a character, so what follows it is a text
 pub behind_ascii : (k x : ℕ) (xs : List ℕ) → x < 128 → IsRest k (x ∷ xs) → IsUtf8 xs
 behind_ascii zero x xs small u = after_ascii x xs small u
 behind_ascii (suc k) x xs small h = absurd (omega (arith, h.0))
 
--- the same later bytes stand first in both, and a text behind them in the second
+-- both begin with the same later bytes, and in the second a text follows them
 abbrev IsCopied : ℕ → List ℕ → List ℕ → Type 0
 IsCopied zero xs s = IsUtf8 s
 IsCopied (suc k) [] s = ⊥
@@ -126,7 +127,7 @@ copied_parts (b ∷ bs) rest (y ∷ s) h =
     let r = copied_parts bs rest s h.1 in
     (r.0, (λ i. sym h.0 i ∷ r.1 i), r.2)
 
--- so where a character begins, the copy is a text
+-- so if a character begins at the byte, the copy is a text
 copied_char : (x : ℕ) (xs s : List ℕ) → (f : Front x xs) → IsCopied (length f.bs) xs s
     → IsUtf8 (x ∷ s)
 copied_char x xs s f h =
@@ -190,7 +191,7 @@ pair_is_scalar h l high low =
 
 -- ---- The content of a string.
 
--- of the mode in which the bytes are read
+-- what is true of the bytes that are read, by the mode in which they are read
 abbrev IsRead : Within → List ℕ → Type 0
 IsRead plain xs =
     (k : ℕ) (s : List ℕ) → IsRest k xs → content plain xs ≡ Some s → IsCopied k xs s
@@ -212,7 +213,7 @@ itself_read (suc k) x xs s h read e =
     let p = mapped (λ t. x ∷ t) (content plain xs) s e in
     subst (IsCopied (suc k) (x ∷ xs)) p.2 (refl, read k p.0 h.1 p.1)
 
--- what stands for ASCII, before a text
+-- an ASCII byte, after which a text is read from a text
 ascii_read : (k x : ℕ) (xs s : List ℕ) → x < 128 → IsRest k (x ∷ xs)
     → (IsUtf8 xs → IsUtf8 s) → IsCopied k (x ∷ xs) s
 ascii_read zero x xs s small u rest = rest (after_ascii x xs small u)
@@ -255,7 +256,7 @@ backslash_read x xs plainly unit s u e =
           subst IsUtf8 p.2 (ascii_then c.0 p.0 small.1 behind)
     ]
 
--- the character of a code unit, before a text
+-- the character of a code unit, followed by a text
 unit_then : (c : ℕ) (xs s : List ℕ) → scalar c ≡ true → IsUtf8 xs → IsRead plain xs
     → prepend (encode_utf8 c) (content plain xs) ≡ Some s → IsUtf8 s
 unit_then c xs s valid u plainly e =

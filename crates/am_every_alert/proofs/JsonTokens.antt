@@ -1,4 +1,4 @@
--- The strings among the tokens of a text are UTF-8, where the text is.
+-- The strings among the tokens of a text are UTF-8, if the text is.
 use Rattle.std.proofs.Common.{◌≡◌, ℕ, ◌-◌, ◌<◌, Bool, true, false, cond, ◌==◌, ◌&&◌, nat_eq, length}
 use Rattle.std.proofs.Common.{take, drop, List, [], ◌∷◌, Option, Some, None, IsUtf8, refl, arith}
 use Rattle.std.proofs.Common.{inl, inr}
@@ -18,7 +18,7 @@ use Rattle.json.specs.Lex.{after_comma, after_key, begins_colon, may_begin, may_
 use Rattle.json.specs.Lex.{place_token, punctuate, tokens}
 use Rattle.am_every_alert.proofs.JsonTexts.{IsRest, rest_behind, behind_ascii, content_is_text}
 
--- a token that is a string has a UTF-8 text
+-- if a token is a string, its text is UTF-8
 abbrev pub HasText : Token → Type 0
 HasText (string s) = IsUtf8 s
 HasText t = ⊤

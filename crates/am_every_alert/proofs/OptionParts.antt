@@ -1,4 +1,4 @@
--- What a value in a `Some` was made from.
+-- The value from which a `Some` was made.
 use Rattle.std.proofs.Common.{◌≡◌, Option, Some, None, option_map, option_and_then, refl}
 
 pub mapped : {A B : Type 0} (f : A → B) (o : Option A) (b : B) → option_map f o ≡ Some b

@@ -1,4 +1,4 @@
--- Where there is no room beside a space for the labels that matchers ask of, no universe that keeps
+-- If there is no room beside a space for the labels that matchers ask about, no universe that keeps
 -- the labels of the space is complete.
 use Rattle.std.proofs.Common.{◌≡◌, ◌≤◌, ◌≢◌, ℕ, List, [], ◌∷◌, ◌++◌, length, map, true, refl, sym}
 use Rattle.std.proofs.Common.{ap, ◌∙◌, subst, inl, inr, arith, Contains, Option, Some, None}
@@ -164,7 +164,7 @@ module _ (a : Alphabet) (s : Space) (asked : List AskedLabel) (ms : List Conditi
         (subst (λ xs. HasAlikeIn l.matchers xs text) (lone ∙ sym alone)
         (has_each l text i some needed.possible.over.0 possible))))
 
-    -- a universe that keeps the labels and is complete has room for what is asked
+    -- a universe that keeps the labels and is complete has room for the labels that are asked about
     pub none_without_room : IsUniverse v → HaveNoRoom a s asked → ⊥
     none_without_room h (inl many) =
         let l : AskedLabel = many.0 in

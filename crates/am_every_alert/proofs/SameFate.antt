@@ -1,4 +1,4 @@
--- What meets the same of the matchers that decide it has the same fate.
+-- Label sets that meet the same of the matchers that decide have the same fate.
 use Rattle.std.proofs.Common.{◌≡◌, ℕ, ◌+◌, List, [], ◌∷◌, ◌++◌, map, Bool, false, cond, not, refl}
 use Rattle.std.proofs.Common.{sym, ap, ◌∙◌, inl, inr}
 use Rattle.std.specs.Prelude.{◌&&◌, ◌||◌, ◌==◌}
@@ -93,7 +93,8 @@ module _ (s t : LabelMap) where
 
   -- ---- Silences and impossible lists.
 
-  -- what each of some things decides by its own matchers, some of them decides by all
+  -- if a test of each item depends only on the matchers of the item, whether any item passes
+  -- depends only on the matchers of all items
   any_alike : {X : Type 0} (conditions : X → List Condition) (f g : X → Bool)
       → ((x : X) → MeetsTheSame (conditions x) s t → f x ≡ g x) → (xs : List X)
       → MeetsTheSame (flat_map conditions xs) s t → list_any f xs ≡ list_any g xs

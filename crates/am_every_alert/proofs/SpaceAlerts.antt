@@ -37,7 +37,7 @@ use Rattle.am_every_alert.proofs.SameFate.{same_possible, same_fate, same_truth}
 
 -- ---- A choice that meets the same of matchers.
 
--- a label of an alert has a text over its alphabet, absence included
+-- the text of each label of an alert is over its alphabet, absence included
 value_over : (a : Alphabet) (s : LabelMap) (name : List ℕ) → IsAlert a s
     → IsOver a (value_of s name)
 value_over a s name alert = by (get s name) refl
@@ -46,7 +46,7 @@ value_over a s name alert = by (get s name) refl
     by None e = nil_over a
     by (Some text) e = (alert name text e).1
 
--- and no label of it is without a name
+-- no label of an alert has the empty name
 no_value : (a : Alphabet) (s : LabelMap) → IsAlert a s → value_of s [] ≡ []
 no_value a s alert = by (get s []) refl
   where
@@ -54,7 +54,7 @@ no_value a s alert = by (get s []) refl
     by None e = refl
     by (Some text) e = absurd ((alert [] text e).0 refl)
 
--- none takes that of a possible alert away
+-- a label of a possible alert may have the text that it has
 possible_value : (impossible : List (List Condition)) (alert : LabelMap) (name : List ℕ)
     → IsTrue (is_possible impossible alert)
     → IsTrue (may_have impossible name (value_of alert name))

@@ -22,11 +22,11 @@ use Rattle.am_complete.proofs.CompleteUniverses.{some_about}
 
 -- ---- The texts of a declared label.
 
--- the text that a label has at a position, absence being the empty text
+-- the text of a label at a position; absence is the empty text
 abbrev text_at : Label → ℕ → List ℕ
 text_at l p = unwrap_or (value_at l p) []
 
--- each text of a declared label stands at a position
+-- each text of a declared label is at some position
 position_of : (vs : Values) (x : List ℕ) → IsIn (map (λ v. unwrap_or v []) vs) x
     → (p : ℕ) × (p < length vs) × (unwrap_or (option_and_then (λ v. v) (slice_get vs p)) [] ≡ x)
 position_of [] x h = absurd h
@@ -36,11 +36,11 @@ position_of (v ∷ vs) x (inr h) =
 
 -- ---- A choice by a position for each label.
 
--- a position of a label, where a fact about both holds
+-- a position of a label for which `P` holds
 abbrev HasPosition : (Label → ℕ → Type 0) → Label → Type 0
 HasPosition P l = (p : ℕ) × (p < length l.values) × P l p
 
--- the label stands in the universe, and the choice says such a position for it
+-- the label is in the universe, and the choice has such a position for it
 abbrev StandsIn : (Label → ℕ → Type 0) → List Label → List ℕ → Label → Type 0
 StandsIn P u c l =
     (i : ℕ) × (p : ℕ) × (slice_get u i ≡ Some l) × (slice_get c i ≡ Some p) × P l p
@@ -91,7 +91,7 @@ module _ (u : List Label) (ms : List Condition) (s : LabelMap) (h : IsUniverse u
         )
   ]
 
-  -- a matcher that cannot tell two texts of its label apart
+  -- a matcher on a label has the same truth on alike texts
   told : (m : Condition) (name x y : List ℕ) → IsIn ms m → m.name ≡ name
       → AreAlike (about name ms) x y → holds m.op m.value x ≡ holds m.op m.value y
   told m name x y i e alike =

@@ -1,4 +1,4 @@
--- The label sets of a universe are such as an alert may have.
+-- The label sets of a universe are label sets that an alert may have.
 use Rattle.std.proofs.Common.{◌≡◌, ◌⊎◌, ℕ, zero, suc, List, [], ◌∷◌, Option, Some, None, true}
 use Rattle.std.proofs.Common.{cond, refl, sym, ap, ◌∙◌, inl, inr}
 use Rattle.std.specs.Prelude.{option_and_then, slice_get, IfSome}
@@ -22,7 +22,7 @@ use Rattle.am_complete.proofs.AskedLabels.{no_name}
 abbrev found : List ℕ → List (List ℕ × List ℕ) → Option (List ℕ)
 found name pairs = find (slice_cmp nat_cmp) name pairs
 
--- a value that is found is one of the label, or is found behind it
+-- a text that is found is that of the label in front, or is found among the other pairs
 found_behind : (name label : List ℕ) (o : Option (List ℕ)) (pairs : List (List ℕ × List ℕ))
     (text : List ℕ) → found name (with_label label o pairs) ≡ Some text
     → ((label ≡ name) × (o ≡ Some text)) ⊎ (found name pairs ≡ Some text)
@@ -39,7 +39,7 @@ found_behind name label o pairs text e = elim (cases_Bool (same_text label name)
         let first = ap (λ b. cond b (Some v) (found name pairs)) (flips name label ∙ same) in
         inl (named, sym first ∙ e)
 
--- what a label has at a position is one of its values
+-- the text of a label at a position is one of its values
 value_there : (values : Values) (p : ℕ) (text : List ℕ)
     → option_and_then (λ v. v) (slice_get values p) ≡ Some text → IsIn values (Some text)
 value_there [] p text e = absurd (cc)

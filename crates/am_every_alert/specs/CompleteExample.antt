@@ -1,5 +1,5 @@
 -- Examples of universes with one label: which of them are complete for `team="db"`, and over which
--- alphabet one is for `team=~".*"`.
+-- alphabet one is complete for `team=~".*"`.
 use Rattle.std.specs.Prelude.{List, [], ◌∷◌, Some, None, codes}
 use Rattle.am_universe.specs.Universe.{Label, Values}
 use Rattle.am_labels.specs.declared.op.Op.TheVariants.{NotEqual, Matches}
@@ -10,14 +10,14 @@ use Rattle.am_labels.specs.Space.{Space}
 abbrev pub team_universe : Values → List Label
 team_universe values = record { name = codes "team"; values = values } ∷ []
 
--- Its values in the example: `db` and absence; and `db` alone.
+-- The values of `team` in the examples: `db` and absence, and just `db`.
 abbrev pub db_or_absent : Values
 db_or_absent = Some (codes "db") ∷ None ∷ []
 
 abbrev pub db_alone : Values
 db_alone = Some (codes "db") ∷ []
 
--- And the space in which `team` is always `db`, since it is impossible that it is not.
+-- The space in which `team` is always `db`, since all else is impossible.
 abbrev pub team_not_db : Condition
 team_not_db = record { name = codes "team"; op = NotEqual; value = codes "db" }
 
@@ -26,7 +26,7 @@ db_alone_possible =
     record { labels = team_universe db_alone; impossible = (team_not_db ∷ []) ∷ [] }
 
 -- A matcher on `team` that is true of every text without a line feed; and the values of `team` in
--- the example where it is always absent.
+-- the example in which it is always absent.
 abbrev pub any_line : Condition
 any_line = record { name = codes "team"; op = Matches; value = codes ".*" }
 

@@ -1,5 +1,5 @@
--- Alerts, whether their labels are declared or not: what they meet of matchers, and what is so of
--- every one of them.
+-- Alerts, whether their labels are declared or not: which matchers are true of them, and what is
+-- true of all of them.
 use Rattle.std.specs.Prelude.{◌≡◌, ◌≢◌, ℕ, List, [], Some, Contains, IsTrue}
 use Rattle.std.specs.List.{AllByRecursion}
 use Rattle.std.specs.FinMap.{get}
@@ -24,10 +24,9 @@ use Rattle.am_eval.specs.Inhibition.{is_inhibited}
 abbrev pub IsAlert : Alphabet → LabelMap → Type 0
 IsAlert a s = (name text : List ℕ) → get s name ≡ Some text → (name ≢ []) × IsOver a text
 
--- An alert of a space: no list that is impossible matches it. Its labels need not be declared.
+-- An alert of a space: no impossible list matches it. Its labels need not be declared.
 -- Source: own choice.
--- Example: where `env=prod,team=""` is impossible, `{env="dev"}` is one, and
--- `{env="prod"}` is none.
+-- Example: if `env=prod,team=""` is impossible, `{env="dev"}` is one, and `{env="prod"}` is not.
 abbrev pub IsAlertOf : Alphabet → Space → LabelMap → Type 0
 IsAlertOf a s alert = IsAlert a alert × IsTrue (is_possible s.impossible alert)
 
@@ -37,21 +36,21 @@ IsAlertOf a s alert = IsAlert a alert × IsTrue (is_possible s.impossible alert)
 abbrev pub MeetsTheSame : List Condition → LabelMap → LabelMap → Type 0
 MeetsTheSame ms s t = AllByRecursion (λ m. condition_holds s m ≡ condition_holds t m) ms
 
--- Two label sets have the same fate in a world: they end at the same routes, go to the same
--- receivers, and are silenced, and inhibited, both or neither.
+-- Two label sets have the same fate in a world: they end at the same routes and go to the same
+-- receivers, both or neither are silenced, and both or neither are inhibited.
 -- Source: own choice.
--- Example: where no matcher and no `equal` names `env`, `{env="dev"}` and `{}` have the same fate.
+-- Example: if no matcher and no `equal` names `env`, `{env="dev"}` and `{}` have the same fate.
 pub record HaveTheSameFate (w : World) (s t : LabelMap) : Type 0 where
   pub same_ends : ends s w.config ≡ ends t w.config
   pub same_receivers : receivers s w.config ≡ receivers t w.config
   pub same_silenced : is_silenced w s ≡ is_silenced w t
   pub same_inhibited : is_inhibited w s ≡ is_inhibited w t
 
--- No alert over an alphabet ends at a route, but for those that are impossible; none ends there or
--- below it; and none goes to a receiver.
+-- No possible alert over an alphabet ends at a route; none ends there or below it; and none goes to
+-- a receiver.
 -- Source: own choice.
--- Example: none ends at a route behind a sibling without matchers and without `continue`, whatever
--- labels it has.
+-- Example: no alert ends at a route after a sibling without matchers and without `continue`,
+-- whatever labels the alert has.
 abbrev pub NoAlertEndsAt : Alphabet → Space → Configuration → List ℕ → Type 0
 NoAlertEndsAt a s c path =
     (alert : LabelMap) → IsAlertOf a s alert → Contains (ends alert c) path → ⊥

@@ -1,7 +1,8 @@
 //! The readers of all four input files, and what they return, under one name.
 //!
-//! Everything here is defined elsewhere: universe files, silences, alerts and instants in
-//! `am_list_files`, configurations in `am_config`, and what a universe file says in `am_labels`.
+//! Everything here is defined elsewhere: the readers of universe files, silences, alerts and
+//! instants in `am_list_files`, that of configurations in `am_config`, and [`Space`], which a
+//! universe file declares, in `am_labels`.
 #![tactic(auto)]
 
 pub use am_config::{Config, Path, Route, RouteList, Rule, read_config};

@@ -1,4 +1,4 @@
--- Parts and the bytes that are joined of them.
+-- Parts, and the bytes that they are joined to.
 use Rattle.std.proofs.Common.{◌≡◌, ℕ, ◌<◌, ◌^◌, ◌/◌, zero, suc, List, [], ◌∷◌, ◌++◌, length, take, drop, get_or, Option, Some, None, refl, sym, ap, ap₂, ◌∙◌, arith}
 use Rattle.std.specs.Prelude.{slice_index}
 use Rattle.std.specs.List.{AllByRecursion}
@@ -14,11 +14,11 @@ pub fingerprint_length : (parts : List (Option (List ℕ))) → length (fingerpr
 unfolding sha256 digest_bytes
 fingerprint_length parts = refl
 
--- a length is known from its bytes
+-- The bytes of a length determine it.
 same_length : (m n : ℕ) → m < 2 ^ 64 → n < 2 ^ 64 → to_be_bytes w64 m ≡ to_be_bytes w64 n → m ≡ n
 same_length m n h k e = sym (from_be_bytes-to_be_bytes_8 m h) ∙ ap (from_be_bytes w64) e ∙ from_be_bytes-to_be_bytes_8 n k
 
--- a front is known by its length from what it is joined to
+-- Prefixes of the same length of the same text are equal.
 fronts : (a b r s : List ℕ) → length a ≡ length b → a ++ r ≡ b ++ s → a ≡ b
 fronts a b r s same e =
     sym (take-append_seam a r) ∙ ap (take (length a)) e ∙ ap (λ n. take n (b ++ s)) same ∙ take-append_seam b s

@@ -9,7 +9,7 @@ use sha2::{Digest, Sha256};
 /// The fingerprint of the parts: the first bytes of the SHA-256 digest (FIPS 180-4) of the parts
 /// joined.
 ///
-/// Each part counts, and so does whether an optional one is there. Takes no memory.
+/// Each part counts, and so does whether an optional part is given. Takes no memory.
 pub fn fingerprint(parts: &Parts<'_>) -> [u8; FINGERPRINT_BYTES]
     ensures fingerprint { result ≡ fingerprint_of (parts_of parts.now) }
 {
@@ -23,8 +23,8 @@ pub fn fingerprint(parts: &Parts<'_>) -> [u8; FINGERPRINT_BYTES]
     front_of(&hasher.finalize())
 }
 
-/// Adds a part to the message that is digested. Its length comes first, so that the bytes of a part
-/// are never taken for those of the next one.
+/// Adds a part to the message that is digested. Its length comes before its bytes, so that the
+/// bytes of a part are never taken for those of the next one.
 fn add_part(hasher: &mut Sha256, part: Option<&[u8]>)
     ensures { (message : List ℕ) → Holds256 hasher.old message
         → Holds256 hasher.new (message ++ part_bytes (option_copied part.entry)) }

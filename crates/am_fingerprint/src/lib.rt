@@ -1,4 +1,4 @@
-//! The fingerprint of the inputs of a run, by which a token knows what it was made from.
+//! The fingerprint of the inputs of a run, which shows what inputs a token was made from.
 //!
 //! [`Parts`] names the six parts of the inputs: the universe, the configuration, the silences, the
 //! alerts, the instant and the question. The limit and the budget of a page are not among them, so
@@ -6,22 +6,22 @@
 //! (FIPS 180-4) of the parts, joined so that different parts have different joined bytes.
 //!
 //! Two different inputs may share a fingerprint, because SHA-256 has more messages than digests. A
-//! token of the one is then accepted for the other. That nobody meets such inputs rests on the
+//! token of one is then accepted for the other. That this never happens in practice relies on the
 //! digest, and is not proved.
 #![tactic(auto)]
 
-// How long a fingerprint is.
+// The length of a fingerprint.
 pub mod limits;
 
-// What a run is given.
+// The inputs of a run.
 mod parts;
 
 pub use parts::Parts;
 
-// Its fingerprint.
+// The fingerprint of the inputs.
 mod digest;
 
 pub use digest::fingerprint;
 
-// What holds of the definitions by themselves.
+// Facts about the definitions alone.
 pub mod laws;

@@ -66,7 +66,7 @@ one_more u choice routes i next cubes r more lt is adds are also =
 
 -- ---- The ends of a choice.
 
--- a world of a configuration alone
+-- a world with a configuration alone
 abbrev world_of : Configuration → World
 world_of config = record { config = config; silences = []; alerts = []; instant = None }
 
@@ -105,8 +105,8 @@ in_order first others unwanted wanted rest = refl
 
 -- ---- The way down.
 
--- An alert ends at the route at the path exactly where the cubes so far let it pass and it gets
--- down from this route by what is left of the path.
+-- An alert ends at the route at the path exactly if the cubes so far let it pass and it gets down
+-- from this route along the rest of the path.
 pub record IsOnWay (u : List Label) (choice : List ℕ) (end : Bool) (r : RouteCubes)
     (wanted : List (Bor MaskedLabels)) (before : List (Bor (List RouteCubes))) (left : List ℕ)
     : Type 0 where
@@ -152,7 +152,7 @@ module _ (u : List Label) (choice : List ℕ) (whole : IsWhole (sizes u) choice)
       && none_matched ts rs are.1 i
   none_matched ts rs are = absurd are
 
-  -- some do
+  -- those with `continue` do not count
   one_counted : (t : RouteTree) (ts : List RouteTree) (continues passes later : Bool)
       → continues_of t ≡ continues → passes ≡ holds (not_matching (matchers_of t))
       → later ≡ list_all holds (stopped_by_none ts)
@@ -228,7 +228,7 @@ module _ (u : List Label) (choice : List ℕ) (whole : IsWhole (sizes u) choice)
     are : AreCubesOfEach u choice children rs
     are = subst (AreCubesOfEach u choice children) (sym same) (below on.tree r on.cubes)
 
-    -- whether an alert gets further, by the child at a position
+    -- whether an alert gets past the siblings before a position
     abbrev closed : ℕ → Bool
     closed p = list_all holds (stopped_by_none (take p (list_of children)))
 

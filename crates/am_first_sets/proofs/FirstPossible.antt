@@ -7,7 +7,7 @@ use Rattle.am_universe.proofs.ListLemmas.{IsIn, Contains-from_IsIn}
 use Rattle.am_labels.specs.Space.{Space, all_choices, IsChoiceOf}
 use Rattle.am_labels.proofs.SpaceLaws.{space_choices}
 
--- what is found among those that a filter keeps is the first that passes both tests
+-- the first that passes a test among those that a filter keeps is the first that passes both
 pub find_kept : {X : Type 0} (test keep : X → Bool) (xs : List X)
     → find (λ x. test x && keep x) xs ≡ find test (filter keep xs)
 find_kept test keep [] = refl
@@ -23,7 +23,7 @@ pub find_none : {X : Type 0} (xs : List X) → None ≡ find (λ (x : X). false)
 find_none [] = refl
 find_none (x ∷ xs) = find_none xs
 
--- what is found is in the list, and passes
+-- what is found is in the list and passes the test
 pub is_found : {X : Type 0} (test : X → Bool) (xs : List X) (x : X) → find test xs ≡ Some x
     → IsIn xs x × (test x ≡ true)
 is_found test [] x e = absurd (cc)
@@ -43,7 +43,7 @@ found_of_space s test (Some c) e =
 
 -- ---- Without a test.
 
--- the first that a test finds is the first of those that it keeps
+-- the first that passes a test is the first of those that a filter by the test keeps
 pub find_first : {X : Type 0} (keep : X → Bool) (xs : List X)
     → find keep xs ≡ slice_get (filter keep xs) 0
 find_first keep [] = refl
@@ -52,7 +52,7 @@ find_first keep (x ∷ xs) = elim (cases_Bool (keep x)) [
   | inr e ↦ rw e (find_first keep xs)
 ]
 
--- there is none exactly where the list is empty
+-- there is no first item exactly if the list is empty
 pub no_first : {X : Type 0} (xs : List X) (first : Option X) → first ≡ slice_get xs 0
     → first ≡ None ↔ xs ≡ []
 no_first [] first e = (λ none. refl, λ empty. e)

@@ -1,4 +1,4 @@
--- The cubes of impossible lists are certain, at a whole choice, where its label set matches the
+-- At a whole choice, the cubes of impossible lists are certain exactly if its label set matches the
 -- lists.
 use Rattle.std.proofs.Common.{◌≡◌, ℕ, Bool, true, false, not, cond, List, map, refl, ap, sym, ◌∙◌}
 use Rattle.std.specs.Prelude.{IsTrue}
@@ -20,7 +20,7 @@ yes_of_truth : (b : Bool) → is_yes (cond b Yes No) ≡ b
 yes_of_truth true = refl
 yes_of_truth false = refl
 
--- the verdict of a list is that it is matched
+-- the verdict of a list says whether the label set matches it
 pub certain_where : (u : List Label) (c : List ℕ) → IsWhole (sizes u) c → (ms : List Condition)
     → is_yes (verdict_of_list u ms c) ≡ all_hold (label_set_of u c) ms
 certain_where u c whole ms =

@@ -6,7 +6,7 @@ use Rattle.am_search.specs.Conflict.{IsConflict}
 use Rattle.am_search.proofs.Odometer.{admits_at_most}
 use Rattle.am_first_sets.specs.Reasons.{IsReasonAgainst}
 
--- what is a reason against a test is a conflict where nothing is true that fails the test
+-- a reason against a test is a conflict if nothing that fails the test is true
 pub conflict_if_any : (ns : List ℕ) (test truth : List ℕ → Bool) (prefix : List ℕ)
     (answer : Option Labels) → admits ns prefix ≡ true
     → ((c : List ℕ) → test c ≡ false → truth c ≡ false)
@@ -20,7 +20,7 @@ conflict_if_any ns test truth prefix (Some labels) admitted from reason = record
       from c (reason.fails c (omega (arith, most, whole.1)) agrees);
 }
 
--- what is a conflict is one too where nothing is true that was not
+-- a conflict stays a conflict if nothing else becomes true
 pub narrower : (ns : List ℕ) (other truth : List ℕ → Bool) (labels : Labels) (prefix : List ℕ)
     → ((c : List ℕ) → other c ≡ false → truth c ≡ false)
     → IsConflict ns other labels prefix → IsConflict ns truth labels prefix

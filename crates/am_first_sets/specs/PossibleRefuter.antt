@@ -1,4 +1,4 @@
--- The parts of what refutes prefixes for a space.
+-- The parts of the refuter of prefixes for a space.
 use Rattle.std.specs.Prelude.{ℕ, List, Bool}
 use Rattle.am_labels.specs.Space.{Space}
 use Rattle.am_universe.specs.Universe.{sizes}
@@ -10,8 +10,8 @@ use Rattle.am_first_sets.specs.ImpossibleCubes.{is_possible_by}
 abbrev pub possible_space : PossibleRefuter → Space
 possible_space refuter = refuter.space.now
 
--- The sizes of its labels, that they are sizes, and which choices are true: those that are
--- possible.
+-- The sizes of its labels, the proof that they are sizes, and the choices that are true: those that
+-- are possible.
 abbrev pub possible_sizes : PossibleRefuter → List ℕ
 possible_sizes refuter = sizes refuter.space.now.labels
 

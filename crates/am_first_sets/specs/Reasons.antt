@@ -6,15 +6,15 @@ use Rattle.am_search.specs.Conflict.{AgreesAt}
 use Rattle.am_search.specs.Judge.{is_yes, is_no}
 use Rattle.am_judged_lists.specs.Cube.{MaskedLabels, verdict_at}
 
--- At a choice a cube is not excluded, and it is certain.
+-- At a choice a cube may match if it is not excluded, and must match if it is certain.
 abbrev pub may_match : List ℕ → MaskedLabels → Bool
 may_match choice cube = not (is_no (verdict_at cube choice))
 
 abbrev pub must_match : List ℕ → MaskedLabels → Bool
 must_match choice cube = is_yes (verdict_at cube choice)
 
--- Some labels of a prefix are a reason against a test: each choice that is as long at least, and
--- has the prefix's positions at these labels, fails it.
+-- Some labels of a prefix are a reason against a test: each choice that is at least as long as the
+-- prefix, and has its positions at these labels, fails the test.
 -- Source: own choice.
 -- Example: the label `team` is a reason against a literal that asks for `team="db"`, at a prefix
 -- that chooses the team `web`.

@@ -16,9 +16,9 @@ use Rattle.am_first_sets.specs.declared.route_cubes.RouteWay.{RouteWay}
 use Rattle.am_first_sets.specs.ChoiceEnds.{is_end_at}
 use Rattle.am_first_sets.specs.Reasons.{may_match, must_match}
 
--- The cubes are those of a route and of all routes below it: at a choice, each says what the
--- matchers at its place do; and `continue` and the receivers are theirs. And those of the children
--- of a route.
+-- The cubes are those of a route and of all routes below it, or those of the children of a route.
+-- At a choice, each cube says what the matchers of its route say; `continue` and the receiver are
+-- those of the route.
 abbrev mutual
   pub AreCubesOf : List Label → List ℕ → RouteTree → RouteCubes → Type 0
   AreCubesOf u choice (route settings children) r =
@@ -34,7 +34,7 @@ abbrev mutual
   AreCubesOfEach u choice (next_route t ts) (r ∷ rs) =
       AreCubesOf u choice t r × AreCubesOfEach u choice ts rs
 
--- There is at most one proof of it.
+-- There is at most one proof of this.
 mutual
   pub AreCubesOf-prop : (u : List Label) (choice : List ℕ) (t : RouteTree) (r : RouteCubes)
       → IsProp (AreCubesOf u choice t r)
@@ -54,8 +54,9 @@ abbrev pub KnowsRoutes : List Label → Configuration → RouteCubes → Type 0
 KnowsRoutes u c routes =
     (choice : List ℕ) → IsWhole (sizes u) choice → AreCubesOf u choice c.root routes
 
--- At a choice none of some cubes is excluded; none of some siblings is certain, those with
--- `continue` left out unless all count; and no route is certain that stops what goes a way.
+-- What cubes say at a choice. None of some cubes is excluded. None of some siblings is certain;
+-- those with `continue` are ignored unless all count. No route is certain that stops an alert on a
+-- way.
 abbrev pub all_may_match : List ℕ → List (Bor MaskedLabels) → Bool
 all_may_match choice cubes = list_all (λ cube. may_match choice cube.now) cubes
 
@@ -71,7 +72,7 @@ abbrev pub nothing_stops : List ℕ → RouteWay → Bool
 nothing_stops choice way =
     none_before choice way.before.items && none_stops true choice way.children.now
 
--- A choice goes a way, by its cubes; and there is a way that it goes.
+-- A choice goes a way, by the cubes of the way. There is a way, and the choice goes it.
 abbrev pub goes : List ℕ → RouteWay → Bool
 goes choice way = all_may_match choice way.wanted.items && nothing_stops choice way
 
@@ -79,8 +80,8 @@ abbrev pub is_gone : List ℕ → Option RouteWay → Bool
 is_gone choice None = false
 is_gone choice (Some way) = goes choice way
 
--- It is the way to end at the route at a path: whichever configuration the cubes are of, a whole
--- choice goes it exactly where its label set ends there.
+-- This is the way to end at the route at a path: whatever configuration the cubes are of, a whole
+-- choice goes the way exactly if its label set ends at the route.
 abbrev pub IsWayToEnd : RouteCubes → List ℕ → Option RouteWay → Type 0
 IsWayToEnd routes path way =
     (u : List Label) (c : Configuration) → KnowsRoutes u c routes

@@ -1,4 +1,4 @@
--- The parts of `RouteEnds`, and what it is asked.
+-- The parts of `RouteEnds` that its contracts name.
 use Rattle.am_labels.specs.Space.{Space}
 use Rattle.am_config.specs.ConfigFile.{Configuration}
 use Rattle.am_config.specs.ConfigView.{config_view}

@@ -1,12 +1,12 @@
--- The parts of what refutes prefixes for the cubes of a way.
+-- The parts of the refuter of prefixes for the cubes of a way.
 use Rattle.std.specs.Prelude.{ℕ, List, Bool, ◌&&◌}
 use Rattle.am_search.specs.Judge.{AreSizes}
 use Rattle.am_first_sets.specs.declared.route_ends.RouteRefuter.{RouteRefuter}
 use Rattle.am_first_sets.specs.PossibleRefuter.{possible_sizes, possible_truth, possible_are_sizes}
 use Rattle.am_first_sets.specs.RouteCubes.{goes}
 
--- The sizes of its labels, that they are sizes, and which choices are true: those that go the way
--- and are possible.
+-- The sizes of its labels, the proof that they are sizes, and the choices that are true: those that
+-- go the way and are possible.
 abbrev pub refuter_sizes : RouteRefuter → List ℕ
 refuter_sizes refuter = possible_sizes refuter.possible.now
 

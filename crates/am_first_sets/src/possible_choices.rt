@@ -1,7 +1,7 @@
 //! The first label set of a space that is possible.
 //!
-//! The impossible lists of a space are a refuter by themselves. Other refuters use it beside cubes
-//! of their own.
+//! The impossible lists of a space are a refuter by themselves. Other refuters use it together with
+//! cubes of their own.
 
 ghost use Rattle.std.specs.Prelude.{◌≡◌, ◌↔◌, [], None, IfOk, IfSome, IfNone, slice_get, true};
 ghost use Rattle.std.proofs.Props.{props};
@@ -30,7 +30,7 @@ pub fn first_possible(alloc: Global, space: &Space) -> Result<Option<Choice>, Al
     Ok(first_by_jumps(&refuter))
 }
 
-/// Refutes prefixes of which no completion is possible in a space.
+/// Refutes prefixes without a completion that is possible in a space.
 #[derive(Drop)]
 pub struct PossibleRefuter<'a> {
     space: &'a Space,
@@ -49,7 +49,7 @@ impl<'a> PossibleRefuter<'a> {
         ensures space { IfOk result (λ refuter. possible_space refuter ≡ space.now) }
     {
         let universe = space.universe();
-        // What `len` promises tells the proof that the sizes are such as a refuter may have.
+        // The contract of `len` tells the proof that a refuter may have these sizes.
         prove!(universe.len() <= MAX_LABELS);
         let impossible = impossible_cubes(alloc, space)?;
         Ok(PossibleRefuter { space, impossible })
@@ -79,7 +79,8 @@ impl<'a> Refuter for PossibleRefuter<'a> {
     }
 }
 
-/// Why every completion of a prefix matches one of some impossible lists, if their cubes say so.
+/// Returns why every completion of a prefix matches one of the impossible lists, if their cubes say
+/// so.
 fn why_impossible(impossible: &[Cube], prefix: &Choice) -> Option<Labels>
     ensures some { IfSome result (λ labels.
         IsReasonAgainst (is_possible_by impossible.now) labels prefix.now) }

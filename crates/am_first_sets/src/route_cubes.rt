@@ -15,7 +15,7 @@ use am_search::Labels;
 use am_universe::{Choice, Universe};
 use std::alloc::{AllocError, Global};
 
-/// The matchers of a route as a cube, with its receiver and its `continue`, and the same of all
+/// The matchers of a route as a cube, with its receiver and its `continue`, and the same for all
 /// routes below it.
 #[derive(Drop)]
 pub struct RouteCubes {
@@ -25,9 +25,9 @@ pub struct RouteCubes {
     pub routes: Vec<RouteCubes>,
 }
 
-/// The way to end at a route: the cubes of the routes that have to be matched; for each of them but
-/// the first, the earlier siblings, of which those that lack `continue` must not be matched; and
-/// the children of the last, none of which may be matched.
+/// The way to end at a route. It has the cubes of the routes that must match. For each of these
+/// routes but the first it has the earlier siblings; those of them that lack `continue` must not
+/// match. It also has the children of the last route, and none of these may match.
 #[derive(Drop)]
 pub(crate) struct RouteWay<'a> {
     wanted: Vec<&'a Cube>,
@@ -53,8 +53,8 @@ impl RouteCubes {
         })
     }
 
-    /// The one way to end at the route at a path; `None` if there is no such route. Fails only if
-    /// memory runs out.
+    /// Returns the one way to end at the route at a path, or `None` if there is no such route.
+    /// Fails only if memory runs out.
     pub(crate) fn way_to_end<'a>(
         &'a self,
         alloc: Global,
@@ -84,7 +84,7 @@ impl RouteCubes {
     }
 }
 
-/// The same for each of some routes.
+/// Makes the cubes of each of some routes, and of all routes below them.
 #[cycle(cubes)]
 fn cubes_of_routes(
     alloc: Global,
@@ -103,8 +103,8 @@ fn cubes_of_routes(
 }
 
 impl<'a> RouteWay<'a> {
-    /// Why no completion of a prefix matches all that is wanted, where the cubes say so: the reason
-    /// against the first that is excluded.
+    /// Returns why no completion of a prefix matches all routes that must match, if the cubes say
+    /// so: the reason against the first that is excluded.
     pub(crate) fn why_not_wanted(&self, prefix: &Choice) -> Option<Labels>
         ensures some { IfSome result (λ labels.
             IsReasonAgainst (λ c. all_may_match c self.now.wanted.items) labels prefix.now) }
@@ -118,8 +118,8 @@ impl<'a> RouteWay<'a> {
         None
     }
 
-    /// Why each completion of a prefix matches a route that stops it, where the cubes say so: the
-    /// reason of the first that is certain.
+    /// Returns why each completion of a prefix matches a route that stops it, if the cubes say so:
+    /// the reason for the first such route that is certain.
     pub(crate) fn why_stopped(&self, prefix: &Choice) -> Option<Labels>
         ensures some { IfSome result (λ labels.
             IsReasonAgainst (λ c. nothing_stops c self.now) labels prefix.now) }
@@ -134,7 +134,7 @@ impl<'a> RouteWay<'a> {
     }
 }
 
-/// The same for one of some siblings: of those with `continue` only where all count.
+/// Returns the same for some siblings. Those with `continue` count only if `all` is true.
 fn why_one_stops(siblings: &[RouteCubes], all: bool, prefix: &Choice) -> Option<Labels>
     ensures some { IfSome result (λ labels.
         IsReasonAgainst (λ c. none_stops all c siblings.now) labels prefix.now) }

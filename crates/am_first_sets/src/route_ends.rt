@@ -62,7 +62,7 @@ impl<'a> RouteEnds<'a> {
     /// Returns the first choice of the space, in declared order, whose label set ends at the route
     /// at a path.
     ///
-    /// `None` if there is no such choice, or no such route. Fails only if memory runs out.
+    /// Returns `None` if there is no such choice, or no such route. Fails only if memory runs out.
     pub fn first_end(&self, alloc: Global, path: &Path) -> Result<Option<Choice>, AllocError>
         ensures first { IfOk result (λ found. found ≡ find (is_end_at (ends_space self.now).labels
             (ends_config self.now) path.now) (all_choices (ends_space self.now))) }
@@ -79,7 +79,7 @@ impl<'a> RouteEnds<'a> {
     }
 }
 
-/// Refutes prefixes of which no completion is possible and goes a way.
+/// Refutes prefixes without a completion that is possible and goes the way.
 #[derive(Drop)]
 struct RouteRefuter<'a> {
     possible: &'a PossibleRefuter<'a>,
@@ -104,8 +104,8 @@ impl<'a> Refuter for RouteRefuter<'a> {
         self.possible.size(i)
     }
 
-    // What is wanted comes first: a cube that is excluded names a single label, so that the search
-    // goes back further than where one that is not wanted is certain.
+    // The routes that must match come first. A cube that is excluded names at most one label, so
+    // the search goes back further than if a cube that must not match is certain.
     fn refute(&self, prefix: &Choice) -> Option<Labels> {
         if let Some(labels) = self.way.why_not_wanted(prefix) {
             return Some(labels);

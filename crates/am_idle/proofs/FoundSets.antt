@@ -1,5 +1,5 @@
--- What is found, or that nothing is, says whether some label set of a space matches a list, or
--- whether some does not.
+-- The result of a search says whether some label set of a space matches a list, or whether some
+-- label set does not match it.
 use Rattle.std.proofs.Common.{◌≡◌, ℕ, List, [], ◌∷◌, Bool, true, false, not, cond, Option, Some}
 use Rattle.std.proofs.Common.{None, refl, sym, ap, ◌∙◌, inl, inr, IfSome}
 use Rattle.std.specs.Prelude.{◌||◌, is_some}
@@ -28,7 +28,7 @@ allowed_where : (b : Bool) → not (is_no (cond b Yes No)) ≡ b
 allowed_where true = refl
 allowed_where false = refl
 
--- it is true at a choice where the list matches as is wanted
+-- a literal is true at a choice exactly if its list matches or not, as is wanted
 pub says_wanted : (wanted b : Bool) → cond wanted b (not b) ≡ true → b ≡ wanted
 says_wanted true b says = says
 says_wanted false true says = absurd (cc)

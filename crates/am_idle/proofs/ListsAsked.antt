@@ -1,4 +1,4 @@
--- What some lists of matchers ask of.
+-- Which labels some lists of matchers ask about.
 use Rattle.std.proofs.Common.{◌≡◌, ℕ, ◌+◌, List, [], ◌∷◌, ◌++◌, refl, ap, ◌∙◌}
 use Rattle.std.specs.List.{flat_map, filter, enumerate_from}
 use Rattle.std.proofs.lemmas.List.{map-append}
@@ -25,7 +25,7 @@ of_some i (ms ∷ lists) =
     (flat_map placed_by_list (enumerate_from (i + 1) lists))
     ∙ (λ j. at_one_place (origin_is.Rule i) ms j ++ of_some (i + 1) lists j)
 
--- the labels are those that the matchers ask of
+-- the labels are those that the matchers ask about
 pub lists_asked : (s : Space) (lists : List (List Condition))
     → IsAskedOf (labels_of_lists s lists) (deciding_conditions s lists)
 lists_asked s lists =

@@ -1,4 +1,4 @@
--- What is so of the label sets of a universe that is made for some lists is so of every alert.
+-- What is true of the label sets of a universe that is made for some lists is true of every alert.
 use Rattle.std.proofs.Common.{◌≡◌, List, [], ◌∷◌, refl, sym, ◌∙◌, subst}
 use Rattle.am_universe.specs.Universe.{Label}
 use Rattle.am_universe.specs.LabelSet.{LabelMap, label_set_of}

@@ -1,4 +1,4 @@
--- What is so where a universe is made beside a space without labels.
+-- What holds if a universe is made for a space without labels.
 use Rattle.std.proofs.Common.{◌≡◌, ◌≢◌, [], inl, inr}
 use Rattle.am_universe.specs.declared.kind.Kind.{Kind}
 use Rattle.am_universe.specs.declared.kind.Kind.TheVariants as kinds
@@ -10,7 +10,7 @@ use Rattle.am_idle.specs.Lists.{undeclared}
 pub undeclared_is : (s : Space) → s.labels ≡ [] → s ≡ undeclared s
 undeclared_is s none = λ i. record { labels = none i; impossible = s.impossible }
 
--- a fault that is not of memory is that there is no room
+-- a fault that is `Limit` or `Memory` is `Limit` if it is not `Memory`
 pub of_room : (kind : Kind) → IsLimitOrMemory kind → kind ≢ kinds.Memory → kind ≡ kinds.Limit
 of_room kind (inl limit) other = limit
 of_room kind (inr memory) other = absurd (other memory)

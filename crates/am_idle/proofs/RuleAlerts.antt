@@ -1,6 +1,7 @@
--- Two alerts that may meet in a rule have two choices that may meet and meet the same of its
--- matchers, and the label sets of such choices are alerts that may meet. So what is found of a rule
--- among the choices of a universe that stands for every alert is so of every alert.
+-- For two alerts that may meet in a rule there are two choices that may meet, and that meet the
+-- same of its matchers. The label sets of two such choices are alerts that may meet. So what is
+-- found of a rule among the choices of a universe that stands for every alert is true of every
+-- alert.
 use Rattle.std.proofs.Common.{◌≡◌, ◌<◌, ℕ, zero, suc, List, [], ◌∷◌, length, Bool, true, false, not}
 use Rattle.std.proofs.Common.{cond, Option, Some, None, refl, sym, ap, ◌∙◌, subst, inl, inr, arith}
 use Rattle.std.specs.Prelude.{◌&&◌, ◌||◌, ◌==◌, IsTrue, IfSome, slice_get}
@@ -61,7 +62,7 @@ shared_later (Some j) rest i is = rw is (or_true (i == j))
     or_true true = refl
     or_true false = refl
 
--- what is one of the labels is that of one of the names
+-- each of the labels has one of the names
 name_of_shared : (u : List Label) (names : List (List ℕ)) (i : ℕ)
     → is_shared (labels_named u names) i ≡ true
     → (name : List ℕ) × IsIn names name × (label_position u name ≡ Some i)
@@ -76,7 +77,7 @@ name_of_shared u (name ∷ names) i is = elim (cases_Bool (is_shared (labels_nam
   )
 ]
 
--- names with one position are one
+-- names with the same position are the same
 same_name : (u : List Label) (name other : List ℕ) (i : ℕ) → label_position u name ≡ Some i
     → label_position u other ≡ Some i → name ≡ other
 same_name u name other i is also =
@@ -154,7 +155,7 @@ module _ (u : List Label) (h : IsUniverse u) where
       (have_equal names (set_of c) (set_of d)) (same_value name c d first second parts.0)
       (equal_values names c d first second parts.1)
 
--- and the other way round, with one of the names
+-- label sets that agree in all of some names have the same value for each of them
 equal_at : (names : List (List ℕ)) (x y : LabelMap) (name : List ℕ)
     → have_equal names x y ≡ true → IsIn names name → value_of x name ≡ value_of y name
 equal_at [] x y name same there = absurd there
@@ -244,7 +245,7 @@ module _ (u : List Label) (h : IsUniverse u) (names : List (List ℕ)) (c d : Li
       ∙ same_itself_at (labels_named u names) partner
 
   module _ (x y : LabelMap) (equal : have_equal names x y ≡ true) where
-    -- of each matcher it meets what the second alert does
+    -- the partner meets each matcher exactly if the second alert does
     partner_meets : (m : Condition)
         → condition_holds (label_set_of u c) m ≡ condition_holds x m
         → condition_holds (label_set_of u d) m ≡ condition_holds y m
@@ -288,7 +289,7 @@ module _ (u : List Label) (h : IsUniverse u) (names : List (List ℕ)) (c d : Li
 
 -- ---- What is so of pairs.
 
--- what an alert is, each label set is that meets the same of a list
+-- a property that passes from an alert to each label set that meets the same of a list
 abbrev IsToldBy : List Condition → (LabelMap → Type 0) → Type 0
 IsToldBy ms Is = (set alert : LabelMap) → MeetsTheSame ms set alert → Is alert → Is set
 
@@ -362,7 +363,7 @@ module _ (rule : Rule) where
       | inr is_not ↦ is_not
     ]
 
-    -- why there are none shows that the rule is idle
+    -- the reason why there are none shows that the rule is idle
     pub idle_by : (reason : IdleReason) → IsWhyNone (MayMeet a s rule) rule reason
         → IsIdle a s rule
     idle_by (reason_is.Contradiction source target) why =
@@ -517,7 +518,7 @@ module _ (rule : Rule) where
       found_over (Some reason) why =
           let over = why_over reason why in (idle_by reason over, over)
 
--- the positions that are told are positions in the sides
+-- the positions in a reason are positions in the sides
 pub positions_told : (a : Alphabet) (s : Space) (rule : Rule) (finding : Option IdleReason)
     → IsRuleFinding a s rule finding → HasPositionsIfAny rule finding
 positions_told a s rule None is = tt

@@ -169,7 +169,7 @@ module _ (s : Space) where
   abbrev u : List Label
   u = s.labels
 
-  -- a literal of a list that is wanted is true where the list matches
+  -- a literal is true at a choice exactly if its list matches or not, as is wanted
   says_list : (ms : List Condition) (k : Candidate) (wanted : Bool) (c : List ℕ)
       → k.wanted ≡ wanted → IsCubeOf u ms k.cube.now → IsWhole (sizes u) c → holds_at c k ≡ true
       → all_hold (label_set_of u c) ms ≡ wanted
@@ -250,7 +250,7 @@ module _ (s : Space) where
   abbrev named_of : List Candidate → List ℕ
   named_of ks = positions_where (λ k. k.named) 0 ks
 
-  -- the literal at a position that is named
+  -- a literal is named at each named position
   named_at : (ms : List Condition) (ks : List Candidate) (i : ℕ) → AreLiteralsOf u ms ks
       → Contains (named_of ks) i
       → (k : Candidate) × (slice_get ks i ≡ Some k) × (k.named ≡ true)
@@ -433,7 +433,7 @@ module _ (s : Space) where
       not_left : (b d : Bool) → b ≡ false → (b && d) ≡ false
       not_left b d e = ap (λ x. x && d) e
 
-      -- the first does not match the target side, or the second not the source side
+      -- the first does not match the target side, or the second does not match the source side
       pub first_spared : ArePaired s shared (source ∷ other_target ∷ []) (target ∷ [])
           → SomeInhibit Meet rule
       first_spared (c, d, pair) =
@@ -527,7 +527,7 @@ module _ (s : Space) where
               ≡ false
           spared = (λ i. is_two_sided rule (sym is i) && is_two_sided rule (sym also i)) ∙ not_both
 
--- the literals of a side, by what the calls say that make them
+-- the literals of a side, from the contracts of the calls that make them
 pub side_literals : (s : Space) (v : List Label) (ms given : List Condition)
     (cubes view : List MaskedLabels) (items ks : List Candidate) → v ≡ s.labels → given ≡ ms
     → AreCubesOfMatchers v given cubes → view ≡ cubes → AreWantedFor view items → ks ≡ items
@@ -553,7 +553,7 @@ contradict_as s names shared named rule ks ls after also first second same other
     (contradict s names shared named rule after also (same_literals s rule.source ks after first same)
     (same_literals s rule.target ls also second other) reason)
 
--- what follows from what is found, or from there being nothing
+-- what follows if something is found, and if nothing is
 pub weaker_some : {X E : Type 0} (r : Result (Option X) E) (P Q : X → Type 0)
     → ((x : X) → P x → Q x) → IfOk r (λ found. IfSome found P) → IfOk r (λ found. IfSome found Q)
 weaker_some (Err e) P Q so h = tt
@@ -583,7 +583,7 @@ cube_as v w given ms cube labels is h =
 
 -- ---- Names, one after another.
 
--- the labels of one name more
+-- one more name adds its label, if it is declared
 pub name_step : (v : List Label) (texts : List (String Global)) (i : ℕ) (text : String Global)
     (name : List ℕ) (found : Option ℕ) (old : List ℕ) → i < length texts
     → text ≡ get_or texts i text → name ≡ string_bytes text → found ≡ label_position v name

@@ -1,4 +1,4 @@
--- The text of why a rule is idle, piece by piece.
+-- The text that says why a rule is idle, piece by piece.
 use Rattle.std.proofs.Common.{◌≡◌, ℕ, List, [], ◌∷◌, ◌++◌, length, codes, cond, true, false}
 use Rattle.std.proofs.Common.{refl, sym, ap, append_assoc, Result, Some, arith}
 use Rattle.std.specs.Prelude.{◌==◌, slice_get}
@@ -20,7 +20,7 @@ not_empty : {X : Type 0} (x : X) (xs : List X) → (length (x ∷ xs) == 0) ≡ 
 not_empty x xs is =
     let e = eqb-true (length (x ∷ xs)) 0 is in absurd (omega (arith, e))
 
--- which text it is, by whether matchers are named
+-- which text it is depends on whether matchers are named
 pub target_named : (rule : Rule) (sources targets : List ℕ) → (length sources == 0) ≡ true
     → (length targets == 0) ≡ false → contradiction_text rule sources targets
     ≡ codes "no alert matches target " ++ matchers_text_at rule.target targets

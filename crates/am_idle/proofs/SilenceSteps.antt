@@ -1,4 +1,4 @@
--- Silences one after another: what is so of those before a position, and of the one that stands
+-- Silences one after another: what holds for those before a position, and for the one that is
 -- there.
 use Rattle.std.proofs.Common.{◌≡◌, ◌<◌, ◌+◌, ℕ, zero, suc, List, [], ◌∷◌, ◌++◌, length, take, Some}
 use Rattle.std.proofs.Common.{Bool, true, false, refl, sym, ap, ◌∙◌, subst, slice_get, inl, inr, arith}
@@ -29,7 +29,7 @@ zip_push R [] (z ∷ ys) x y all last = absurd all
 zip_push R (z ∷ xs) [] x y all last = absurd all
 zip_push R (z ∷ xs) (w ∷ ys) x y all last = (all.0, zip_push R xs ys x y all.1 last)
 
--- what stands in two lists up to a position, and there, stands in them up to the next
+-- what holds for two lists before a position, and at it, holds before the next position
 pub zip_more : {A B : Type 0} (R : A → B → Type 0) (xs : List A) (i : ℕ) (x : A) (y : B)
     (ys zs : List B) → slice_get xs i ≡ Some x → zs ≡ ys ++ y ∷ [] → AllZip R (take i xs) ys
     → R x y → AllZip R (take (i + 1) xs) zs
@@ -46,7 +46,7 @@ any_pushed test (y ∷ xs) x none fails = elim (cases_Bool (test y)) [
   | inr other ↦ rw other (any_pushed test xs x (rw other at none) fails)
 ]
 
--- none up to a position passes, and what stands there does not, so none up to the next does
+-- if no item before a position passes a test, nor the one at it, none before the next position does
 pub none_more : {X : Type 0} (test : X → Bool) (xs : List X) (i : ℕ) (x : X)
     → slice_get xs i ≡ Some x → list_any test (take i xs) ≡ false → test x ≡ false
     → list_any test (take (i + 1) xs) ≡ false
@@ -55,7 +55,7 @@ none_more test xs i x at none fails =
 
 -- ---- Silences.
 
--- two spaces are one that declare no label, and of which the same is impossible
+-- two spaces are the same if neither declares a label and the same is impossible for both
 pub same_space : (s t : Space) → s.labels ≡ [] → t.labels ≡ [] → s.impossible ≡ t.impossible
     → s ≡ t
 same_space s t none other same = λ i. record { labels = (none ∙ sym other) i; impossible = same i }
@@ -72,7 +72,7 @@ extent_here Occurs silences read position got silence ms extent same at is there
     subst (λ (ns : List Condition). IsExtent Occurs ns extent)
     (is ∙ ap (λ (x : Silence). x.matchers) one) reaches
 
--- what is false hides nothing
+-- a conjunction with a false part is false
 pub and_false : (p q : Bool) → q ≡ false → (p && q) ≡ false
 and_false true q fails = fails
 and_false false q fails = refl

@@ -1,5 +1,5 @@
--- Which of the label sets that occur a list of matchers matches. Which occur is handed in: those of
--- the choices of a space, or those that alerts may have. (This project's own.)
+-- Which of the label sets that occur a list of matchers matches. A parameter says which occur:
+-- those of the choices of a space, or those that alerts may have. (This project's own.)
 use Rattle.std.specs.Prelude.{◌≡◌, ℕ, List, Bool, IsTrue, IsFalse}
 use Rattle.am_universe.specs.LabelSet.{LabelMap, label_set_of}
 use Rattle.am_labels.specs.Matcher.{Condition, all_hold}
@@ -16,7 +16,7 @@ abbrev pub HasSet : Space → List Condition → Bool → Type 0
 HasSet s ms wanted = (choice : List ℕ) × IsChoiceOf s choice
     × (all_hold (label_set_of s.labels choice) ms ≡ wanted)
 
--- A list matches none of the label sets that occur; it matches each; it matches one; and there is
+-- A list matches none of the label sets that occur, or each of them, or at least one. Or there is
 -- one that it does not match.
 -- Source: Alertmanager configuration reference 0.25, "<matcher>": all matchers of a list have to
 -- match.
@@ -34,9 +34,10 @@ MatchesOne Occurs ms = (set : LabelMap) × Occurs set × IsTrue (all_hold set ms
 abbrev pub SparesOne : (LabelMap → Type 0) → List Condition → Type 0
 SparesOne Occurs ms = (set : LabelMap) × Occurs set × IsFalse (all_hold set ms)
 
--- How far a list reaches. Where nothing occurs, it matches none.
+-- How far a list reaches: whether it matches none, each or some of the label sets that occur. If
+-- nothing occurs, it matches none.
 -- Source: own choice.
--- Example: where every alert counts, `team="db"` matches some alerts and spares others.
+-- Example: if every alert counts, `team="db"` matches some alerts, but not all.
 abbrev pub IsExtent : (LabelMap → Type 0) → List Condition → Extent → Type 0
 IsExtent Occurs ms extent_is.NoAlert = MatchesNone Occurs ms
 IsExtent Occurs ms extent_is.EachAlert = MatchesOne Occurs ms × MatchesEach Occurs ms

@@ -16,7 +16,7 @@ use Rattle.am_complete.specs.Covering.{HasTextsOver, CoversEachBut}
 use Rattle.am_complete.specs.Room.{HaveNoRoom, AreUnproved}
 use Rattle.am_asked.specs.Placed.{placed_at, placed_in_lists}
 
--- The same is impossible as of a space, and no label is declared.
+-- A space in which the same is impossible as in the given one, and no label is declared.
 abbrev pub undeclared : Space → Space
 undeclared s = record { labels = []; impossible = s.impossible }
 
@@ -28,51 +28,51 @@ listed_conditions lists = flat_map (λ ms. ms) lists
 
 -- The matchers that decide: those of some lists, and those that say what is impossible.
 -- Source: own choice.
--- Example: of the list `team="db"`, where nothing is impossible, it is this matcher alone.
+-- Example: for the list `team="db"`, if nothing is impossible, it is this matcher alone.
 abbrev pub deciding_conditions : Space → List (List Condition) → List Condition
 deciding_conditions s lists = listed_conditions lists ++ impossible_conditions s.impossible
 
--- The matchers of some lists, each with the position of its list, as if that were a rule; no fault
--- tells it.
+-- The matchers of some lists, each with the position of its list as its origin, as if the list were
+-- a rule. No fault shows this origin.
 abbrev pub placed_by_list : ℕ × List Condition → List (Origin × Condition)
 placed_by_list list = placed_at (origin_is.Rule list.0) list.1
 
 abbrev pub placed_by_lists : List (List Condition) → List (Origin × Condition)
 placed_by_lists lists = flat_map placed_by_list (enumerate_from 0 lists)
 
--- The labels that these ask of, in the order of the lists, and then those that the impossible lists
--- ask of.
+-- The labels that some lists ask about, in the order of the lists, followed by those that the
+-- impossible lists ask about.
 -- Source: own choice.
--- Example: of `team="db",env=""` and `team="web"` they are `team`, with two matchers, and `env`.
+-- Example: for `team="db",env=""` and `team="web"` they are `team`, with two matchers, and `env`.
 abbrev pub labels_of_lists : Space → List (List Condition) → List AskedLabel
 labels_of_lists s lists = asked_labels (placed_by_lists lists ++ placed_in_lists s.impossible)
 
 -- ---- What is made.
 
--- The same is impossible as of a space, and the labels are those of a universe.
+-- A space in which the same is impossible as in the given one, with the labels of a universe.
 abbrev pub made_space : Space → List Label → Space
 made_space s u = record { labels = u; impossible = s.impossible }
 
--- A universe stands for every alert over an alphabet, beside the impossible lists of a space: it is
--- complete for some lists and these, and its own texts are over the alphabet.
+-- A universe stands for every alert over an alphabet, for some lists and the impossible lists of a
+-- space: it is complete for all these lists, and its texts are over the alphabet.
 -- Source: own choice.
--- Example: for the list `team="db"`, over each alphabet, that with `team`, which may be absent or
--- `db`, does; it does not where `team` is always `db`.
+-- Example: for the list `team="db"`, over each alphabet, a universe does if it has only the label
+-- `team`, which may be absent or `db`. It does not if `team` is always `db`.
 pub record StandsForLists (a : Alphabet) (s : Space) (lists : List (List Condition))
     (u : List Label) : Type 0 where
   pub universe : IsUniverse u
   pub complete : IsSpaceComplete a (made_space s u) (deciding_conditions s lists)
   pub over : HasTextsOver a u
 
--- None is made, since there is no room for the labels that are asked of.
+-- No universe is made, because there is no room for the labels that are asked about.
 -- Source: own choice.
--- Example: it is so where a list has 65 matchers `=`, each on another label.
+-- Example: this is so if a list has 65 matchers with `=`, each for another label.
 abbrev pub HaveListsNoRoom : Alphabet → Space → List (List Condition) → Type 0
 HaveListsNoRoom a s lists = HaveNoRoom a (undeclared s) (labels_of_lists s lists)
 
--- None is made, since some labels are unproved, though there is room for the others.
+-- No universe is made, because some labels are unproved, though there is room for the others.
 -- Source: own choice.
--- Example: it may be so where a list has `team=~"\bdb"`.
+-- Example: this may be so if a list has `team=~"\bdb"`.
 pub record AreListsUnproved (a : Alphabet) (s : Space) (lists : List (List Condition))
     : Type 0 where
   pub unproved : List ℕ
@@ -81,7 +81,7 @@ pub record AreListsUnproved (a : Alphabet) (s : Space) (lists : List (List Condi
   pub room : (u : List Label) × IsUniverse u
       × CoversEachBut a s.impossible u (labels_of_lists s lists) unproved
 
--- None is made, and the kind says for which of these reasons.
+-- No universe is made, and the kind says for which of these reasons.
 abbrev pub IsRefusalForLists : Alphabet → Space → List (List Condition) → Kind → Type 0
 IsRefusalForLists a s lists kind =
     ((kind ≡ kinds.Limit) × HaveListsNoRoom a s lists)

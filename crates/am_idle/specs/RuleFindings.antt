@@ -1,5 +1,5 @@
--- What is to be said of each of some inhibition rules, and which of them is refused first. (This
--- project's own.)
+-- Which of some inhibition rules is refused first, and how many findings there are. (This project's
+-- own.)
 use Rattle.std.specs.Prelude.{◌≡◌, ℕ, List, [], ◌∷◌, Option, Some, slice_get, take, count_by}
 use Rattle.std.specs.Prelude.{is_some}
 use Rattle.std.specs.List.{AllByRecursion}
@@ -18,14 +18,14 @@ sides_of rule = rule.source ∷ rule.target ∷ []
 
 -- A rule is not refused: there is a universe that stands for every alert, for its two sides.
 -- Source: own choice.
--- Example: one with `team="db"` and `team="web"` is not, where nothing is impossible.
+-- Example: a rule with the sides `team="db"` and `team="web"` is not, if nothing is impossible.
 abbrev pub IsRuleAccepted : Alphabet → Space → Rule → Type 0
 IsRuleAccepted a s rule = (u : List Label) × StandsForLists a s (sides_of rule) u
 
--- The first rule that is refused is the one at a position, as of this kind.
+-- The first rule that is refused is the one at a position, and the kind says why it is refused.
 -- Source: own choice.
--- Example: where the second of three has 65 matchers `=`, each on another label, it is the one at
--- 1, as `limit`.
+-- Example: if the first of three rules is not refused, and the second has 65 matchers with `=`,
+-- each for another label, it is the one at 1, as `limit`.
 pub record IsFirstRefusedRule (a : Alphabet) (s : Space) (rules : List Rule) (position : ℕ)
     (kind : Kind) : Type 0 where
   pub rule : Rule
@@ -33,8 +33,8 @@ pub record IsFirstRefusedRule (a : Alphabet) (s : Space) (rules : List Rule) (po
   pub before : AllByRecursion (IsRuleAccepted a s) (take position rules)
   pub refused : IsRefusalForLists a s (sides_of rule) kind
 
--- The findings among what is said of rules.
+-- The number of findings among what is said of rules.
 -- Source: own choice.
--- Example: of an idle rule and one of which nothing is said there is one.
+-- Example: for an idle rule and a rule of which nothing is said it is 1.
 abbrev pub count_idle_rules : List (Option IdleReason) → ℕ
 count_idle_rules found = count_by is_some found

@@ -9,10 +9,10 @@ use Rattle.am_idle.specs.declared.rules.IdleReason.{IdleReason}
 use Rattle.am_idle.specs.declared.rules.IdleReason.TheVariants as reason_is
 use Rattle.am_idle.specs.Rules.{AreWithin}
 
--- The matcher at a position of a list; and the matchers at some positions, in braces, with a comma
--- between each two.
+-- The text of the matcher at a position of a list, and of the matchers at some positions, in braces
+-- and with a comma between each two.
 -- Source: Alertmanager configuration reference 0.25, "<matcher>".
--- Example: of `team="db",env="prod",team="web"` those at 0 and 2 are `{team="db",team="web"}`.
+-- Example: for `team="db",env="prod",team="web"` those at 0 and 2 are `{team="db",team="web"}`.
 abbrev pub text_if_any : Option Condition → List ℕ
 text_if_any None = []
 text_if_any (Some m) = matcher_text m
@@ -24,8 +24,8 @@ abbrev pub matchers_text_at : List Condition → List ℕ → List ℕ
 matchers_text_at ms positions =
     codes "{" ++ (texts_behind (codes "") (codes ",") (matcher_text_at ms) positions ++ codes "}")
 
--- The matchers of the two sides that contradict each other. Where none is to blame, no alert occurs
--- at all.
+-- The text of the matchers of the two sides that contradict each other. If none is to blame, no
+-- alert is possible at all.
 -- Source: own choice.
 -- Example: `source {severity="critical"} and target {severity="warning"} exclude each other through
 -- equal`.
@@ -47,7 +47,7 @@ idle_text rule (reason_is.Contradiction source target) =
 idle_text rule reason_is.Both =
     codes "each two alerts that match source and target match both sides"
 
--- The line of the rule at a position; nothing where nothing is said of it.
+-- The line of the rule at a position, or nothing if nothing is said of it.
 -- Source: own choice.
 -- Example: `rule 3 idle: no alert matches source {team="db",team="web"}`.
 abbrev pub rule_line : ℕ → Rule → Option IdleReason → List ℕ

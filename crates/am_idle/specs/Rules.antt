@@ -1,4 +1,4 @@
--- What is to be said of inhibition rules, for every alert. (This project's own.)
+-- What is said of inhibition rules, and when it is true of all alerts. (This project's own.)
 use Rattle.std.specs.Prelude.{◌≡◌, ◌≢◌, ◌<◌, ℕ, List, length, ◌&&◌, Option, Some, None, Contains}
 use Rattle.std.specs.Prelude.{slice_get, IsTrue, IsFalse}
 use Rattle.std.specs.List.{AllByRecursion}
@@ -19,24 +19,24 @@ use Rattle.am_idle.specs.declared.rules.IdleReason.TheVariants as reason_is
 -- Two alerts may meet in a rule: both occur, and they have the same values for the labels in
 -- `equal`.
 -- Source: Alertmanager configuration reference 0.25, "<inhibit_rule>": `equal`.
--- Example: where `equal` is `severity`, no critical alert and warning may; where it is `team`, two
--- alerts without a team may.
+-- Example: if `equal` is `severity`, a critical alert and a warning may not meet. If it is `team`,
+-- two alerts without a team may.
 abbrev pub MayMeet : Alphabet → Space → Rule → LabelMap → LabelMap → Type 0
 MayMeet a s rule x y =
     IsAlertOf a s x × IsAlertOf a s y × IsTrue (have_equal rule.equal x y)
 
--- Of two label sets that may meet the first is such, and the second so. Which may meet is handed
--- in.
+-- There are two label sets that may meet, the first with one property and the second with another.
+-- A parameter says which may meet.
 abbrev pub SomeMeet :
     (LabelMap → LabelMap → Type 0) → (LabelMap → Type 0) → (LabelMap → Type 0) → Type 0
 SomeMeet Meet First Second =
     (x : LabelMap) × (y : LabelMap) × Meet x y × First x × Second y
 
--- The same where the first matches the source side of a rule and the second the target side, and
--- not both match both.
+-- There are two label sets that may meet: the first matches the source side of a rule, the second
+-- matches the target side, and the two do not both match both sides.
 -- Source: Alertmanager configuration reference 0.25, "<inhibit_rule>": an alert that matches both
 -- sides cannot be inhibited by alerts for which the same is true.
--- Example: where both sides ask for any severity there are no such two.
+-- Example: if both sides ask for any severity, there are no two such label sets.
 abbrev pub SomeInhibit : (LabelMap → LabelMap → Type 0) → Rule → Type 0
 SomeInhibit Meet rule =
     (x : LabelMap) × (y : LabelMap) × Meet x y
@@ -45,11 +45,11 @@ SomeInhibit Meet rule =
 
 -- ---- Matchers that are to blame.
 
--- A label set matches a list; it meets the matchers at some positions of a list; and all of these
--- but one.
+-- A label set matches a list. It meets the matchers at some positions of a list, or all of these
+-- except one.
 -- Source: own choice.
--- Example: `{team="db"}` meets that at 1 of `env="prod",team="db"`, and all of those at 0 and 1 but
--- that at 0.
+-- Example: `{team="db"}` meets the matcher at 1 of `env="prod",team="db"`. Of those at 0 and 1 it
+-- meets all except the one at 0.
 abbrev pub Matches : List Condition → LabelMap → Type 0
 Matches ms set = IsTrue (all_hold set ms)
 
@@ -67,13 +67,15 @@ MeetsAtBut ms positions but set =
 abbrev pub AreWithin : List Condition → List ℕ → Type 0
 AreWithin ms positions = AllByRecursion (λ i. i < length ms) positions
 
--- Some matchers of the source side and some of the target side contradict each other: no two label
--- sets that may meet are such that the first meets those of the source and the second those of the
--- target; and without any of them there are such two. They are given by their positions, in order.
--- Source: own choice; in logic what is enough and needed so is a minimal unsatisfiable set.
--- Example: where `equal` is `severity`, `severity="critical"` of the source and
--- `severity="warning"` of the target do, and no other matcher is among them. Where no alert is
--- possible it is so without any matcher.
+-- Some matchers of the source side and some of the target side contradict each other: there are no
+-- two label sets that may meet such that the first meets those of the source side and the second
+-- those of the target side. If any one of these matchers is left out, there are two. The matchers
+-- are given by their positions, in order.
+-- Source: own choice; logic calls what is enough and needed in this way a minimal unsatisfiable
+-- set.
+-- Example: if `equal` is `severity`, `severity="critical"` of the source side and
+-- `severity="warning"` of the target side do, and no other matcher is among them. If no alert is
+-- possible, both lists of positions are empty.
 pub record Contradict (Meet : LabelMap → LabelMap → Type 0) (rule : Rule)
     (sources targets : List ℕ) : Type 0 where
   pub in_source : AreWithin rule.source sources
@@ -88,8 +90,8 @@ pub record Contradict (Meet : LabelMap → LabelMap → Type 0) (rule : Rule)
 
 -- ---- What is said of a rule.
 
--- Why there are no two by a rule: matchers that contradict each other; or there are two that match
--- the sides, and each such two both match both.
+-- Why no label set inhibits another by a rule. Either matchers contradict each other. Or two label
+-- sets that may meet match one side each, but any two that do both match both sides.
 -- Source: own choice.
 -- Example: with `team="db"` on both sides it is the second.
 abbrev pub IsWhyNone : (LabelMap → LabelMap → Type 0) → Rule → IdleReason → Type 0
@@ -98,19 +100,19 @@ IsWhyNone Meet rule (reason_is.Contradiction source target) =
 IsWhyNone Meet rule reason_is.Both =
     SomeMeet Meet (Matches rule.source) (Matches rule.target) × (SomeInhibit Meet rule → ⊥)
 
--- A rule is idle: by it no alert inhibits another, whatever fires.
+-- A rule is idle: no alert inhibits another by it, whatever fires.
 -- Source: Alertmanager configuration reference 0.25, "<inhibit_rule>".
--- Example: one whose `equal` is `severity` is, where its source asks for `severity="critical"` and
--- its target for `severity="warning"`.
+-- Example: a rule whose `equal` is `severity` is idle if its source side asks for
+-- `severity="critical"` and its target side for `severity="warning"`.
 abbrev pub IsIdle : Alphabet → Space → Rule → Type 0
 IsIdle a s rule =
     (x y : LabelMap) → IsAlertOf a s x → IsAlertOf a s y → IsFalse (inhibits rule x y)
 
--- What is said of a rule is so. Nothing is said where by it some alert inhibits another; else it is
--- idle, for this reason.
+-- What is said of a rule is true. Nothing is said if some alert inhibits another by the rule.
+-- Otherwise the rule is idle, for this reason.
 -- Source: own choice.
--- Example: of a rule without matchers and without `equal` it is said that it is idle, since each
--- two alerts match both sides.
+-- Example: a rule without matchers and without `equal` is said to be idle, because any two alerts
+-- match both sides.
 abbrev pub IsRuleFinding : Alphabet → Space → Rule → Option IdleReason → Type 0
 IsRuleFinding a s rule None =
     (x : LabelMap) × (y : LabelMap) × IsAlertOf a s x × IsAlertOf a s y × IsTrue (inhibits rule x y)

@@ -1,4 +1,4 @@
--- What is to be said of silences, for every alert. (This project's own.)
+-- What is said of silences, and when it is true of all alerts. (This project's own.)
 use Rattle.std.specs.Prelude.{◌≡◌, ◌⊎◌, ℕ, List, [], ◌∷◌, Bool, not, ◌&&◌, Option, Some, None}
 use Rattle.std.specs.Prelude.{IsTrue, IsFalse, slice_get, take, count_by, true, false}
 use Rattle.std.specs.List.{list_any, AllByRecursion}
@@ -17,18 +17,18 @@ use Rattle.am_idle.specs.Extent.{MatchesNone, MatchesEach, MatchesOne, SparesOne
 
 -- A silence is unused in a world: it is active, and hides none of the alerts that fire.
 -- Source: own choice.
--- Example: an active silence with `team="ops"` is, where only `{team="db"}` fires; one that has not
--- begun is not.
+-- Example: an active silence with `team="ops"` is unused if only `{team="db"}` fires. One that has
+-- not begun is not.
 abbrev pub is_unused : World → Silence → Bool
 is_unused w silence =
     is_active w.instant silence && not (list_any (λ alert. hides w alert silence) w.alerts)
 
--- What is said of a silence is so. Nothing is said where it is over, or where some alert that
--- occurs meets all its matchers and another does not, unless it is unused. It is idle where no
--- alert meets them, and all where each does. Whether a file of alerts is given is handed in.
--- Source: Alertmanager documentation 0.25, "Silences". Own choice: what is said of one that has not
--- begun is what will be so; where no alert occurs at all it is idle.
--- Example: one with `team="db"` and `team="web"` is idle; one with `team=~"(?s).*"` is all.
+-- What is said of a silence is true. Nothing is said if it is over, or if some alert that occurs
+-- meets all its matchers and another does not, unless it is unused. It is idle if no alert meets
+-- them, and all if each alert does. A parameter says whether a file of alerts is given.
+-- Source: Alertmanager documentation 0.25, "Silences". Own choice: what is said of a silence that
+-- has not begun is what will be true; if no alert is possible at all, a silence is idle.
+-- Example: a silence with `team="db"` and `team="web"` is idle; one with `team=~"(?s).*"` is all.
 abbrev pub IsSilenceFinding :
     Alphabet → Space → World → Bool → Silence → Option SilenceFinding → Type 0
 IsSilenceFinding a s w given silence None =
@@ -49,7 +49,7 @@ IsSilenceFinding a s w given silence (Some finding_is.Unused) =
 -- A silence is not refused: it is over, or there is a universe that stands for every alert, for its
 -- matchers.
 -- Source: own choice.
--- Example: one with `team="db"` alone is not, where nothing is impossible.
+-- Example: a silence with `team="db"` alone is not refused, if nothing is impossible.
 abbrev pub IsAccepted : Alphabet → Space → World → Silence → Type 0
 IsAccepted a s w silence =
     IsTrue (is_over w.instant silence)
@@ -57,14 +57,14 @@ IsAccepted a s w silence =
 
 -- A silence is refused: it is not over, and no universe is made for its matchers, for this reason.
 -- Source: own choice.
--- Example: one with 65 matchers `=`, each on another label, is refused as `limit`.
+-- Example: a silence with 65 matchers with `=`, each for another label, is refused as `limit`.
 abbrev pub IsSilenceRefused : Alphabet → Space → World → Silence → Kind → Type 0
 IsSilenceRefused a s w silence kind =
     IsFalse (is_over w.instant silence) × IsRefusalForLists a s (silence.matchers ∷ []) kind
 
 -- The first silence that is refused is the one at a position.
 -- Source: own choice.
--- Example: where the first of three is over and the second refused, it is the one at 1.
+-- Example: if the first of three silences is over and the second is refused, it is the one at 1.
 pub record IsFirstRefused (a : Alphabet) (s : Space) (w : World) (position : ℕ) (kind : Kind)
     : Type 0 where
   pub silence : Silence
@@ -74,7 +74,7 @@ pub record IsFirstRefused (a : Alphabet) (s : Space) (w : World) (position : ℕ
 
 -- ---- How many there are.
 
--- What is said of a silence is a finding where it is idle or all, and a note where it is unused.
+-- What is said of a silence is a finding if it is idle or all, and a note if it is unused.
 abbrev pub is_silence_finding : Option SilenceFinding → Bool
 is_silence_finding None = false
 is_silence_finding (Some finding_is.Idle) = true
@@ -87,10 +87,9 @@ is_silence_note (Some finding_is.Idle) = false
 is_silence_note (Some finding_is.All) = false
 is_silence_note (Some finding_is.Unused) = true
 
--- The findings among what is said of silences, and the notes.
+-- The number of findings among what is said of silences, and the number of notes.
 -- Source: own choice.
--- Example: of an idle silence, one of which nothing is said and an unused one there is one finding
--- and one note.
+-- Example: for an idle silence, one of which nothing is said and an unused one, both are 1.
 abbrev pub count_silence_findings : List (Option SilenceFinding) → ℕ
 count_silence_findings found = count_by is_silence_finding found
 

@@ -1,7 +1,7 @@
 //! Which of all alerts a list of matchers matches.
 //!
-//! Two searches tell: one for a label set that the list matches, and one for a label set that it
-//! does not match.
+//! Two searches decide this: one for a label set that the list matches, and one for a label set
+//! that it does not match.
 
 ghost use Rattle.std.specs.Prelude.{◌≡◌, ◌≢◌, [], ◌∷◌, List, false, IfOk, IfErr, OnOk, IsTrue};
 ghost use Rattle.am_universe.specs.declared.kind.Kind.TheVariants as kinds;
@@ -33,8 +33,8 @@ pub(crate) enum Extent {
     SomeAlerts,
 }
 
-/// Finds which alerts over an alphabet a list matches, of those that no impossible list of a space
-/// matches. The space declares no label, before and after.
+/// Finds which alerts over an alphabet a list matches, among those that no impossible list of a
+/// space matches. The space declares no label, before and after.
 ///
 /// Fails with `Limit`, `Unproved` and `Memory` as [`universe_for_lists`] does.
 pub(crate) fn extent_of(
@@ -74,8 +74,8 @@ fn extent_in(alloc: Global, space: &Space, matchers: &Matchers) -> Result<Extent
     Ok(Extent::SomeAlerts)
 }
 
-/// Whether a list matches a label set of a space, if `wanted`, or does not match one. The cube is
-/// that of the list.
+/// Whether a space has a label set that a list matches, if `wanted`, or one that the list does not
+/// match, if not. `cube` is the cube of the list.
 fn has_set(possible: &PossibleRefuter<'_>, cube: &Cube, wanted: bool) -> bool
     ensures some { (ms : List Condition)
         → IsCubeOf (possible_space possible.now).labels ms cube.now

@@ -17,8 +17,8 @@ ghost use Rattle.am_idle.specs.declared.rules.IdleReason.{IdleReason};
 ghost use Rattle.am_idle.specs.Rules.{MayMeet, IsWhyNone, IsIdle};
 
 /// A universe that stands for some lists of matchers stands for every alert. Each alert of the
-/// space over the alphabet, whatever labels it has, meets the same of the lists as the label set of
-/// some choice. The label set of each choice is such an alert.
+/// space over the alphabet, whatever labels it has, meets the same matchers of the lists as the
+/// label set of some choice. The label set of each choice is such an alert.
 pub fn a_universe_for_lists_stands_for_every_alert()
     ensures choice { (a : Alphabet) (s : Space) (lists : List (List Condition)) (u : List Label)
         (alert : LabelMap) → StandsForLists a s lists u → IsAlertOf a s alert
@@ -29,8 +29,8 @@ pub fn a_universe_for_lists_stands_for_every_alert()
         → IsAlertOf a s (label_set_of u choice) }
 {}
 
-/// An idle silence hides no alert of the space over the alphabet, at any instant. A silence of
-/// which `All` is said hides each of them at each instant at which it is active.
+/// An idle silence hides no alert of the space over the alphabet, at any instant. A silence that is
+/// found to be `All` hides each of these alerts at each instant at which it is active.
 pub fn an_idle_silence_hides_no_alert()
     ensures idle { (a : Alphabet) (s : Space) (w : World) (given : Bool) (silence : Silence)
         (instant : ℤ) (alert : LabelMap)
@@ -43,9 +43,9 @@ pub fn an_idle_silence_hides_no_alert()
         → IsTrue (hides (at_instant w instant) alert silence) }
 {}
 
-/// The reason that is given for an idle rule shows that it is idle: by it no alert inhibits
-/// another. Either matchers of its sides contradict each other, or any two alerts that match one
-/// side each both match both.
+/// The reason that is given for an idle rule shows that it is idle: no alert inhibits another by
+/// it. Either matchers of its sides contradict each other, or any two alerts that match one side
+/// each both match both sides.
 pub fn a_reason_shows_that_a_rule_is_idle()
     ensures idle { (a : Alphabet) (s : Space) (rule : Rule) (reason : IdleReason)
         → IsWhyNone (MayMeet a s rule) rule reason → IsIdle a s rule }

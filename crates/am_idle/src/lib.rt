@@ -32,5 +32,5 @@ pub use rule_findings::{RuleFault, count_idle_rules, find_rules};
 pub use rule_text::push_rule_line;
 pub use rules::{IdleReason, idle_reason};
 
-// What holds of the definitions by themselves.
+// What follows from the definitions alone.
 pub mod laws;

@@ -43,8 +43,8 @@ pub fn universe_for_lists(
     Ok(made.universe)
 }
 
-/// The labels that some lists of matchers ask about, and then those that the impossible lists of a
-/// space ask about. Fails only if memory runs out.
+/// Returns the labels that some lists of matchers ask about, followed by those that the impossible
+/// lists of a space ask about. Fails only if memory runs out.
 fn asked_by_lists<'m>(
     alloc: Global,
     lists: &[&'m Matchers],

@@ -2,8 +2,8 @@
 //!
 //! The matchers of the two sides are literals. `first_pair` searches for two label sets that agree
 //! in the labels of `equal` and meet one side each. If there are none, `find_pair_reason` leaves
-//! out each literal that is not needed. If there are, two more searches tell whether some two do
-//! not both match both sides.
+//! out each literal that is not needed. If there are, two more searches find out whether two such
+//! label sets exist that do not both match both sides.
 
 ghost use Rattle.std.specs.Prelude.{◌≡◌, ◌≢◌, List, [], ◌∷◌, IfOk, IfErr, OnOk};
 ghost use Rattle.am_universe.specs.declared.kind.Kind.TheVariants as kinds;

@@ -22,7 +22,8 @@ use am_reasons::{Candidate, find_pair_reason, first_pair};
 use am_universe::Universe;
 use std::alloc::{AllocError, Global};
 
-/// The positions of the labels with these names, without those that the universe does not declare.
+/// Returns the positions of the labels with these names. Names that the universe does not declare
+/// are ignored.
 pub(crate) fn labels_named(
     alloc: Global,
     universe: &Universe,
@@ -40,9 +41,9 @@ pub(crate) fn labels_named(
     Ok(labels)
 }
 
-/// Which matchers of the two sides of a rule contradict each other; `None` where two label sets of
-/// a space match the sides and have the same positions at the labels that are named in `equal`.
-/// Fails only if memory runs out.
+/// Finds which matchers of the two sides of a rule contradict each other. Returns `None` if two
+/// label sets of a space match one side each and have the same positions at the labels that `equal`
+/// names. Fails only if memory runs out.
 pub(crate) fn why_contradicting(
     alloc: Global,
     possible: &PossibleRefuter<'_>,
@@ -66,7 +67,7 @@ pub(crate) fn why_contradicting(
     contradiction_of(alloc, possible, shared, &mut source, &mut target)
 }
 
-/// The same, by the literals of the two sides, which are all named.
+/// Does the same with the literals of the two sides, all of which are named.
 fn contradiction_of(
     alloc: Global,
     possible: &PossibleRefuter<'_>,
@@ -92,7 +93,7 @@ fn contradiction_of(
     Ok(Some(IdleReason::Contradiction { source, target }))
 }
 
-/// The cube of each matcher of a list. Fails only if memory runs out.
+/// Returns the cube of each matcher of a list. Fails only if memory runs out.
 fn cubes_of_matchers(
     alloc: Global,
     universe: &Universe,
@@ -108,7 +109,8 @@ fn cubes_of_matchers(
     Ok(cubes)
 }
 
-/// The literals that ask for cubes to match, each of them named. Fails only if memory runs out.
+/// Returns a named literal for each cube, which asks for the cube to match. Fails only if memory
+/// runs out.
 fn literals_of(alloc: Global, cubes: &[Cube]) -> Result<Vec<Candidate<'_>>, AllocError>
     ensures wanted { IfOk result (λ literals. AreWantedFor cubes.now literals.items) }
     ensures named { IfOk result (λ literals. AreAllNamed literals.items) }
@@ -125,7 +127,7 @@ fn literals_of(alloc: Global, cubes: &[Cube]) -> Result<Vec<Candidate<'_>>, Allo
     Ok(literals)
 }
 
-/// The positions of the literals that are named. Fails only if memory runs out.
+/// Returns the positions of the literals that are named. Fails only if memory runs out.
 fn named_positions(alloc: Global, literals: &[Candidate<'_>]) -> Result<Vec<usize>, AllocError>
     ensures { IfOk result (λ positions.
         positions.items ≡ positions_where (λ k. k.named) 0 literals.now) }
@@ -139,9 +141,9 @@ fn named_positions(alloc: Global, literals: &[Candidate<'_>]) -> Result<Vec<usiz
     Ok(positions)
 }
 
-/// Whether two label sets of a space have the same positions at some labels, match the one the
-/// source side and the other the target side, and do not both match both. The cubes are those of
-/// the sides. Takes no memory.
+/// Whether two label sets of a space have the same positions at some labels, one matches the source
+/// side and the other the target side, and the two do not both match both sides. The cubes are
+/// those of the sides. Takes no memory.
 pub(crate) fn has_inhibiting(
     possible: &PossibleRefuter<'_>,
     shared: &[usize],
@@ -170,7 +172,7 @@ pub(crate) fn has_inhibiting(
         || first_pair(possible, shared, &[in_source], &[in_target, not_in_source]).is_some()
 }
 
-/// The literal that asks for a cube to match, or not to match.
+/// Returns the literal that asks for a cube to match, or not to match.
 fn literal_of(cube: &Cube, wanted: bool) -> Candidate<'_>
     ensures { (u : List Label) (ms : List Condition)
         → IsCubeOf u ms cube.now → IsLiteralOf u ms wanted result }

@@ -1,4 +1,4 @@
--- A reading decides what is said where its parts do.
+-- A reading decides what is said if its parts do.
 use Rattle.std.proofs.Common.{◌≡◌, ◌≤◌, ℕ, List, Bool, Option, Some, None, Result, Ok, ap}
 use Rattle.std.proofs.Common.{option_and_then, refl, subst}
 use Rattle.std.specs.Prelude.{⊤, ok_or}
@@ -27,7 +27,7 @@ then_decides {r = r} {f = f} first next = record {
   reads = λ y said. rw (first.reads said.0 said.1) ((next said.0).reads y said.2);
 }
 
--- behind a check that passes wherever something is said
+-- after a check that passes whenever something is said
 pub behind_decides : {A B : Type 0} {Q : B → Type 0} {r : Result A Refusal} {next : Result B Refusal}
     → ((y : B) → Q y → (x : A) × (r ≡ Ok x)) → Decides Q next
     → Decides Q (result_then r (λ _. next))
@@ -56,7 +56,7 @@ within_decides {r = r} part inner = record {
   reads = λ x said. rw (inner.reads x said) refl;
 }
 
--- the same, said in another way
+-- the same for an equivalent statement
 pub said_as : {A : Type 0} {P Q : A → Type 0} {r : Result A Refusal} → Decides P r
     → ((x : A) → P x → Q x) → ((x : A) → Q x → P x) → Decides Q r
 said_as decides to from = record {

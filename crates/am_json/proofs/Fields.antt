@@ -1,4 +1,5 @@
--- The fields of an object: what reading one with no fault says of the JSON value, and back.
+-- The fields of an object: what a JSON value says if reading a field finds no fault, and the
+-- converse.
 use Rattle.std.proofs.Common.{◌≡◌, ◌⊎◌, ℕ, ◌≤◌, List, length, Bool, true, false, not, ◌&&◌}
 use Rattle.std.proofs.Common.{Option, Some, None, option_and_then, Ok, inl, inr, refl, sym, ap, ◌∙◌}
 use Rattle.std.proofs.Common.{cond}
@@ -47,7 +48,7 @@ as_object_says d ms h =
 pub as_object_reads : (d : Data) (ms : Members) → d ≡ object ms → (as_object d).result ≡ Ok ms
 as_object_reads d ms is = rw is refl
 
--- an object, by a field that it has
+-- a value with a field is an object
 pub object_of : (key : List ℕ) (d : Data) (v : Data) → field key d ≡ Some v
     → (ms : Members) × ((as_object d).result ≡ Ok ms)
 object_of key (object ms) v h = (ms, refl)
@@ -110,7 +111,7 @@ only_fields_read known d only = rw (only.1, only_none known only.0 only.2) refl
 
 -- ---- A field that has to be there.
 
--- what is read of it is read of the value that is there
+-- the field is there, and what is read is read from its value
 pub field_says : {A : Type 0} (key : List ℕ) (d : Data) (read : Data → Reading A) (x : A)
     → (required_field key d >>= λ v. reading_within (to_field key) (read v)).result ≡ Ok x
     → (v : Data) × (field key d ≡ Some v) × ((read v).result ≡ Ok x)
@@ -196,7 +197,7 @@ pub json_reads : (bytes : List ℕ) (d : Data) → length bytes ≤ MAX_FILE_BYT
 unfolding read_json
 json_reads bytes d few is = rw (check_count_fits MAX_FILE_BYTES (length bytes) few, is) refl
 
--- what the bytes of a file say, where reading their value decides what it says
+-- if reading decides what a JSON value says, it decides what the bytes of a file say
 pub file_decided : {A : Type 0} (Says : Data → A → Type 0) (read : Data → Reading A)
     → ((d : Data) → Decides (Says d) ((read d).result)) → (bytes : List ℕ)
     → Decides (FileSays Says bytes) ((read_json bytes >>= read).result)

@@ -1,4 +1,4 @@
--- Forms are lawful where their parts are; and what follows for every lawful form.
+-- Forms are lawful if their parts are; and what follows for every lawful form.
 use Rattle.std.proofs.Common.{◌≡◌, ◌↔◌, ℕ, List, [], ◌∷◌, ◌++◌, map, Bool, true, false, cond}
 use Rattle.std.proofs.Common.{Option, Some, None, Result, Ok, Err, inl, inr, refl, sym, ap, ◌∙◌}
 use Rattle.std.specs.Result.{result_map_both}
@@ -103,7 +103,7 @@ pub if_stops : {A : Type 0} (b : Bool) (m n : Reading A) → StopsAtFirst m → 
 if_stops true m n law other = law
 if_stops false m n law other = other
 
--- what a form is lawful by
+-- the rules by which a form is lawful
 pub ruleset stops = (
   then_stops,
   within_stops,
@@ -185,7 +185,7 @@ module _ {A : Type 0} (read : Form Data A) (law : IsLawful read) (limit : ℕ) w
   unfolding read_optional_array
   optional_array_stops key d = search (stops, optional_items_stop, counted_stop)
 
--- a file is lawful where its value is
+-- the form of a file is lawful if the form of its value is
 pub file_stops : {A : Type 0} (form : Form Data A) → IsLawful form
     → IsLawful (λ bytes. read_json bytes >>= form)
 unfolding read_json
@@ -259,7 +259,7 @@ unless_err : {A : Type 0} (found : Option Refusal) (x : A) (r : Refusal)
 unless_err None x r = (λ e. absurd cc, λ e. absurd cc)
 unless_err (Some s) x r = (λ e. cc, λ e. cc)
 
--- a pattern that is met may be refused, and so may the first fault
+-- the refusal of a pattern that is met is for one of the objections, and so is the first fault
 met_refused : (os : List Objection) (r : Refusal) → IsPatternRefusal (patterns_before os) r
     → IsRefusedFor os r
 met_refused [] r met = met
@@ -272,7 +272,7 @@ first_refused [] r e = absurd cc
 first_refused (a_fault found ∷ os) r e = cc
 first_refused (a_pattern pointer ∷ os) r e = inr (first_refused os r e)
 
--- where nothing is at fault, no more than a pattern may be refused
+-- if there is no fault, only a pattern may be refused
 only_pattern : (os : List Objection) (r : Refusal) → first_fault os ≡ None → IsRefusedFor os r
     → r.kind ≡ kinds.Pattern
 only_pattern [] r none refused = absurd refused
@@ -283,11 +283,11 @@ only_pattern (a_pattern pointer ∷ os) r none (inr refused) = only_pattern os r
 pub record FormLaws {X A : Type 0} (Says : X → A → Type 0) (form : Form X A) : Type 0 where
   -- reading gives exactly what is said, and refuses for exactly the first fault
   pub exact : IsReadExactly Says form (λ x r. first_fault (form x).objections ≡ Some r)
-  -- something is said exactly where nothing is at fault
+  -- something is said exactly if there is no fault
   pub sound : (x : X) → ((a : A) × Says x a) ↔ (first_fault (form x).objections ≡ None)
-  -- what may be refused is objected to
+  -- a refusal that may occur is for one of the objections
   pub refused : (x : X) (r : Refusal) → MayRefuse (form x) r → IsRefusedFor (form x).objections r
-  -- and where something is said, for no more than a pattern
+  -- and if something is said, only a pattern may be refused
   pub accepted : (x : X) (a : A) (r : Refusal) → Says x a → IsRefusedFor (form x).objections r
       → r.kind ≡ kinds.Pattern
 
@@ -329,14 +329,14 @@ module _ {X A : Type 0} (Says : X → A → Type 0) (form : Form X A)
         only_pattern (form x).objections r (none x a said) refused;
   }
 
--- where no pattern is met, what is refused is the first fault
+-- if no pattern is met, the only refusal is the first fault
 pub plain_refused : {X A : Type 0} {Says : X → A → Type 0} {form : Form X A} → FormLaws Says form
     → (x : X) (r : Refusal) → (form x).patterns ≡ [] → MayRefuse (form x) r
     → first_fault (form x).objections ≡ Some r
 plain_refused {form = form} laws x r none (inl e) = (laws.exact.first x r).0 e
 plain_refused {form = form} laws x r none (inr met) = absurd (rw none at met)
 
--- what says something has no first fault
+-- a value that says something has no first fault
 pub says_no_fault : {X A : Type 0} {Says : X → A → Type 0} {form : Form X A} → FormLaws Says form
     → (x : X) (a : A) (r : Refusal) → Says x a → first_fault (form x).objections ≡ Some r → ⊥
 says_no_fault {A = A} laws x a r said is =

@@ -1,4 +1,4 @@
--- Reading one behind the other: as a loop does, and what items with no fault say.
+-- Reading one item after the other: how a loop does it, and what items without a fault say.
 use Rattle.std.proofs.Common.{◌≡◌, ℕ, ◌+◌, ◌<◌, ◌≤◌, List, [], ◌∷◌, ◌++◌, length, map, get_or, drop}
 use Rattle.std.proofs.Common.{Some, Ok, inl, inr, refl, sym, ap, subst, ◌∙◌, add-one}
 use Rattle.std.proofs.Common.{append_assoc, drop-cons}
@@ -50,7 +50,7 @@ module _ {A X : Type 0} (read : A → X → Reading A) where
       let l : Leads (read_each read before []) whole = rw is at leads in
       sym l.result
 
--- the item at i is the first of those that are left
+-- the item at `i` is the first of those that are left
 pub left_is : {X Y : Type 0} (view : X → Y) (items : List X) (i : ℕ) (item : X) → i < length items
     → item ≡ get_or items i item
     → map view (drop i items) ≡ view item ∷ map view (drop (i + 1) items)
@@ -105,7 +105,7 @@ module _ {A X : Type 0} (view : X → Data) (read : List A → Data → Reading 
 
 -- ---- What is read is said, and what is said is read.
 
--- the first item is read, and then those behind it
+-- the first item is read, and then the items after it
 pub item_first : {A : Type 0} (read : List A → Data → Reading A) (before : List A) (d : Data)
     (ds : List Data) (all : List A) → (read_items read before (d ∷ ds)).result ≡ Ok all
     → (x : A) × ((read before d).result ≡ Ok x)
@@ -123,7 +123,7 @@ item_first {A} read before d ds all h =
           (sym (same_read (before ++ x.0 ∷ []) next.0 x.2)) next.2,
     )
 
--- each of the values may stand behind those before it
+-- each value fits after the values before it
 abbrev pub AllFit : {A : Type 0} → (List A → A → Type 0) → List A → List A → Type 0
 AllFit Fits before [] = ⊤
 AllFit Fits before (x ∷ xs) = Fits before x × AllFit Fits (before ++ x ∷ []) xs
@@ -174,7 +174,7 @@ module _ {A : Type 0} (Says : Data → A → Type 0) (Fits : List A → A → Ty
         said.1;
   }
 
--- each of the values may stand behind any others
+-- any value fits after any others
 abbrev AlwaysFits : {A : Type 0} → List A → A → Type 0
 AlwaysFits before x = ⊤
 
@@ -185,7 +185,7 @@ all_fit before (x ∷ xs) = (tt, all_fit (before ++ x ∷ []) xs)
 items_of_null : (items : List Data) → items_of null ≡ Some items → ⊥
 items_of_null items h = cc
 
--- where each is read by itself
+-- each item is read by itself
 module _ {A : Type 0} (Says : Data → A → Type 0) (read : Data → Reading A) (decides : (d : Data)
     → Decides (Says d) ((read d).result)) where
   pub each_says : (ds : List Data) (xs : List A)
@@ -206,7 +206,7 @@ module _ {A : Type 0} (Says : Data → A → Type 0) (read : Data → Reading A)
       → Decides (AllZip Says ds) ((read_items (λ before d. read d) [] ds).result)
   each_decide ds = record { says = each_says ds; reads = each_reads ds }
 
-  -- those of at most so many
+  -- with at most `limit` items
   module _ (limit : ℕ) where
     pub counted_says : (ds : List Data) (xs : List A)
         → (read_counted limit read ds).result ≡ Ok xs
@@ -243,7 +243,7 @@ module _ {A : Type 0} (Says : Data → A → Type 0) (read : Data → Reading A)
     array_reads d xs said =
         rw (said.is_array, counted_reads said.items xs said.few said.each) refl
 
-    -- or `null`, which says that there are none
+    -- an array or `null`, which says that there are no items
     or_null_says : (d : Data) (xs : List A) → (read_items_or_null limit read d).result ≡ Ok xs
         → SaysItemsOrNull Says limit d xs
     or_null_says null xs h = inl (refl, sym (same_read [] xs h))

@@ -14,11 +14,11 @@ use Rattle.serde_json.specs.View.{view, members_view}
 use Rattle.serde_json.proofs.Views.{Entry}
 use Rattle.am_json.specs.Json.{is_unknown, lesser_key, unknown_field}
 
--- the keys of what is left of the members ascend
+-- the keys of the members that are left are in ascending order
 abbrev pub Ascends : List Entry → Type 0
 Ascends es = IsStrictlySortedBy string_cmp (keys_of es)
 
--- a key is below this one, if there is one
+-- the key is below the other one, if there is another one
 abbrev IsBelow : List ℕ → Option (List ℕ) → Type 0
 IsBelow key found = IfSome found (λ other. slice_cmp nat_cmp key other ≡ Less)
 
@@ -56,7 +56,7 @@ is_lesser : (key : List ℕ) (found : Option (List ℕ)) → IsBelow key found
 is_lesser key None h = refl
 is_lesser key (Some other) h = rw h refl
 
--- the first member that is left is unknown
+-- if the first member that is left is unknown, it is the least unknown field
 pub is_first : (known : List (List ℕ)) (left : List Entry) (e : Entry) (more : List Entry)
     (total : Option (List ℕ)) → left ≡ e ∷ more → Ascends left
     → unknown_field known (members_view left) ≡ total
@@ -73,7 +73,7 @@ is_first known left e more total is ascends same unknown =
     ) refl in
     sym here ∙ same
 
--- it is not
+-- if it is not, the members after it have the same least unknown field
 pub is_passed : (known : List (List ℕ)) (left : List Entry) (e : Entry) (more : List Entry)
     (total : Option (List ℕ)) → left ≡ e ∷ more
     → unknown_field known (members_view left) ≡ total

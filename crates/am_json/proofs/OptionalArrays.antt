@@ -1,4 +1,4 @@
--- An array in a field that may be absent: what reading its items gives, and what it says.
+-- An array in an optional field: what reading its items gives, and what it says.
 use Rattle.std.proofs.Common.{List, None, Ok, Option, Some, [], inl, inr, length, refl, sym}
 use Rattle.std.proofs.Common.{option_and_then, ℕ, ◌≡◌, ◌≤◌}
 use Rattle.std.specs.List.{AllZip}
@@ -45,7 +45,7 @@ optional_array_reads key d items said = rw (optional_items_read key d items said
 
 -- ---- An array that may be absent, whose items are read each by itself.
 
--- its items are at most so many, and each says something
+-- the array has at most `limit` items, and each says the element at its position
 pub record SaysEach {A : Type 0} (Says : Data → A → Type 0) (key : List ℕ) (limit : ℕ) (d : Data)
     (xs : List A) : Type 0 where
   pub items : List Data

@@ -24,7 +24,7 @@ stands (b ∷ bytes) h =
     stands bytes (λ k lt. h (suc k) (omega arith)) in
     rw (one, rest) refl
 
--- no byte of a longer character is in ASCII
+-- no byte of a character outside ASCII is in ASCII
 wide : (c : ℕ) → 128 ≤ c → (k : ℕ) → k < length (encode c) → 128 ≤ get_or (encode c) k 0
 wide c le k lt =
     elim (cases_lt (get_or (encode c) k 0) 128) [
@@ -33,7 +33,7 @@ wide c le k lt =
       | inr large ↦ large
     ]
 
--- a character that is no `~` and no `/` is written as it is
+-- a character other than `~` and `/` is written as it is
 pub pointer_escape-other : (c : ℕ) → c ≢ 126 → c ≢ 47
     → flat_map pointer_escape (encode c) ≡ encode c
 pointer_escape-other c tilde slash =

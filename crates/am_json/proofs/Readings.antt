@@ -1,4 +1,5 @@
--- What a reader's answer says of the reading, and what a reading with no fault says of its steps.
+-- What the answer of a reader says about the reading, and what a reading without a fault says about
+-- its steps.
 use Rattle.std.proofs.Common.{◌≡◌, ◌≢◌, ℕ, ◌<◌, ◌≤◌, List, [], ◌∷◌, ◌++◌, map, Option, Some, None}
 use Rattle.std.proofs.Common.{Result, Ok, Err, Bool, true, false, cond, ◌↔◌, inl, inr, refl, sym}
 use Rattle.std.proofs.Common.{ap, ◌∙◌, nat_lt}
@@ -38,7 +39,8 @@ pattern_within part (x ∷ xs) r (inr h) = inr (pattern_within part xs r h)
 
 -- ---- What is left to read, and the whole.
 
--- what is left gives what the whole gives, and meets no pattern that the whole does not
+-- what is left gives the same result as the whole, and meets no pattern that the whole does not
+-- meet
 pub record Leads {A : Type 0} (rest whole : Reading A) : Type 0 where
   pub result : rest.result ≡ whole.result
   pub patterns : (r : Refusal) → IsPatternRefusal rest.patterns r
@@ -57,7 +59,7 @@ pub fails_led : {A : Type 0} (e : ReadError) (rest whole : Reading A) → Leads 
 fails_led errors.Memory rest whole leads h = tt
 fails_led (errors.Refused r) rest whole leads h = refuses_led rest whole r leads h
 
--- the first step fails
+-- if the first step fails
 pub refuses_first : {A B : Type 0} (m : Reading A) (f : A → Reading B) (r : Refusal) → MayRefuse m r
     → MayRefuse (m >>= f) r
 refuses_first m f r (inl h) = inl (rw h refl)
@@ -69,7 +71,7 @@ pub fails_first : {A B : Type 0} (e : ReadError) (m : Reading A) (f : A → Read
 fails_first errors.Memory m f h = tt
 fails_first (errors.Refused r) m f h = refuses_first m f r h
 
--- the first step gives a value
+-- if the first step gives a value
 pub leads_on : {A B : Type 0} (m : Reading A) (f : A → Reading B) (x : A) (whole : Reading B)
     → m.result ≡ Ok x
     → Leads (m >>= f) whole → Leads (f x) whole
@@ -106,7 +108,7 @@ pub refuses_within : {A : Type 0} (part : List ℕ) (m : Reading A) (r : Refusal
 refuses_within part m r (inl h) = inl (rw h refl)
 refuses_within part m r (inr h) = inr (pattern_within part m.patterns r h)
 
--- an error that tells of a refusal
+-- an error that reports a refusal
 pub fails_refused : {A : Type 0} (e : ReadError) (m : Reading A) (r : Refusal)
     → IsRefusalOrMemory e r → MayRefuse m r → Fails e m
 fails_refused errors.Memory m r tells h = tt
@@ -121,7 +123,7 @@ within_refused view part r (Err e) m refuses is =
     fails_refused e (reading_within part m) (refusal_within part r) is
     (refuses_within part m r refuses)
 
--- what a part gave, seen from the value that has the part
+-- what reading a part gave, as seen from the value that has the part
 pub within_gives : {X Y : Type 0} (view : X → Y) (part : List ℕ) (read seen : Result X ReadError)
     (m : Reading Y) → Gives view read m
     → IsReadingWithin part read seen → Gives view seen (reading_within part m)
@@ -130,7 +132,7 @@ within_gives view part (Err errors.Memory) seen m gives is = rw is tt
 within_gives view part (Err (errors.Refused r)) seen m gives is =
     within_refused view part r seen m gives is
 
--- what the steps of a reader want
+-- the rules that the steps of a reader need
 pub ruleset steps = (pattern_left, pattern_right, within_gives)
 
 pub within_if_ok : {X : Type 0} (part : List ℕ) (read seen : Result X ReadError) (P : X → Type 0)
@@ -154,7 +156,7 @@ here_fails kind (errors.Refused found) m tells memory refuses =
     fails_refused (errors.Refused found) m (refusal_here kind) tells
     (refuses (λ h. no_memory found (memory h)))
 
--- what was found or refused, where the reading gives it, or may refuse it so
+-- what was found or refused, if the reading gives that value, or may fail with that refusal
 pub found_gives : {X Y : Type 0} (view : X → Y) (found : Result X Kind) (seen : Result X ReadError)
     (m : Reading Y) → IsFoundOrRefused found seen
     → ((x : X) → found ≡ Ok x → m.result ≡ Ok (view x))
@@ -213,7 +215,7 @@ fault_of_file place (errors.Refused r) fault m RefusedFor refused is fails other
 
 -- ---- What is said, where a reading decides it.
 
--- a reading that says what is said, and the other way
+-- a reading gives exactly what is said
 pub record Decides {A : Type 0} (Says : A → Type 0) (reading : Result A Refusal) : Type 0 where
   pub says : (x : A) → reading ≡ Ok x → Says x
   pub reads : (x : A) → Says x → reading ≡ Ok x

@@ -13,10 +13,10 @@ use Rattle.serde_json.specs.Read.{read}
 use Rattle.am_universe.specs.Text.{same_text}
 use Rattle.am_json.specs.declared.limits.TheConstants.{MAX_FILE_BYTES}
 
--- The JSON value of the bytes of a file. They have one if they are UTF-8 and the grammar of
--- `serde_json` reads them. It reads at most 127 levels of nesting.
--- Source: RFC 8259. What it leaves open is as `serde_json` has it: of a key that stands twice in
--- one object the last counts, and nesting has a limit.
+-- The JSON value of the bytes of a file, if they are UTF-8 and the grammar of `serde_json` reads
+-- them. The grammar allows at most 127 levels of nesting.
+-- Source: RFC 8259. `serde_json` decides what it leaves open: if a key occurs twice in one object,
+-- the last one counts, and nesting has a limit.
 -- Example: the value of `{"a": 1, "a": 2}` is that of `{"a": 2}`. `{"a": 1,}` has no value.
 abbrev pub json_of : List ℕ → Option Data
 json_of bytes = if is_utf8 bytes then read bytes else None
@@ -49,16 +49,16 @@ SaysBooleanOr default key d truth =
 abbrev pub is_one_of : List ℕ → List (List ℕ) → Bool
 is_one_of key names = list_any (λ name. same_text name key) names
 
--- A member is none of the known fields. One that is `null` is absent, and so is not unknown.
+-- A member is not one of the known fields. A member that is `null` is absent, so it is not unknown.
 abbrev pub is_unknown : List (List ℕ) → List ℕ → Data → Bool
 is_unknown known key d = not (is_null d) && not (is_one_of key known)
 
--- The lesser of two keys, by their bytes.
+-- The lesser of two keys, by their bytes. If there is no second key, it is the first.
 abbrev pub lesser_key : List ℕ → Option (List ℕ) → List ℕ
 lesser_key key None = key
 lesser_key key (Some other) = match_ordering (slice_cmp nat_cmp key other) key key other
 
--- The key of the least member that is unknown, if there is one.
+-- The least key of an unknown member, if there is one.
 abbrev pub unknown_field : List (List ℕ) → Members → Option (List ℕ)
 unknown_field known no_members = None
 unknown_field known (member key d rest) =
@@ -73,7 +73,7 @@ item_list (item d ds) = d ∷ item_list ds
 abbrev pub items_of : Data → Option (List Data)
 items_of d = option_map item_list (as_array d)
 
--- The items of the array in a field, and none where there is no array.
+-- The items of the array in a field. If the field is absent or is not an array, there are none.
 abbrev pub items_in_field : Option Data → List Data
 items_in_field found = unwrap_or (option_and_then items_of found) []
 

@@ -1,5 +1,5 @@
--- An array in a field that may be absent: which items it has, and its form; and what an array says
--- that may be `null`. (This project's own.)
+-- Arrays that may be absent: which items an array in an optional field has, and its form; and what
+-- an array or `null` says. (This project's own.)
 use Rattle.std.specs.Prelude.{◌≡◌, ◌⊎◌, ◌≤◌, ℕ, List, [], length, Option, Some, None}
 use Rattle.std.specs.Prelude.{option_and_then}
 use Rattle.std.specs.List.{AllZip}
@@ -14,10 +14,11 @@ HasItems key d items =
     ((field key d ≡ None) × (items ≡ []))
     ⊎ (option_and_then items_of (field key d) ≡ Some items)
 
--- An array of at most so many items says a list: each item says the element at its position. `null`
--- says the empty list.
+-- An array of at most `limit` items says a list: each item says the element at its position. In
+-- `SaysItemsOrNull`, `null` says the empty list.
 -- Source: own choice.
--- Example: of texts, `["a", "b"]` says two where so many may be, and nothing where one may be.
+-- Example: let the items be texts. With the limit 2, `["a", "b"]` says a list of two texts. With
+-- the limit 1, it says nothing.
 pub record AreItems {A : Type 0} (Says : Data → A → Type 0) (limit : ℕ) (d : Data) (xs : List A)
     : Type 0 where
   pub items : List Data
@@ -28,7 +29,8 @@ pub record AreItems {A : Type 0} (Says : Data → A → Type 0) (limit : ℕ) (d
 abbrev pub SaysItemsOrNull : {A : Type 0} → (Data → A → Type 0) → ℕ → Data → List A → Type 0
 SaysItemsOrNull Says limit d xs = ((d ≡ null) × (xs ≡ [])) ⊎ AreItems Says limit d xs
 
--- The items of an array that may be absent, and those of the array in a field that may be absent.
+-- The items of an optional array, and the items of the array in an optional field. If it is absent,
+-- there are none.
 abbrev pub optional_items : Option Data → Reading (List Data)
 optional_items None = accept []
 optional_items (Some d) = as_items d
@@ -36,7 +38,8 @@ optional_items (Some d) = as_items d
 unfoldable pub read_optional_items : List ℕ → Data → Reading (List Data)
 read_optional_items key d = reading_within (to_field key) (optional_items (field key d))
 
--- The items of the array in a field that may be absent, of at most so many, each read by itself.
+-- The items of the array in an optional field, of which there may be at most `limit`. Each is read
+-- by itself.
 unfoldable pub read_optional_array : {A : Type 0} → List ℕ → ℕ → (Data → Reading A) → Data
     → Reading (List A)
 read_optional_array key limit read d = do

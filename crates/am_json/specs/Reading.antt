@@ -1,6 +1,6 @@
--- Forms: what is made of a value, part by part. A form says of each value what it is taken for, and
--- what there is to object to, in order; and what reading it comes to, which stops at the first
--- fault. (This project's own.)
+-- Forms: what is made of a value, part by part. For each value, a form says what the value is taken
+-- for, what there is to object to, in order, and what reading the value gives. Reading stops at the
+-- first fault. (This project's own.)
 use Rattle.std.specs.Prelude.{◌≡◌, ◌≢◌, ◌⊎◌, ℕ, List, [], ◌∷◌, ◌++◌, length, map}
 use Rattle.std.specs.Prelude.{Option, Some, None, option_map, ok_or, unwrap_or, Result, Ok, Err}
 use Rattle.std.specs.Prelude.{Bool, IsErrAnd, if◌then◌else◌, string_bytes, ⊤}
@@ -21,13 +21,13 @@ use Rattle.am_json.specs.Pointer.{Refusal, refusal_here, refusal_within, to_fiel
 
 -- ---- Readings.
 
--- What a form makes of a value. Whatever is wrong with the value, it is taken for something: a part
--- at fault gives way to a stand-in, as the empty text. So the objections to all parts are known, by
--- the value alone. Behind the first fault an objection may follow from a stand-in. Whoever reads
--- the value stops at the first fault. Whether the engine builds a pattern that its grammar reads is
--- the engine's to say, so at each pattern of the profile it is open whether reading goes on.
+-- What a form makes of a value. The value is always taken for something: a stand-in, such as the
+-- empty text, replaces a part at fault. So the value alone determines the objections to all parts.
+-- After the first fault, an objection may be due to a stand-in. Reading the value stops at the
+-- first fault. The engine may refuse to build a pattern that its grammar reads, so reading may also
+-- stop earlier, at any pattern of the profile.
 pub record Reading (A : Type 0) : Type 0 where
-  -- what reading it gives, or the first fault, where the engine builds each pattern that its
+  -- what reading the value gives, or the first fault, if the engine builds each pattern that its
   -- grammar reads
   pub result : Result A Refusal
   -- the pointers of the patterns of the profile that reading meets, in order
@@ -37,22 +37,23 @@ pub record Reading (A : Type 0) : Type 0 where
   -- what there is to object to, in order
   pub objections : List Objection
 
--- A form: what is made of each value.
+-- A form: it says what is made of each value.
 abbrev pub Form : Type 0 → Type 0 → Type 0
 Form X A = X → Reading A
 
--- The value that is taken, if there is no refusal of it.
+-- The refusal, if there is one, and otherwise the value.
 abbrev pub ok_unless : {A : Type 0} → Option Refusal → A → Result A Refusal
 ok_unless None x = Ok x
 ok_unless (Some r) x = Err r
 
--- Reading stops at the first fault: it gives what the value is taken for where there is none, and
--- meets the patterns before it.
+-- Reading stops at the first fault: it meets the patterns before that fault. If there is no fault,
+-- it gives what the value is taken for.
 pub record StopsAtFirst {A : Type 0} (m : Reading A) : Type 0 where
   pub result : m.result ≡ ok_unless (first_fault m.objections) m.taken
   pub patterns : m.patterns ≡ patterns_before m.objections
 
--- What is read where that is known of all objections.
+-- The reading of a value that is taken for this and has these objections. It stops at the first
+-- fault.
 abbrev pub stopped_at_first : {A : Type 0} → A → List Objection → Reading A
 stopped_at_first taken objections = record {
   taken = taken;
@@ -69,17 +70,18 @@ IsLawful {X} form = (x : X) → StopsAtFirst (form x)
 abbrev pub accept : {A : Type 0} → A → Reading A
 accept x = record { taken = x; objections = []; result = Ok x; patterns = [] }
 
--- The objection that there is, if there is a refusal.
+-- One objection if there is a refusal, and none otherwise.
 abbrev pub fault_where : Option Refusal → List Objection
 fault_where None = []
 fault_where (Some r) = a_fault r ∷ []
 
--- This objection, if nothing was found.
+-- The objection of this refusal if nothing was found, and none otherwise.
 abbrev pub missing_where : {A : Type 0} → Option A → Refusal → List Objection
 missing_where None r = a_fault r ∷ []
 missing_where (Some x) r = []
 
--- What is found, or else a stand-in and this refusal.
+-- What was found is accepted. If nothing was found, the value is refused with this refusal, and
+-- taken for the stand-in.
 abbrev pub accept_or : {A : Type 0} → A → Option A → Refusal → Reading A
 accept_or stand_in found r = record {
   taken = unwrap_or found stand_in;
@@ -88,12 +90,12 @@ accept_or stand_in found r = record {
   patterns = [];
 }
 
--- The value is refused so, and taken for a stand-in.
+-- The value is refused with this refusal, and taken for the stand-in.
 abbrev pub refuse : {A : Type 0} → A → Refusal → Reading A
 refuse stand_in r =
     record { taken = stand_in; objections = a_fault r ∷ []; result = Err r; patterns = [] }
 
--- Refused so, where there is a refusal.
+-- The value is refused if there is a refusal, and accepted otherwise.
 abbrev pub refuse_where : Option Refusal → Reading ⊤
 refuse_where found = record {
   taken = tt;
@@ -102,19 +104,21 @@ refuse_where found = record {
   patterns = [];
 }
 
--- The result of what is read of a value, or the refusal that there is none.
+-- The result of the next step, which gets the value that was read; or the refusal, if there is no
+-- such value.
 abbrev pub result_then : {A B : Type 0} → Result A Refusal → (A → Result B Refusal)
     → Result B Refusal
 result_then (Ok x) f = f x
 result_then (Err r) f = Err r
 
--- The patterns that are met in reading of a value, which are none where there is none.
+-- The patterns that the next step meets, which gets the value that was read; none, if there is no
+-- such value.
 abbrev pub patterns_then : {A : Type 0} → Result A Refusal → (A → List (List ℕ)) → List (List ℕ)
 patterns_then (Ok x) f = f x
 patterns_then (Err r) f = []
 
--- One after the other: the objections to the first, and then those to the second, which is handed
--- what the first was taken for.
+-- Two steps, one after the other. The objections are those of the first step, and then those of the
+-- second, which gets what the first was taken for.
 infixl 10 ◌>>=◌
 abbrev pub ◌>>=◌ : {A B : Type 0} → Reading A → (A → Reading B) → Reading B
 m >>= f = record {
@@ -124,7 +128,8 @@ m >>= f = record {
   objections = m.objections ++ (f m.taken).objections;
 }
 
--- What is made of a part, seen from the value that has the part.
+-- The reading of a part, as seen from the value that has the part: the pointer to the part is put
+-- in front of each pointer.
 abbrev pub reading_within : {A : Type 0} → List ℕ → Reading A → Reading A
 reading_within part m = record {
   taken = m.taken;
@@ -133,14 +138,14 @@ reading_within part m = record {
   patterns = map (λ pointer. part ++ pointer) m.patterns;
 }
 
--- The refusal is that of a pattern at one of these pointers.
+-- The refusal is that of a pattern at one of these pointers: its kind is `Pattern`.
 abbrev pub IsPatternRefusal : List (List ℕ) → Refusal → Type 0
 IsPatternRefusal [] r = ⊥
 IsPatternRefusal (pointer ∷ more) r =
     (r ≡ record { kind = kinds.Pattern; pointer = pointer }) ⊎ IsPatternRefusal more r
 
--- A reading may refuse so: it is the first fault, or the refusal of a pattern that was met before
--- it.
+-- A reading may fail with this refusal: it is the first fault, or the refusal of a pattern that was
+-- met before.
 abbrev pub MayRefuse : {A : Type 0} → Reading A → Refusal → Type 0
 MayRefuse m r = (m.result ≡ Err r) ⊎ IsPatternRefusal m.patterns r
 
@@ -151,25 +156,26 @@ abbrev pub IsRefusalOrMemory : ReadError → Refusal → Type 0
 IsRefusalOrMemory errors.Memory r = Unit {0}
 IsRefusalOrMemory (errors.Refused found) r = found ≡ r
 
--- What a reader fails with is a refusal of the reading, unless memory ran out.
+-- The error of a reader is a refusal that the reading may fail with, unless memory ran out.
 abbrev pub Fails : {Y : Type 0} → ReadError → Reading Y → Type 0
 Fails errors.Memory reading = Unit {0}
 Fails (errors.Refused r) reading = MayRefuse reading r
 
--- What a reader returned, seen by `view`, is what the reading gives, unless memory ran out.
+-- What a reader returned is what the reading gives, unless memory ran out. `view` maps a value that
+-- was returned to the value of the reading.
 abbrev pub Gives : {X Y : Type 0} → (X → Y) → Result X ReadError → Reading Y → Type 0
 Gives view (Ok x) reading = reading.result ≡ Ok (view x)
 Gives view (Err e) reading = Fails e reading
 
--- What was found, or else a refusal of its kind at the value that is looked at. The kind `Memory`
--- says that memory ran out.
+-- What was found, or else a refusal of its kind, of the whole value that is looked at. If the kind
+-- is `Memory`, memory ran out.
 abbrev pub IsFoundOrRefused : {X : Type 0} → Result X Kind → Result X ReadError → Type 0
 IsFoundOrRefused (Ok x) seen = seen ≡ Ok x
 IsFoundOrRefused (Err kind) seen =
     IsErrAnd seen
     (λ e. IsRefusalOrMemory e (refusal_here kind) × (kind ≡ kinds.Memory → e ≡ errors.Memory))
 
--- What reading a part returned, seen from the value that has the part.
+-- What reading a part returned, as seen from the value that has the part.
 abbrev pub IsReadingWithin : {X : Type 0} → List ℕ → Result X ReadError → Result X ReadError
     → Type 0
 IsReadingWithin part (Ok x) seen = seen ≡ Ok x
@@ -179,113 +185,117 @@ IsReadingWithin part (Err (errors.Refused r)) seen =
 
 -- ---- The fault of a file.
 
--- The refusal that a fault tells of.
+-- The refusal that a fault reports: its kind and its pointer.
 abbrev pub refusal_of : Fault → Refusal
 refusal_of fault = record { kind = fault.kind; pointer = string_bytes fault.pointer }
 
--- A fault tells of a refusal in the file at this place.
+-- A fault reports this refusal, in the file at this place.
 abbrev pub IsFaultAt : Place → Refusal → Fault → Type 0
 IsFaultAt place r fault = (fault.place ≡ place) × (refusal_of fault ≡ r)
 
--- The fault that a reader's error is, in the file at this place.
+-- A fault reports the error of a reader, in the file at this place.
 abbrev pub IsFaultOf : Place → ReadError → Fault → Type 0
 IsFaultOf place errors.Memory fault = fault.kind ≡ kinds.Memory
 IsFaultOf place (errors.Refused r) fault = IsFaultAt place r fault
 
--- A fault stands at this place, and tells of a refusal that may be there, unless memory ran out.
+-- A fault is at this place, and reports a refusal for which `MayBe` holds, unless memory ran out.
 abbrev pub IsRefusalAt : Place → (Refusal → Type 0) → Fault → Type 0
 IsRefusalAt place MayBe fault =
     fault.kind ≢ kinds.Memory → (fault.place ≡ place) × MayBe (refusal_of fault)
 
 -- ---- Checks.
 
--- Refused here, where there is a cause.
+-- The value is refused for this cause, if there is one.
 abbrev pub refuse_for : Option Kind → Reading ⊤
 refuse_for cause = refuse_where (option_map refusal_here cause)
 
--- Refused as `limit` where there are more than so many.
+-- The value is refused as `limit` if the count is more than the limit.
 abbrev pub check_count : ℕ → ℕ → Reading ⊤
 check_count limit count = refuse_for (limit_fault limit count)
 
 -- ---- The kinds of values.
 
--- The members of an object, and `shape` for a value of another kind.
+-- The members of an object. A value of another kind is refused as `shape`.
 abbrev pub as_object : Data → Reading Members
 as_object d = accept_or no_members (find.as_object d) (refusal_here kinds.Shape)
 
--- The text that the value is, and `shape` for a value of another kind.
+-- The text that the value is. A value of another kind is refused as `shape`.
 abbrev pub as_text : Data → Reading (List ℕ)
 as_text d = accept_or [] (find.as_str d) (refusal_here kinds.Shape)
 
--- The items of an array, and `shape` for a value of another kind.
+-- The items of an array. A value of another kind is refused as `shape`.
 abbrev pub as_items : Data → Reading (List Data)
 as_items d = accept_or [] (items_of d) (refusal_here kinds.Shape)
 
 -- ---- The fields of an object.
 
--- Refused as `unknown-field` at this field, where there is one.
+-- The value is refused as `unknown-field`, at the unknown field, if there is one.
 abbrev pub refuse_unknown_field : Option (List ℕ) → Reading ⊤
 refuse_unknown_field found =
     refuse_where
     (option_map (λ key. refusal_within (to_field key) (refusal_here kinds.UnknownField)) found)
 
--- An object that has no fields but these: `shape` for a value that is no object, and else
--- `unknown-field` at the least field that is none of these.
+-- The value is an object with no other fields than these. It is refused as `shape` if it is not an
+-- object, and otherwise as `unknown-field` at the least unknown field, if there is one.
 unfoldable pub check_only_fields : List (List ℕ) → Data → Reading ⊤
 check_only_fields known d = do
   members ← as_object d
   refuse_unknown_field (unknown_field known members)
 
--- A field that has to be there, and `shape` at it where it is absent.
+-- A required field. If it is absent, the value is refused as `shape`, at the field.
 abbrev pub required_field : List ℕ → Data → Reading Data
 required_field key d =
     accept_or null (field key d) (refusal_within (to_field key) (refusal_here kinds.Shape))
 
--- The text in a field that has to be there.
+-- The text in a required field.
 unfoldable pub required_text : List ℕ → Data → Reading (List ℕ)
 required_text key d = do
   value ← required_field key d
   reading_within (to_field key) (as_text value)
 
--- The items of the array in a field that has to be there.
+-- The items of the array in a required field.
 unfoldable pub required_items : List ℕ → Data → Reading (List Data)
 required_items key d = do
   value ← required_field key d
   reading_within (to_field key) (as_items value)
 
--- The truth value that the value is, and `shape` for a value of another kind. Where there is no
--- value it is this default.
+-- The truth value that the value is, or the default if there is no value. A value of another kind
+-- is refused as `shape`.
 abbrev pub boolean_or : Bool → Option Data → Reading Bool
 boolean_or default None = accept default
 boolean_or default (Some d) = accept_or default (find.as_bool d) (refusal_here kinds.Shape)
 
--- The truth value in a field, and this default where the field is absent.
+-- The truth value in a field, or the default if the field is absent.
 unfoldable pub read_boolean_or : Bool → List ℕ → Data → Reading Bool
 read_boolean_or default key d = reading_within (to_field key) (boolean_or default (field key d))
 
 -- ---- One behind the other.
 
--- What is read of a list, where `read` reads one behind what was read before it.
+-- What is read of a list. For each element, `read` gets what was read so far, and gives that with
+-- the element included.
 unfoldable pub read_each : {A X : Type 0} → (A → X → Reading A) → A → List X → Reading A
 read_each read before [] = accept before
 read_each read before (x ∷ xs) = do
   next ← read before x
   read_each read next xs
 
--- An item of an array, whose position is the number of those before it, with them.
+-- The items before an item, with the item added. The position of the item is the number of items
+-- before it.
 unfoldable pub read_next_item : {A : Type 0} → (List A → Data → Reading A) → List A → Data
     → Reading (List A)
 read_next_item read before d = do
   x ← reading_within (to_item (length before)) (read before d)
   accept (before ++ x ∷ [])
 
--- The items behind those that were read already, where `read` reads one behind others.
+-- The items that were read already, with these items added. For each item, `read` also gets the
+-- items before it.
 abbrev pub read_items : {A : Type 0} → (List A → Data → Reading A) → List A → List Data
     → Reading (List A)
 read_items read = read_each (read_next_item read)
 
--- The items of a list of at most so many, each read by itself; those of an array; and the same,
--- where `null` says that there are none.
+-- `read_counted` reads each item of a list by itself, and refuses more items than the limit.
+-- `read_item_array` does so for an array. `read_items_or_null` also takes `null`, which has no
+-- items.
 unfoldable pub read_counted : {A : Type 0} → ℕ → (Data → Reading A) → List Data → Reading (List A)
 read_counted limit read items = do
   _ ← check_count limit (length items)
@@ -301,7 +311,8 @@ read_items_or_null limit read d = if is_null d then accept [] else read_item_arr
 
 -- ---- A file.
 
--- The JSON value of a file: `limit` for too many bytes, else `not-json` where those have none.
+-- The JSON value of a file. The bytes are refused as `limit` if there are too many, and as
+-- `not-json` if they have no JSON value.
 unfoldable pub read_json : List ℕ → Reading Data
 read_json bytes = do
   _ ← check_count MAX_FILE_BYTES (length bytes)

@@ -228,7 +228,7 @@ pub fn required_items<'v>(
     within_field(alloc, key, as_items(alloc, found))
 }
 
-/// Returns the items of the array in an optional field, and none if it is absent, as in [`field`].
+/// Returns the items of the array in an optional field, or none if it is absent, as in [`field`].
 ///
 /// Fails only with `Shape`, at the field, if it is there and not an array. Memory is taken only for
 /// the pointer of the refusal.
@@ -247,7 +247,7 @@ pub fn read_optional_items<'v>(
     }
 }
 
-/// Returns the boolean in an optional field, and `default` if it is absent, as in [`field`].
+/// Returns the boolean in an optional field, or `default` if it is absent, as in [`field`].
 ///
 /// Fails only with `Shape`, at the field, if it is there and not a boolean. Memory is taken only
 /// for the pointer of the refusal.
@@ -264,7 +264,7 @@ pub fn read_boolean_or(
     within_field(alloc, key, boolean_or(alloc, field(value, key), default))
 }
 
-/// Returns the boolean that the value is, and `default` if there is no value.
+/// Returns the boolean that the value is, or `default` if there is no value.
 fn boolean_or(alloc: Global, found: Option<&Value>, default: bool) -> Result<bool, ReadError>
     ensures { Gives (λ truth. truth) result
         (boolean_or default (option_map (λ v. view v.now) found.entry)) }

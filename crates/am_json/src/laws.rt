@@ -17,17 +17,18 @@ pub fn files_have_a_limit()
 {}
 
 /// Examples of what forms object to, what they take a value for, and what reading gives:
-/// - `kind`: a text is no object;
-/// - `unknown`: of two unknown fields, the one whose key comes first is objected to; one that is
-///   `null` is absent;
-/// - `required`: a required text has to be there and to be a text;
+/// - `kind`: a text is not an object;
+/// - `unknown`: of two unknown fields, only the one whose key comes first is objected to; a field
+///   that is `null` is absent;
+/// - `required`: a required text must be present, and must be a text;
 /// - `default`: an absent boolean is the default;
-/// - `items` and `taken`: each item that is no text is objected to at its position, and is taken
+/// - `items` and `taken`: each item that is not a text is objected to at its position, and is taken
 ///   for the empty text;
-/// - `counted`: too many items are objected to first, and then those that are no texts;
-/// - `optional`: a field that has no array is objected to at the field;
+/// - `counted`: a count above the limit is objected to first, and then each item that is not a
+///   text;
+/// - `optional`: a field whose value is not an array is objected to at the field;
 /// - `or_null`: an object is neither an array nor `null`, which has no items;
-/// - `both` and `stops`: of two checks both are objected to, and reading stops at the first;
+/// - `both` and `stops`: if two checks fail, both are objected to, and reading stops at the first;
 /// - `first` and `before`: the first fault, and the patterns before it.
 pub fn forms_by_example()
     ensures kind { (as_object (string (codes "a"))).objections

@@ -1,20 +1,20 @@
 //! Reading a JSON value part by part, and where and why it is refused.
 //!
 //! [`read_json`] returns the JSON value of a file. Each other function reads or checks a part of a
-//! value: an object, an array, a text, a field, or a count. It refuses a part that is not as it has
-//! to be with a [`ReadError`]. That says why, and points to the part with a JSON Pointer (RFC
-//! 6901), which starts at the value that the function was given. [`within_field`] and
-//! [`within_item`] let the pointer start at the value around that one, and so at last at the whole
-//! file. From that, [`ReadError::at`] makes the fault of the file.
+//! value: an object, an array, a text, a field, or a count. If the part is not as it must be, the
+//! function fails with a [`ReadError`]. The error says why, and points to the part with a JSON
+//! Pointer (RFC 6901), which starts at the value that the function was given. [`within_field`] and
+//! [`within_item`] make the pointer start at the value around that one instead, and so in the end
+//! at the whole file. From such an error, [`ReadError::at`] makes the fault of the file.
 //!
 //! [`or_refused`] makes a [`ReadError`] of an error that says only why.
 //!
-//! Readers of files are proved against the definitions of this crate: the form of a file, which
-//! says of each value what it is taken for and what there is to object to, in order; the first
-//! fault of a file; and what reading it gives, one part after the other.
+//! Readers of files are proved against the definitions of this crate. These define the form of a
+//! file, which says what each value is taken for and what there is to object to, in order. They
+//! also define the first fault of a file, and what reading the file part by part gives.
 #![tactic(auto)]
 
-// How much there may be.
+// The limit of all files.
 pub mod limits;
 
 // Why a value is refused, and at which part.
@@ -38,5 +38,5 @@ mod each_item;
 
 pub use each_item::{read_each_item, read_each_member, read_items_or_null, read_optional_array};
 
-// What holds of the definitions by themselves.
+// Facts about the definitions alone.
 pub mod laws;

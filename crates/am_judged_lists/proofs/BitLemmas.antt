@@ -21,11 +21,11 @@ place_within j = omega arith
 word_past : (j n : ℕ) → WORD * n ≤ j → n ≤ j / WORD
 word_past j n h = omega (arith, h)
 
--- two positions of one word have different places there
+-- two positions of the same word have different bits there
 other_place : (j k : ℕ) → k ≢ j → k / WORD ≡ j / WORD → k % WORD ≢ j % WORD
 other_place j k other same e = other (omega (arith, same, e))
 
--- A position for which there is no word is not permitted.
+-- A position without a word is not permitted.
 past_words : (words : List ℕ) (j : ℕ) → length words ≤ j / WORD → is_permitted words j ≡ false
 past_words words j h =
     ap (λ word. nat_eq (bit_at word (j % WORD)) 1) (get_or_past words (j / WORD) 0 h)
@@ -49,7 +49,7 @@ tested words j word e =
 
 -- ---- As many ones as there are positions.
 
--- the bits of the word at i, of all positions of a label of some size
+-- the bits of the word at `i`, if all positions of a label of this size are permitted
 abbrev pub full_word : ℕ → ℕ → ℕ
 full_word size i = 2 ^ min (size - WORD * i) WORD - 1
 
@@ -59,14 +59,14 @@ ones_at count place = elim (cases_lt place count) [
   | inr h ↦ ap (λ b. nat_eq b 1) (bit_at_ones_above count place h) ∙ sym (le-ltb place count h)
 ]
 
--- the place is among the ones of its word where the position is below the size
+-- the bit is among the ones of its word exactly if the position is below the size
 within_word : (size j : ℕ) → nat_lt (j % WORD) (min (size - WORD * (j / WORD)) WORD) ≡ nat_lt j size
 within_word size j = elim (cases_lt j size) [
   | inl h ↦ lt-ltb (j % WORD) (min (size - WORD * (j / WORD)) WORD) (omega (arith, h)) ∙ sym (lt-ltb j size h)
   | inr h ↦ le-ltb (j % WORD) (min (size - WORD * (j / WORD)) WORD) (omega (arith, h)) ∙ sym (le-ltb j size h)
 ]
 
--- the first so many words behind the first
+-- the first `count` words after the first one
 abbrev pub full_words : ℕ → ℕ → List ℕ
 full_words size count = map (λ i. full_word size (i + 1)) (range_with_len 0 count)
 
@@ -75,7 +75,7 @@ full_words_more size count word words e here =
     ap (λ ws. ws ++ word ∷ []) e ∙ ap (λ w. full_words size count ++ w ∷ []) here
     ∙ sym (map-range_with_len_more (λ i. full_word size (i + 1)) 0 count count (omega arith))
 
--- behind the last word there are no ones
+-- after the last word there are no ones
 pub full_words_at : (size count i : ℕ) (words : List ℕ) → words ≡ full_words size count → count ≡ (size - 1) / WORD → get_or words i 0 ≡ full_word size (i + 1)
 full_words_at size count i words e enough = elim (cases_lt i count) [
   | inl within ↦ ap (λ ws. get_or ws i 0) e ∙ get_or-map-range_with_len (λ k. full_word size (k + 1)) 0 count i i 0 within (omega arith)
@@ -103,7 +103,7 @@ pub record IsTakenOut (old new : List Bool) (j : ℕ) : Type 0 where
   pub gone : get_or new j false ≡ false
   pub others : (k : ℕ) → k ≢ j → get_or new k false ≡ get_or old k false
 
--- a word with a bit cleared
+-- a word with one bit cleared
 abbrev pub cleared : ℕ → ℕ → ℕ
 cleared word place = bit_and word (bit_not w64 (1 * 2 ^ place % 2 ^ WORD))
 
@@ -135,7 +135,7 @@ taken_out words i j at within =
       others = λ k other. permitted_at new k ∙ cleared_elsewhere words i j k at within other ∙ sym (permitted_at words k);
     }
 
--- of the first word; of one behind it; and a position for which there is no word is out already
+-- a position of the first word, one of a later word, and one without a word, which is out already
 pub out_of_first : (first j : ℕ) (more : List ℕ) (old : List Bool) → permitted_of (first ∷ more) ≡ old → 0 ≡ j / WORD
     → IsTakenOut old (permitted_of (cleared first (j % WORD) ∷ more)) j
 out_of_first first j more old is at =
@@ -155,7 +155,7 @@ out_already first j more old is past = record {
 
 -- ---- A mask narrowed by a test, position after position.
 
--- below a position the mask permits what passes the test besides, and the others are as they were
+-- below `upto` the mask permits what it did if that passes the test; the others are as they were
 pub record IsNarrowed (test : ℕ → Bool) (old new : List Bool) (upto : ℕ) : Type 0 where
   pub below : (k : ℕ) → k < upto → get_or new k false ≡ (get_or old k false && test k)
   pub others : (k : ℕ) → upto ≤ k → get_or new k false ≡ get_or old k false

@@ -1,4 +1,4 @@
--- A cube that passes at a prefix stands in each set that is looked at.
+-- A cube that passes at a prefix is in each set that is looked at.
 use Rattle.std.proofs.Common.{◌≡◌, ℕ, zero, suc, ◌++◌, Some, subst, slice_get, ◌<◌, true, false, not, ◌||◌, ◌==◌, List, [], ◌∷◌, length, get_or, refl, ap, sym, ◌∙◌, inl, inr, arith}
 use Rattle.std.specs.List.{list_all}
 use Rattle.std.proofs.lemmas.Bool.{cases_eq, ne_eqb, and_parts, and_from, or_right}
@@ -27,11 +27,11 @@ each_permits prefix label (m ∷ masks) h e =
     ])
     (each_permits prefix label masks h parts.1)
 
--- what a prefix has of a label is permitted
+-- a cube that forbids no position of a prefix permits the prefix's position of each label
 pub permits_prefix : (cube : MaskedLabels) (prefix : List ℕ) (label : ℕ) → label < length prefix → may_at cube prefix ≡ true → permits_position cube label (get_or prefix label 0) ≡ true
 permits_prefix cube prefix label h e = each_permits prefix label cube.masks h (and_parts (not cube.empty) (list_all (fits prefix) cube.masks) e).1
 
--- whichever is asked
+-- if a cube passes, whichever question is asked, it forbids no position of the prefix
 pub passes_may : (m : Certainty) (cube : MaskedLabels) (prefix : List ℕ) → passes m (verdict_at cube prefix) ≡ true → may_at cube prefix ≡ true
 passes_may May cube prefix e = sym (may_is cube prefix) ∙ e
 passes_may Must cube prefix e = (and_parts (may_at cube prefix) (list_all (reaches prefix) cube.masks) (sym (must_is cube prefix) ∙ e)).0

@@ -60,7 +60,7 @@ module _ (cube : MaskedLabels) (label : ℕ) (mask : List Bool) (size : ℕ) whe
       ap (λ b. not cube.empty && b) (list_all-append (fits c) cube.masks (m ∷ []) ∙ ap (λ b. list_all (fits c) cube.masks && (b && true)) (fits_at c m h))
       ∙ regrouped (not cube.empty) (list_all (fits c) cube.masks) (get_or mask (get_or c label 0) false)
 
-  -- the cube that is made, by whether the mask permits all, none or some
+  -- three cases: the mask permits all positions, none, or some
   by_mask : (P : MaskedLabels → Type 0) → (permits_all size mask ≡ true → P cube)
       → (permits_none size mask ≡ true → P (record { empty = true; masks = cube.masks }))
       → (permits_all size mask ≡ false → permits_none size mask ≡ false
@@ -107,7 +107,7 @@ module _ (cube : MaskedLabels) (label : ℕ) (mask : List Bool) (size : ℕ) whe
 
 -- ---- The labels so far.
 
--- a cube is built of the rows, as far as the labels below a count go
+-- a cube is built of the rows, as far as the labels below `count` go
 pub record IsBuilt (u : List Label) (rows : List TruthRow) (cube : MaskedLabels) (count : ℕ) : Type 0 where
   pub decided : (c : List ℕ) → IsWhole (sizes u) c → may_at cube c ≡ (not (list_any is_never_true rows) && allow_first rows c count)
   pub ascend : AscendByLabel cube.masks
@@ -135,7 +135,7 @@ built_more u rows cube label mask size built at same =
       proper = proper_restricted cube label mask size ns within here built.proper;
     }
 
--- a label that no row is of
+-- a label without a row
 pub built_past : (u : List Label) (rows more : List TruthRow) (cube : MaskedLabels) (label : ℕ)
     → IsBuilt u (rows ++ more) cube label → is_any_of rows label ≡ false
     → is_any_of more label ≡ false → IsBuilt u (rows ++ more) cube (label + 1)

@@ -1,4 +1,4 @@
--- The completions of a prefix: which they are, and one that goes on as a function says.
+-- The completions of a prefix: which they are, and the one whose other positions a function gives.
 use Rattle.std.proofs.Common.{◌≡◌, ℕ, zero, suc, ◌<◌, ◌≤◌, Bool, true, List, [], ◌∷◌, ◌++◌, length, get_or, nat_eq, nat_lt, refl, ap, arith}
 use Rattle.std.specs.List.{starts_with, AllByRecursion}
 use Rattle.std.proofs.lemmas.Bool.{and_parts, and_from, eq-eqb, lt-ltb}
@@ -12,7 +12,7 @@ use Rattle.am_search.proofs.Walks.{completion_whole}
 abbrev pub begins : List ℕ → List ℕ → Bool
 begins c prefix = starts_with nat_eq c prefix
 
--- a choice that begins with a longer prefix begins with its front
+-- a choice that begins with a longer prefix begins with the shorter one
 begins_with_front : (c prefix more : List ℕ) → begins c (prefix ++ more) ≡ true
     → begins c prefix ≡ true
 begins_with_front c [] more e = refl
@@ -27,7 +27,7 @@ completion_of_front ns prefix more c i =
     let r = completion_whole ns (prefix ++ more) c i in
     in_completions ns prefix c r.0 (begins_with_front c prefix more r.1)
 
--- what holds of each completion of a prefix holds of each of a longer one
+-- what holds of each completion of a prefix holds of each completion of a longer prefix
 pub each_completion : (P : List ℕ → Type 0) (ns prefix more : List ℕ)
     → AllByRecursion P (completions ns prefix) → AllByRecursion P (completions ns (prefix ++ more))
 each_completion P ns prefix more all =
@@ -36,7 +36,7 @@ each_completion P ns prefix more all =
 
 -- ---- Going on as a function says.
 
--- a position for each label, at which it has a value
+-- a function gives a position for each label, at which the label has a value
 abbrev pub IsBelow : (ℕ → ℕ) → List ℕ → Type 0
 IsBelow f ns = (i : ℕ) → i < length ns → f i < get_or ns i 0
 
@@ -70,7 +70,7 @@ completed_begins f (n ∷ ns) (p ∷ prefix) a =
     (completed_begins (λ i. f (suc i)) ns prefix (and_parts (nat_lt p n) (admits ns prefix) a).1)
 completed_begins f ns prefix a = refl
 
--- it is a completion, and goes on as it should
+-- it is a completion, and it has the positions of the function after the prefix
 pub completed_in : (f : ℕ → ℕ) (ns prefix : List ℕ) → admits ns prefix ≡ true → IsBelow f ns → IsIn (completions ns prefix) (completed f ns prefix)
 completed_in f ns prefix a below =
     in_completions ns prefix (completed f ns prefix) (completed_admitted f ns prefix a below, completed_length f ns prefix) (completed_begins f ns prefix a)

@@ -1,4 +1,4 @@
--- The verdict of a cube at a prefix, and that of its whole choices.
+-- The verdict of a cube at a prefix, and its verdicts at the completions of the prefix.
 use Rattle.std.proofs.Common.{◌≡◌, ◌≢◌, ℕ, ◌<◌, ◌≤◌, Bool, true, false, not, cond, ◌||◌, ◌==◌, List, [], ◌∷◌, length, get_or, refl, ap, sym, ◌∙◌, subst, inl, inr, arith}
 use Rattle.std.specs.List.{list_all, AllByRecursion}
 use Rattle.std.proofs.lemmas.Bool.{cases_Bool, cases_lt, eq-eqb, ne_eqb, lt-ltb, le-ltb, ltb-true, ltb-false, eqb-true, cond_both, false_from_ne_true, or_right}
@@ -31,7 +31,7 @@ fits_from prefix m h = elim (cases_lt m.label (length prefix)) [
 pub fits_at : (prefix : List ℕ) (m : LabelMask) → m.label < length prefix → fits prefix m ≡ permits_at prefix m
 fits_at prefix m h = ap (λ b. not b || permits_at prefix m) (lt-ltb m.label (length prefix) h)
 
--- what fits a choice fits its prefixes, and the other way round where the prefix has the position
+-- a mask that fits a choice fits its prefixes, and the reverse if the prefix has the position
 pub fits_prefix : (c prefix : List ℕ) (m : LabelMask) → begins c prefix ≡ true → fits c m ≡ true → fits prefix m ≡ true
 fits_prefix c prefix m b e = fits_from prefix m (λ h.
     let long = begins_length prefix c b in
@@ -44,7 +44,7 @@ fits_again c prefix m b h e = fits_from c m (λ within.
 
 -- ---- Masks that are neither empty nor full.
 
--- a mask of a label, of whose positions it permits some and not all
+-- a mask permits some positions of its label, but not all
 pub record IsProper (ns : List ℕ) (m : LabelMask) : Type 0 where
   pub within : m.label < length ns
   pub some : (j : ℕ) × (j < get_or ns m.label 0) × (get_or m.mask j false ≡ true)
@@ -54,13 +54,13 @@ pub record IsProper (ns : List ℕ) (m : LabelMask) : Type 0 where
 abbrev pub HaveValues : List ℕ → Type 0
 HaveValues ns = (i : ℕ) → i < length ns → 0 < get_or ns i 0
 
--- a position for each label, which the label's mask permits
+-- a position for each label that the label's mask permits
 pub record Permitted (ns : List ℕ) (masks : List LabelMask) : Type 0 where
   pub position : ℕ → ℕ
   pub below : IsBelow position ns
   pub each : AllByRecursion (λ m. get_or m.mask (position m.label) false ≡ true) masks
 
--- the same position but at one label
+-- the same positions, except at one label
 abbrev pub but_at : (ℕ → ℕ) → ℕ → ℕ → ℕ → ℕ
 but_at f label j i = cond (i == label) j (f i)
 
@@ -95,7 +95,7 @@ permitted ns (m ∷ masks) values ascend proper =
 -- ---- The masks of a prefix, and its completions.
 
 module _ (ns prefix : List ℕ) (masks : List LabelMask) (values : HaveValues ns) (admitted : admits ns prefix ≡ true) where
-  -- a completion that fits exists where the prefix fits
+  -- if the masks fit the prefix, they fit some completion
   pub some_fits : AscendByLabel masks → AllByRecursion (IsProper ns) masks → list_all (fits prefix) masks ≡ true
       → (c : List ℕ) × IsIn (completions ns prefix) c × (list_all (fits c) masks ≡ true)
   some_fits ascend proper e =
@@ -110,7 +110,7 @@ module _ (ns prefix : List ℕ) (masks : List LabelMask) (values : HaveValues ns
       ]) (each_passes (fits prefix) masks e) r.each in
       (c, i, all_pass (fits c) masks (each_both (IsProper ns) (λ m. m.label < length ns → fits c m ≡ true) (λ m. fits c m ≡ true) masks (λ m p f. f p.within) proper here))
 
-  -- a completion that a mask behind the prefix forbids
+  -- a mask of a label after the prefix forbids some completion
   pub one_forbidden : (m : LabelMask) → IsIn masks m → IsProper ns m → length prefix ≤ m.label
       → (c : List ℕ) × IsIn (completions ns prefix) c × (list_all (fits c) masks ≡ false)
   one_forbidden m at proper behind =
@@ -124,7 +124,7 @@ module _ (ns prefix : List ℕ) (masks : List LabelMask) (values : HaveValues ns
       let here : get_or c m.label 0 ≡ j.0 = completed_at f ns prefix m.label behind proper.within ∙ but_at_same (λ k. 0) m.label j.0 in
       (c, i, not_all (fits c) masks m at (fits_at c m within ∙ ap (λ p. get_or m.mask p false) here ∙ j.2))
 
-  -- some completion there is
+  -- there is some completion
   pub some_completion : (c : List ℕ) × IsIn (completions ns prefix) c
   some_completion = (completed (λ i. 0) ns prefix, completed_in (λ i. 0) ns prefix admitted values)
 

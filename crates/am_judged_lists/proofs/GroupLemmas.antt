@@ -1,4 +1,4 @@
--- The first of the verdicts of some lists.
+-- The first verdict that passes, among the verdicts of some lists.
 use Rattle.std.proofs.Common.{◌≡◌, ℕ, zero, suc, ◌<◌, Bool, true, false, List, [], ◌∷◌, length, map, slice_get, Option, Some, None, option_map, IfSome, IfNone, refl, ap, sym, ◌∙◌, inl, inr, arith}
 use Rattle.std.specs.Prelude.{is_some}
 use Rattle.std.specs.List.{list_any}

@@ -1,4 +1,4 @@
--- The verdict of a cube, as the code comes to it.
+-- The verdict of a cube, as the code computes it.
 use Rattle.std.proofs.Common.{◌≡◌, ℕ, zero, suc, ◌+◌, ◌<◌, ◌≤◌, min, max, Bool, true, false, not, cond, ◌&&◌, List, [], ◌∷◌, ◌++◌, length, drop, get_or, nat_lt, refl, ap, sym, ◌∙◌, subst, inl, inr, arith}
 use Rattle.std.specs.List.{list_all, AllByRecursion}
 use Rattle.std.proofs.lemmas.Bool.{cases_lt, and_from, and_left, and_right, lt-ltb, le-ltb}
@@ -14,7 +14,7 @@ use Rattle.am_judged_lists.proofs.CubeLemmas.{fits, fits_from}
 
 -- ---- The masks are looked at up to the end of the prefix.
 
--- a mask of a label behind the prefix forbids nothing
+-- a mask of a label after the prefix forbids nothing
 past_fits : (prefix : List ℕ) (m : LabelMask) → length prefix ≤ m.label → fits prefix m ≡ true
 past_fits prefix m h = fits_from prefix m (λ within. absurd (omega (arith, h, within)))
 
@@ -24,7 +24,7 @@ all_from_here test [] k m h at here e = absurd (omega (arith, h))
 all_from_here test (n ∷ masks) zero m h at here e = and_from (test n) (list_all test masks) (ap test (sym at) ∙ here) e
 all_from_here test (n ∷ masks) (suc k) m h at here e = all_from_here test masks k m (omega arith) at here e
 
--- where labels are from `k` on, the mask at `n` is of a label from `k + n` on
+-- if all labels are at least `k`, the label of the mask at `n` is at least `k + n`
 pub behind_fits : (prefix : List ℕ) (masks : List LabelMask) (k n : ℕ) → AscendByLabel masks → AllByRecursion (λ m. k ≤ m.label) masks → length prefix ≤ k + n
     → list_all (fits prefix) (drop n masks) ≡ true
 behind_fits prefix [] k zero ascend from past = refl
@@ -109,7 +109,7 @@ pub must_not_reached : (cube : MaskedLabels) (prefix : List ℕ) → list_all (r
 must_not_reached cube prefix some =
     sym (must_is cube prefix ∙ and_right (may_at cube prefix) (list_all (reaches prefix) cube.masks) some)
 
--- by the reach that is kept
+-- the stored reach decides whether the prefix reaches all masks
 pub reach_within : (masks : List LabelMask) (reach n : ℕ) (cube : MaskedLabels) (prefix : List ℕ) → IsKept masks reach → masks ≡ cube.masks → n ≡ length prefix → reach ≤ n → list_all (reaches prefix) cube.masks ≡ true
 reach_within masks reach n cube prefix kept same e h =
     subst (λ ms. list_all (reaches prefix) ms ≡ true) same (reached (length prefix) masks (omega (arith, kept.same, e, h)))

@@ -26,7 +26,7 @@ pub all_pass : {X : Type 0} (test : X → Bool) (xs : List X) → AllByRecursion
 all_pass test [] all = refl
 all_pass test (x ∷ xs) all = and_from (test x) (list_all test xs) all.0 (all_pass test xs all.1)
 
--- where not each passes, one fails
+-- if not all pass, one fails
 pub one_fails : {X : Type 0} (test : X → Bool) (xs : List X) → list_all test xs ≡ false → (x : X) × IsIn xs x × (test x ≡ false)
 one_fails test [] e = cc
 one_fails test (x ∷ xs) e = elim (cases_Bool (test x)) [
@@ -34,7 +34,7 @@ one_fails test (x ∷ xs) e = elim (cases_Bool (test x)) [
   | inr fails ↦ (x, inl refl, fails)
 ]
 
--- one that fails, and one that passes
+-- if one fails, not all pass; if one passes, some do; if each fails, none does
 pub not_all : {X : Type 0} (test : X → Bool) (xs : List X) (x : X) → IsIn xs x → test x ≡ false → list_all test xs ≡ false
 not_all test [] x i e = absurd i
 not_all test (y ∷ xs) x (inl same) e = rw (ap test same ∙ e) refl
@@ -60,7 +60,7 @@ same_any p q (x ∷ xs) all = ap (λ b. b || list_any p xs) all.0 ∙ ap (λ b. 
 
 -- ---- Numbers in a row.
 
--- a test that all others pass
+-- a test that all numbers pass, and one that all but one pass
 pub all_others : (test : ℕ → Bool) (first count : ℕ) → ((i : ℕ) → first ≤ i → test i ≡ true) → list_all test (range_with_len first count) ≡ true
 all_others test first zero pass = refl
 all_others test first (suc count) pass = rw (pass first (omega arith), all_others test (first + 1) count (λ i h. pass i (omega arith))) refl

@@ -37,7 +37,7 @@ no_reason cube prefix some fit =
 
 -- ---- Why the verdict is `Yes`.
 
--- labels of a prefix, among which is that of each mask
+-- labels of a prefix that include the label of each mask
 pub record AreLabelsOf (masks : List LabelMask) (labels : Labels) (prefix : List ℕ) : Type 0 where
   pub within : (i : ℕ) → IsTrue (has_label labels i) → i < length prefix
   pub each : AllByRecursion (λ m. IsTrue (has_label labels m.label)) masks
@@ -91,7 +91,7 @@ certain cube labels prefix e are = record {
 
 -- ---- Mask by mask.
 
--- where the verdict is `Yes`, the labels of all masks are of the prefix
+-- if the verdict is `Yes`, the labels of all masks are labels of the prefix
 at_index : (P : LabelMask → Type 0) (masks : List LabelMask) (k : ℕ) (m : LabelMask)
     → AllByRecursion P masks → k < length masks → m ≡ get_or masks k m → P m
 at_index P [] k m all low is = absurd (omega arith)
@@ -119,7 +119,7 @@ labels_next masks k m old new prefix before low is within with =
     subst (λ ms. AreLabelsOf ms new prefix) next
     (labels_more (take k masks) m old new prefix before within with)
 
--- the masks up to some, and those behind them
+-- the first masks, and those after them
 pub all_of_parts : (test : LabelMask → Bool) (masks : List LabelMask) (k : ℕ)
     → list_all test (take k masks) ≡ true → list_all test (drop k masks) ≡ true
     → list_all test masks ≡ true

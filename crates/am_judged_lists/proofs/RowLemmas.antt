@@ -11,7 +11,7 @@ use Rattle.am_labels.specs.Row.{TruthRow, truth_among, truth_at, is_reached, row
 use Rattle.am_judged_lists.specs.Rows.{is_label, is_any_of, allows, all_allow, is_false_without, is_never_true}
 use Rattle.am_judged_lists.proofs.ListLemmas.{all_both, all_but, all_others, and_true}
 
--- one row more
+-- one more row
 pub all_allow_more : (rows : List TruthRow) (i : ℕ) (row : TruthRow) (label j : ℕ) → i < length rows → row ≡ get_or rows i row
     → all_allow (take (i + 1) rows) label j ≡ (all_allow (take i rows) label j && allows row label j)
 all_allow_more rows i row label j h here =
@@ -32,7 +32,7 @@ pub all_allow_joined : (rows more : List TruthRow) (label j : ℕ)
     → all_allow (rows ++ more) label j ≡ (all_allow rows label j && all_allow more label j)
 all_allow_joined rows more label j = list_all-append (λ row. allows row label j) rows more
 
--- where no row is of a label, each allows its positions
+-- if no row is of a label, each row allows its positions
 pub others_allow : (rows : List TruthRow) (label j : ℕ) → is_any_of rows label ≡ false
     → all_allow rows label j ≡ true
 others_allow [] label j none = refl
@@ -41,7 +41,7 @@ others_allow (row ∷ rows) label j none =
     and_from (allows row label j) (all_allow rows label j)
     (ap (λ b. not b || truth_at row j) parts.0) (others_allow rows label j parts.1)
 
--- one position, narrowed by one row more: by one of the label, and by another
+-- one position, narrowed by one more row: a row of the label, or a row of another label
 pub grouped : (a x y : Bool) → ((a && x) && y) ≡ (a && (x && y))
 grouped true x y = refl
 grouped false x y = refl
@@ -126,7 +126,7 @@ one_more xs i x here =
     take_more xs i x (slice_get_within xs i x here)
     ∙ ap (λ y. take i xs ++ y ∷ []) (get_or_from_slice_get xs i x x here)
 
--- what is made of each, with one more
+-- a mapped list, with one more member
 pub mapped_more : {X Y : Type 0} (f : X → Y) (xs : List X) (i : ℕ) (x : X) (ys : List Y) (y : Y)
     → ys ≡ map f (take i xs) → slice_get xs i ≡ Some x → y ≡ f x
     → ys ++ y ∷ [] ≡ map f (take (i + 1) xs)

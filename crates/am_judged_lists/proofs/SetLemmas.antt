@@ -7,7 +7,7 @@ use Rattle.std.proofs.lemmas.Nat.{and_le_r}
 use mir.Syntax.{w128}
 use Rattle.am_judged_lists.specs.declared.list_set.TheConstants.{ROOM}
 
--- the list at a place is in the set of these bits
+-- the list at an index is in the set of these bits
 abbrev pub is_in : ℕ → ℕ → Bool
 is_in bits k = nat_eq (bit_at bits k) 1
 
@@ -64,7 +64,7 @@ pub none_from : (bits from k : ℕ) → from_place bits from ≡ 0 → from < RO
 none_from bits from k e h low high =
     ap (λ n. nat_eq n 1) (sym (same_from bits from k h low high) ∙ ap (λ n. bit_at n k) e ∙ bit_at-zero k)
 
--- the place of the lowest 1
+-- the index of the lowest 1 from `start` on
 pub record IsFirst (bits start place : ℕ) : Type 0 where
   pub from : start ≤ place
   pub within : place < ROOM

@@ -13,7 +13,7 @@ use Rattle.am_judged_lists.specs.Places.{NoneBetween, IsNext}
 use Rattle.am_judged_lists.specs.TableView.{IsBlockFrom}
 
 module _ (test : MaskedLabels → Bool) (cubes : List MaskedLabels) where
-  -- those that a set of candidates leaves out
+  -- cubes that a set of candidates leaves out do not pass
   pub left_out : (block : Block) (set : ListSet) (first from end : ℕ) → IsBlockFrom cubes first block → first ≤ from → end ≤ ROOM
       → ((k : ℕ) (cube : MaskedLabels) → IsAt k cube block → test cube ≡ true → has set k ≡ true)
       → ((k : ℕ) → from - first ≤ k → k < end → has set k ≡ false) → NoneBetween test cubes from (first + end)
@@ -25,14 +25,14 @@ module _ (test : MaskedLabels → Bool) (cubes : List MaskedLabels) where
       let apart : true ≡ false = sym within ∙ none k (omega (arith, past)) (omega (arith, before, past, low)) in cc)
 
 module _ {X : Type 0} (test : X → Bool) (xs : List X) where
-  -- one more at which it does not pass
+  -- one more member that does not pass
   pub none_more : (from i : ℕ) (x : X) → NoneBetween test xs from i → slice_get xs i ≡ Some x → test x ≡ false → NoneBetween test xs from (i + 1)
   none_more from i x none here fails j y low high at = elim (cases_eq j i) [
     | inl same ↦ ap test (same_Some y x (sym at ∙ ap (slice_get xs) same ∙ here)) ∙ fails
     | inr other ↦ none j y low (omega (arith, high, other)) at
   ]
 
-  -- the last of them is behind the list
+  -- none passes before `end`, if the search came to `end` or to the end of the list
   pub none_to_end : (from i end : ℕ) → NoneBetween test xs from i → (length xs ≤ i) ⊎ (end ≤ i) → NoneBetween test xs from end
   none_to_end from i end none past j y low high at =
       none j y low (elim past [

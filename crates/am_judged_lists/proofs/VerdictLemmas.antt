@@ -81,11 +81,11 @@ open_exactly test cs = (
   λ both. verdict_open test cs (not_each_from test cs both.1) both.0,
 )
 
--- one choice alone is decided
+-- the verdict over one choice is `Yes` or `No`
 verdict_over_one : (test : List ℕ → Bool) (c : List ℕ) → verdict_over test (c ∷ []) ≡ cond (test c) Yes No
 verdict_over_one test c = elim (cases_Bool (test c)) [ inl e ↦ rw e refl | inr e ↦ rw e refl ]
 
--- and so is that of a list at a whole choice
+-- so is the verdict of a list at a whole choice
 pub list_says : (u : List Label) (ms : List Condition) (c : List ℕ) → IsWhole (sizes u) c
     → verdict_of_list u ms c ≡ cond (matches_at u ms c) Yes No
 list_says u ms c whole =

@@ -1,5 +1,5 @@
--- The sets that a block keeps of its cubes. Each holds all cubes of which something is so, and it
--- does no harm where it holds more: a cube that is found is asked itself.
+-- The sets that a block keeps of its cubes. Each set has all cubes with some feature. It does no
+-- harm if a set has more cubes, because a cube that is found is asked itself.
 use Rattle.std.specs.Prelude.{◌≡◌, ℕ, List, Bool, false, not, ◌&&◌, ◌||◌, ◌==◌, nat_lt, IsTrue}
 use Rattle.std.specs.Prelude.{slice_get, slice_index_or, Some}
 use Rattle.std.specs.List.{list_all}
@@ -11,8 +11,8 @@ use Rattle.am_judged_lists.specs.declared.list_set.ListSet.{ListSet}
 use Rattle.am_judged_lists.specs.Cube.{MaskedLabels}
 use Rattle.am_judged_lists.specs.ListSetView.{has}
 
--- The masks of a cube are all of labels below a number; and they permit a position of a label. Of a
--- label without a mask each position is permitted.
+-- `is_within`: all masks of the cube are of labels below a number. `permits_position`: the masks
+-- permit a position of a label. A label without a mask permits each of its positions.
 abbrev pub is_within : MaskedLabels → ℕ → Bool
 is_within cube len = list_all (λ m. nat_lt m.label len) cube.masks
 
@@ -20,23 +20,24 @@ abbrev pub permits_position : MaskedLabels → ℕ → ℕ → Bool
 permits_position cube label position =
     list_all (λ m. not (m.label == label) || slice_index_or m.mask position false) cube.masks
 
--- What is asked of a cube is so.
+-- A cube has a feature.
 abbrev pub has_feature : Feature → MaskedLabels → Bool
 has_feature Matched cube = not cube.empty
 has_feature (Within len) cube = not cube.empty && is_within cube len
 
--- The cube at a place is in the row of a position, where there is one.
+-- The cube at the index `k` is in the row of a position, if there is such a row.
 abbrev pub IsInRow : List ListSet → ℕ → ℕ → Type 0
 IsInRow rows position k =
     (row : ListSet) → slice_get rows position ≡ Some row → IsTrue (has row k)
 
--- It is in the row of each position that it permits.
+-- The cube is in the row of each position that it permits.
 abbrev pub IsInRows : ℕ → MaskedLabels → LabelRows → Type 0
 IsInRows k cube rows =
     (position : ℕ) → IsTrue (permits_position cube rows.label position)
     → IsInRow rows.rows.items position k
 
--- It is in the set of each number of labels that is not below all of its masks.
+-- `AreWithin`: if the cube permits some choice, it is in the set of each number that is above the
+-- labels of all its masks. `AreInRows`: it is in the rows of each label, as above.
 abbrev pub AreWithin : ℕ → MaskedLabels → List ListSet → Type 0
 AreWithin k cube sets =
     (len : ℕ) (set : ListSet) → slice_get sets len ≡ Some set
@@ -46,7 +47,7 @@ abbrev pub AreInRows : ℕ → MaskedLabels → List LabelRows → Type 0
 AreInRows k cube labels =
     (i : ℕ) (rows : LabelRows) → slice_get labels i ≡ Some rows → IsInRows k cube rows
 
--- A cube stands at a place of a block.
+-- A cube is at the index `k` of a block.
 pub record IsAt (k : ℕ) (cube : MaskedLabels) (block : Block) : Type 0 where
   pub matched : IsTrue (not cube.empty) → IsTrue (has block.matched k)
   pub within : AreWithin k cube block.within.items

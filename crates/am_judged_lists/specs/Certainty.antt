@@ -10,8 +10,8 @@ abbrev pub passes : Certainty → Verdict → Bool
 passes May v = not (is_no v)
 passes Must v = is_yes v
 
--- `not` exchanges the two: `not q` is not excluded where `q` is not certain, and certain where `q`
--- is excluded.
+-- The opposite of a verdict exchanges the two: it is not excluded if the verdict is not certain,
+-- and it is certain if the verdict is excluded.
 abbrev pub other : Certainty → Certainty
 other May = Must
 other Must = May

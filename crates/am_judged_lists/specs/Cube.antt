@@ -1,4 +1,4 @@
--- Cubes: which positions a list of matchers permits of each label, and the verdict that follows.
+-- Cubes: which positions of each label a list of matchers permits, and the verdict that follows.
 use Rattle.std.specs.Prelude.{◌≡◌, ℕ, List, length, slice_index, slice_index_or, nat_lt, Bool}
 use Rattle.std.specs.Prelude.{false, not, ◌&&◌, ◌||◌, IsTrue, if◌then◌else◌}
 use Rattle.std.specs.List.{list_all}
@@ -10,40 +10,41 @@ use Rattle.am_labels.specs.Matcher.{Condition}
 use Rattle.am_judged_lists.specs.declared.cube.LabelMask.{LabelMask}
 use Rattle.am_judged_lists.specs.Verdicts.{verdict_of_list}
 
--- A cube: whether no choice is permitted at all, and the labels that have a mask. A mask says of
--- each position of its label whether it is permitted; a label without one permits all.
+-- A cube: whether no choice is permitted at all, and the labels that have a mask. A mask says which
+-- positions of its label are permitted; a label without a mask permits all positions.
 pub record MaskedLabels : Type 0 where
   pub empty : Bool
   pub masks : List LabelMask
 
--- The prefix is long enough to have a position of the mask's label; and that position is permitted.
+-- `reaches`: the prefix is long enough to have a position of the mask's label. `permits_at`: the
+-- mask permits this position.
 abbrev pub reaches : List ℕ → LabelMask → Bool
 reaches prefix m = nat_lt m.label (length prefix)
 
 abbrev pub permits_at : List ℕ → LabelMask → Bool
 permits_at prefix m = slice_index_or m.mask (slice_index prefix m.label) false
 
--- No position of a prefix is forbidden: each that has a mask is permitted. What the labels behind
--- the prefix permit is not looked at.
+-- The cube permits some choice, and each mask whose label is in the prefix permits the prefix's
+-- position of it. The masks of labels after the prefix are not looked at.
 abbrev pub may_at : MaskedLabels → List ℕ → Bool
 may_at cube prefix =
     not cube.empty && list_all (λ m. not (reaches prefix m) || permits_at prefix m) cube.masks
 
--- The prefix has a position of each label that has a mask. So where these are permitted no
+-- The prefix has a position of each label that has a mask. So if these positions are permitted, no
 -- completion is forbidden.
 abbrev pub reaches_all : MaskedLabels → List ℕ → Bool
 reaches_all cube prefix = list_all (reaches prefix) cube.masks
 
--- The verdict of a cube at a prefix, by the positions of the prefix alone.
+-- The verdict of a cube at a prefix. It depends on the positions of the prefix alone.
 -- Source: own choice.
--- Example: of two labels the second alone has a mask, which permits the position 0. At the empty
--- prefix and at 1 the verdict is `Open`, at 1 0 it is `Yes`, and at 1 1 it is `No`.
+-- Example: of two labels only the second has a mask, which permits only the position 0. At the
+-- empty prefix and at 1 the verdict is `Open`, at 1 0 it is `Yes`, and at 1 1 it is `No`.
 abbrev pub verdict_at : MaskedLabels → List ℕ → Verdict
 verdict_at cube prefix =
     if not (may_at cube prefix) then No else if reaches_all cube prefix then Yes else Open
 
--- A cube is that of a list of matchers: at each prefix that the universe admits its verdict is
--- the verdict of the list.
+-- A cube is that of a list of matchers: at each prefix that the universe admits, its verdict is the
+-- verdict of the list.
 abbrev pub IsCubeOf : List Label → List Condition → MaskedLabels → Type 0
 IsCubeOf u ms cube =
     (prefix : List ℕ) → IsTrue (admits (sizes u) prefix)

@@ -1,14 +1,14 @@
--- A mask as it is kept in memory, and as contracts see it.
+-- A mask as it is stored in memory, and as contracts see it.
 use Rattle.std.specs.Prelude.{ℕ, ◌*◌, ◌/◌, ◌%◌, List, Bool, length, map, slice_index, ◌==◌}
 use Rattle.std.specs.Int.{bit_at}
 use Rattle.std.specs.List.{range_with_len}
 use Rattle.am_judged_lists.specs.declared.mask.TheConstants.{WORD}
 
--- A position is permitted where its bit is 1: its word is the one at its quotient by `WORD`, and
--- its place there the rest.
+-- A position is permitted if its bit is 1. The quotient of the position and `WORD` is the index of
+-- its word, and the remainder is the index of its bit in the word.
 abbrev pub is_permitted : List ℕ → ℕ → Bool
 is_permitted words j = bit_at (slice_index words (j / WORD)) (j % WORD) == 1
 
--- Of each position for which there is a word, whether it is permitted.
+-- Whether each position that has a word is permitted, in order.
 unfoldable pub permitted_of : List ℕ → List Bool
 permitted_of words = map (is_permitted words) (range_with_len 0 (WORD * length words))

@@ -1,12 +1,12 @@
--- The first of some places at which a test passes.
+-- The first index at which a test passes.
 use Rattle.std.specs.Prelude.{◌≡◌, ℕ, ◌<◌, ◌≤◌, List, length, slice_get, Some, Bool, false, IsTrue}
 
--- From a place on, before another one, the test passes nowhere.
+-- The test passes at no index that is at least `from` and below `to`.
 abbrev pub NoneBetween : {X : Type 0} → (X → Bool) → List X → ℕ → ℕ → Type 0
 NoneBetween {X = X} test xs from to =
     (j : ℕ) (x : X) → from ≤ j → j < to → slice_get xs j ≡ Some x → test x ≡ false
 
--- A place is the first from another one on at which the test passes.
+-- The index `i` is the first one, from `from` on, at which the test passes.
 pub record IsNext {X : Type 0} (test : X → Bool) (xs : List X) (from i : ℕ) : Type 0 where
   pub after : from ≤ i
   pub within : i < length xs

@@ -6,11 +6,11 @@ use Rattle.am_search.specs.Labels.{has_label}
 use Rattle.am_search.specs.Conflict.{AgreesAt}
 use Rattle.am_judged_lists.specs.Cube.{MaskedLabels, verdict_at}
 
--- Some labels of a prefix are a reason for a verdict of a cube: at each choice that is as long at
--- least, and has the prefix's positions at these labels, the verdict is this one.
+-- Some labels of a prefix are a reason for a verdict of a cube: at each choice that is at least as
+-- long as the prefix, and has the prefix's positions at these labels, the cube has this verdict.
 -- Source: own choice.
--- Example: a cube permits the position 0 of the second label alone. Then the second label is a
--- reason for `No` at the prefix 0 1, and for `Yes` at 1 0.
+-- Example: a cube has one mask, which permits only the position 0 of the second label. Then the
+-- second label is a reason for `No` at the prefix 0 1, and for `Yes` at 1 0.
 pub record IsReason (cube : MaskedLabels) (verdict : Verdict) (labels : Labels)
     (prefix : List ℕ) : Type 0 where
   pub within : (i : ℕ) → IsTrue (has_label labels i) → i < length prefix

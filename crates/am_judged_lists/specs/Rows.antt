@@ -8,20 +8,21 @@ abbrev pub is_label : Option ℕ → ℕ → Bool
 is_label None i = false
 is_label (Some label) i = label == i
 
--- One of some rows is of the label at a position.
+-- At least one of some rows is of the label at a position.
 abbrev pub is_any_of : List TruthRow → ℕ → Bool
 is_any_of rows i = list_any (λ row. is_label row.label i) rows
 
--- A row allows a position of a label where it is true there, or is of another label; and each of
--- some rows does.
+-- `allows`: a row is true at a position of a label, or is of another label. `all_allow`: each of
+-- some rows allows the position.
 abbrev pub allows : TruthRow → ℕ → ℕ → Bool
 allows row i j = not (is_label row.label i) || truth_at row j
 
 abbrev pub all_allow : List TruthRow → ℕ → ℕ → Bool
 all_allow rows i j = list_all (λ row. allows row i j) rows
 
--- A row is of a label that is not declared, and false: it is true at no choice. The first says so
--- of the parts of a row: its label, if that is declared, and its truth at the position 0.
+-- `is_never_true`: a row is of a label that is not declared, and is false, so it is true at no
+-- choice. `is_false_without` says this of the parts of a row: its label, if that is declared, and
+-- its truth at the position 0.
 abbrev pub is_false_without : Option ℕ → Bool → Bool
 is_false_without None truth = not truth
 is_false_without (Some label) truth = false

@@ -1,4 +1,4 @@
-//! A few cubes, which are asked at once which of them may pass.
+//! A few cubes, with sets that show at once which of the cubes may pass.
 
 ghost use Rattle.std.specs.Prelude.{◌≡◌, ℕ, ◌<◌, ◌≤◌, length, slice_get, slice_index_or};
 ghost use Rattle.std.specs.Prelude.{Some, IfOk, IsTrue, false};
@@ -15,17 +15,17 @@ use crate::mask::Mask;
 use am_universe::{Choice, Universe};
 use std::alloc::{AllocError, Global};
 
-/// What is asked of a cube, to make a set of those of which it is so.
+/// A feature that a cube may have. A block keeps the set of the cubes that have it.
 #[derive(Clone, Copy)]
 enum Feature {
     /// Some choice is permitted.
     Matched,
-    /// The labels that have a mask are among so many first ones.
+    /// Some choice is permitted, and all masks are of the first labels, as many as the number says.
     Within(usize),
 }
 
 impl Feature {
-    /// Whether it is so of a cube.
+    /// Whether a cube has the feature.
     fn is_of(self, cube: &Cube) -> bool
         ensures { result ≡ has_feature self cube.now }
     {
@@ -35,7 +35,7 @@ impl Feature {
         }
     }
 
-    /// The places of the cubes of which it is so.
+    /// The indices of the cubes that have the feature.
     fn places(self, cubes: &[Cube]) -> ListSet
         requires { length cubes.now ≤ ROOM }
         ensures { (k : ℕ) (cube : MaskedLabels) → slice_get cubes.now k ≡ Some cube
@@ -59,9 +59,9 @@ struct LabelRows {
 }
 
 impl LabelRows {
-    /// The rows of a label of some size. Fails only if memory runs out.
+    /// Makes the rows of a label of this size. Fails only if memory runs out.
     ///
-    /// A cube without a mask of the label stays in each row, so only the masks are gone through.
+    /// A cube without a mask of the label stays in each row, so only the masks are looked at.
     fn of(alloc: Global, cubes: &[Cube], label: usize, size: usize) -> Result<LabelRows, AllocError>
         requires { length cubes.now ≤ ROOM }
         ensures { IfOk result (λ rows. (k : ℕ) (cube : MaskedLabels)
@@ -76,8 +76,8 @@ impl LabelRows {
         Ok(LabelRows { label, rows })
     }
 
-    /// Those of some cubes that permit what a prefix has of the label. A position behind the rows
-    /// takes none out.
+    /// Returns the cubes of `left` that permit the prefix's position of the label. If the prefix
+    /// has no such position, or no row is there for it, all cubes are returned.
     fn narrow(&self, left: ListSet, prefix: &Choice) -> ListSet
         ensures { (k : ℕ) (cube : MaskedLabels) → IsInRows k cube self.now
             → IsTrue (may_at cube prefix.now) → IsTrue (has left k) → IsTrue (has result k) }
@@ -93,19 +93,19 @@ impl LabelRows {
     }
 }
 
-/// At most as many cubes as a set has room for.
+/// Sets of cubes, for at most as many cubes as a set has room for.
 #[derive(Drop)]
 pub(crate) struct Block {
     /// The cubes that permit some choice.
     matched: ListSet,
-    /// Those of them whose masks are of labels among the first ones alone, by how many these are.
+    /// Those of them whose masks are all of the first labels, by the number of these labels.
     within: Vec<ListSet>,
-    /// The rows of the labels of which a cube has a mask, ascending.
+    /// The rows of each label for which some cube has a mask, in ascending order of the labels.
     labels: Vec<LabelRows>,
 }
 
 impl Block {
-    /// The block of some cubes. Fails only if memory runs out.
+    /// Makes the block of some cubes. Fails only if memory runs out.
     pub(crate) fn of(
         alloc: Global,
         universe: &Universe,
@@ -124,7 +124,7 @@ impl Block {
         })
     }
 
-    /// The places of the cubes that may pass at a prefix: all that do are among them.
+    /// The indices of the cubes that may pass at a prefix. All cubes that pass are among them.
     pub(crate) fn candidates(&self, certainty: Certainty, prefix: &Choice) -> ListSet
         ensures { (k : ℕ) (cube : MaskedLabels) → IsAt k cube self.now
             → IsTrue (passes certainty (verdict_at cube prefix.now)) → IsTrue (has result k) }
@@ -139,7 +139,7 @@ impl Block {
         left
     }
 
-    /// The places of the cubes that may pass at some prefix of a length.
+    /// The indices of the cubes that may pass at some prefix of this length.
     fn start(&self, certainty: Certainty, len: usize) -> ListSet
         ensures { (k : ℕ) (cube : MaskedLabels) (prefix : _) → IsAt k cube self.now
             → len ≡ length prefix → IsTrue (passes certainty (verdict_at cube prefix))
@@ -155,8 +155,8 @@ impl Block {
     }
 }
 
-/// For each number of first labels, the places of the cubes that permit some choice and have masks
-/// of these labels alone. Fails only if memory runs out.
+/// For each number of first labels, the indices of the cubes that permit some choice and have masks
+/// of these labels only. Fails only if memory runs out.
 fn sets_within(
     alloc: Global,
     universe: &Universe,
@@ -173,7 +173,7 @@ fn sets_within(
     Ok(sets)
 }
 
-/// The rows of the labels of which a cube has a mask. Fails only if memory runs out.
+/// The rows of each label for which some cube has a mask. Fails only if memory runs out.
 fn rows_of_labels(
     alloc: Global,
     universe: &Universe,
@@ -192,7 +192,7 @@ fn rows_of_labels(
     Ok(labels)
 }
 
-/// So many rows, each of which has every cube.
+/// Makes `size` rows, each with every cube. Fails only if memory runs out.
 fn rows_of_all(alloc: Global, size: usize) -> Result<Vec<ListSet>, AllocError>
     ensures { IfOk result (λ rows. (position k : ℕ) → k < ROOM → IsInRow rows.items position k) }
 {
@@ -203,7 +203,8 @@ fn rows_of_all(alloc: Global, size: usize) -> Result<Vec<ListSet>, AllocError>
     Ok(rows)
 }
 
-/// Takes the cube at a place out of the rows of the positions that its mask does not permit.
+/// Removes the cube at the index `place` from the rows of the positions that its mask does not
+/// permit.
 fn take_out(rows: &mut Vec<ListSet>, place: usize, mask: &Mask)
     requires { place < ROOM }
     ensures { (position k : ℕ) → k < ROOM

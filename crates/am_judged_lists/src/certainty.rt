@@ -7,7 +7,7 @@ use crate::judged_list::JudgedList;
 use am_search::Verdict;
 use am_universe::Choice;
 
-/// What is asked of a verdict. A verdict of which it is true passes.
+/// A question about a verdict. A verdict passes if the answer is yes.
 #[derive(Clone, Copy)]
 pub enum Certainty {
     /// Whether it is not `No`.
@@ -17,7 +17,8 @@ pub enum Certainty {
 }
 
 impl Certainty {
-    /// The other question. `not q` passes one exactly if `q` does not pass the other.
+    /// The other question. The opposite of a verdict passes it exactly if the verdict does not pass
+    /// this one.
     pub fn other(self) -> Certainty
         ensures other { result ≡ other self }
     {

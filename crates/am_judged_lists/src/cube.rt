@@ -52,10 +52,10 @@ impl LabelMask {
 pub struct Cube {
     /// No choice is permitted.
     empty: bool,
-    /// The labels of which some positions are permitted and some are not, ascending. Of every other
-    /// label all are, unless no choice is permitted.
+    /// The labels with some permitted positions and some forbidden ones, ascending. Every other
+    /// label permits all its positions, unless no choice is permitted.
     masks: Vec<LabelMask>,
-    /// One more than the last label that has a mask; 0 where none has.
+    /// One more than the last label that has a mask, or 0 if no label has one.
     reach: usize,
 }
 
@@ -82,8 +82,8 @@ impl Cube {
         Cube::of_rows(alloc, universe, rows.as_slice(), &[])
     }
 
-    /// Permits only the positions of a mask, of a label after those that have one. If it fails,
-    /// nothing has changed.
+    /// Permits only the positions of a mask. The label must come after those that have a mask. If
+    /// it fails, nothing has changed.
     fn restrict(&mut self, label: usize, mask: Mask, size: usize) -> Result<(), AllocError>
         requires label { label < MAX_LABELS }
         requires last { AllByRecursion (λ m. m.label < label) self.old.masks }
@@ -124,14 +124,14 @@ impl Cube {
         self.empty
     }
 
-    /// Whether the masks are all of labels among so many first ones.
+    /// Whether all masks are of the first `len` labels.
     pub(crate) fn is_within(&self, len: usize) -> bool
         ensures { result ≡ is_within self.now len }
     {
         self.reach <= len
     }
 
-    /// The mask of a label, if it has one: where the cube permits a position, the mask does.
+    /// The mask of a label, if it has one. It permits each position that the cube permits.
     pub(crate) fn mask_of(&self, label: usize) -> Option<&Mask>
         ensures { IfSome result (λ mask. (position : ℕ)
             → IsTrue (permits_position self.now label position)
@@ -174,7 +174,7 @@ impl Cube {
         if self.empty {
             return false;
         }
-        // The mask at `i` is of the label `i` or of one behind it.
+        // The mask at `i` is of the label `i` or of a later one.
         let within = self.masks.len().min(prefix.len());
         for i in (0..within).rev() {
             if !self.masks[i].fits(prefix) {
@@ -191,11 +191,11 @@ impl Cube {
         self.reach <= prefix.len() && self.may(prefix)
     }
 
-    /// Why the verdict at a prefix is `No`; `None` if it is not.
+    /// Why the verdict at a prefix is `No`, or `None` if it is not `No`.
     ///
-    /// It is the first label whose position is forbidden, or no label if no choice is permitted.
-    /// Each prefix that is at least as long and has the same position there has the verdict `No`
-    /// too.
+    /// The reason is the first label whose position is forbidden, or no label if no choice is
+    /// permitted. Each prefix that is at least as long and has the same position there has the
+    /// verdict `No` too.
     pub fn why_not(&self, prefix: &Choice) -> Option<Labels>
         ensures some { IfSome result (λ labels. IsReason self.now No labels prefix.now) }
         ensures none { IfNone result (is_no (verdict_at self.now prefix.now) ≡ false) }
@@ -203,7 +203,7 @@ impl Cube {
         if self.empty {
             return Some(Labels::none());
         }
-        // The mask at `i` is of the label `i` or of one behind it.
+        // The mask at `i` is of the label `i` or of a later one.
         let within = self.masks.len().min(prefix.len());
         for mask in &self.masks[..within] {
             if !mask.fits(prefix) {
@@ -213,15 +213,15 @@ impl Cube {
         None
     }
 
-    /// Why the verdict at a prefix is `Yes`; `None` if it is not.
+    /// Why the verdict at a prefix is `Yes`, or `None` if it is not `Yes`.
     ///
-    /// It is all labels that have a mask. Each prefix that is at least as long and has the same
-    /// positions there has the verdict `Yes` too.
+    /// The reason is all labels that have a mask. Each prefix that is at least as long and has the
+    /// same positions there has the verdict `Yes` too.
     pub fn why(&self, prefix: &Choice) -> Option<Labels>
         ensures some { IfSome result (λ labels. IsReason self.now Yes labels prefix.now) }
         ensures none { IfNone result (is_yes (verdict_at self.now prefix.now) ≡ false) }
     {
-        // What `len` promises tells the proof that a set has room for the labels of the prefix.
+        // The contract of `len` tells the proof that a set has room for the labels of the prefix.
         prove!(prefix.len() <= MAX_LABELS);
         if !self.must(prefix) {
             return None;
@@ -251,7 +251,7 @@ impl JudgedList for Cube {
         rows: &[Row],
         more: &[Row],
     ) -> Result<Cube, AllocError> {
-        // What `len` promises tells the proof that each label has some value.
+        // The contract of `len` tells the proof that each label has some value.
         prove!(universe.len() <= MAX_LABELS);
         let mut cube = Cube {
             empty: is_any_never_true(rows) || is_any_never_true(more),
@@ -259,7 +259,7 @@ impl JudgedList for Cube {
             reach: 0,
         };
         for label in 0..universe.len() {
-            // Of a label that no row is of, all positions are permitted.
+            // A label without a row permits all its positions.
             if is_any_of(rows, label) || is_any_of(more, label) {
                 let size = universe.size(label);
                 let mask = Mask::of_rows(alloc, rows, more, label, size)?;

@@ -1,4 +1,4 @@
-//! Many lists, of which the first that passes is wanted.
+//! Many lists, among which a judge finds the first one that passes.
 //!
 //! The silences and the pairs of a world, and the impossible lists of a space, are many lists. A
 //! judge asks whether any of them passes. If there are enough of them, cubes are asked together, in
@@ -16,14 +16,14 @@ use crate::table::Table;
 use am_universe::{Choice, Universe};
 use std::alloc::{AllocError, Global};
 
-/// The least number of lists for which a table is faster than to ask each.
+/// The least number of lists for which a table is faster than asking each list.
 const LEAST_LISTS: usize = 4;
 
-/// Many lists, of which the first is wanted whose verdict passes.
+/// Many lists, among which the first one whose verdict passes is found.
 pub enum Group<L> {
     /// Each is asked in turn.
     Lists(Vec<L>),
-    /// They are cubes, many of which are asked at once.
+    /// The lists are cubes, and many of them are asked at once.
     Cubes(Table),
 }
 
@@ -65,7 +65,7 @@ impl<L: JudgedList> Group<L> {
     }
 }
 
-// Written here so that what drops a group has one call to prove, and not a case for each form.
+// Written here so that code that drops a group has one call to prove, and not a case for each form.
 impl<L: Drop> Drop for Group<L> {
     fn drop(self) {
         match self {
@@ -75,7 +75,8 @@ impl<L: Drop> Drop for Group<L> {
     }
 }
 
-/// The first list from a place on whose verdict at a prefix passes: each is asked.
+/// The first list, from the index `from` on, whose verdict at a prefix passes. Asks each list in
+/// turn.
 fn next_list<L: JudgedList>(
     lists: &[L],
     certainty: Certainty,

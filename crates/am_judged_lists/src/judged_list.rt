@@ -21,10 +21,12 @@ pub trait JudgedList: Drop {
     /// The verdict that it returns at a prefix.
     ghost verdict: { Self → List ℕ → Verdict };
 
-    /// At which prefixes, over labels of these sizes, that is the verdict of the list of matchers.
+    /// The prefixes, over labels of these sizes, at which this is the verdict of the list of
+    /// matchers.
     ghost Knows: { List ℕ → List ℕ → Type 0 };
 
-    /// Makes the list of which these are the rows: those of `rows`, and then those of `more`.
+    /// Makes the list of the matchers that have these rows: those of `rows`, and then those of
+    /// `more`.
     ///
     /// They must be the rows of some list of matchers. Fails only if memory runs out.
     fn of_rows(

@@ -40,8 +40,8 @@ pub fn open_is_some()
         × IsTrue (list_any (λ c. not (matches_at u ms c)) (completions (sizes u) prefix))) }
 {}
 
-/// The verdict of a list at a whole choice is `Yes` if its label set matches the list, and else
-/// `No`.
+/// The verdict of a list at a whole choice is `Yes` if its label set matches the list, and
+/// otherwise `No`.
 ///
 /// So it is never `Open`.
 pub fn a_whole_choice_is_never_open()

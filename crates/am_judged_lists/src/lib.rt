@@ -4,9 +4,8 @@
 //! choice it returns a `Verdict`: whether the label sets of all, none or some of the prefix's
 //! completions match the list. It looks at no completion, and takes no memory.
 //!
-//! A judge asks a [`JudgedList`], of which a cube is one. It is made from rows, which [`rows_of`]
-//! returns. A [`Group`] finds the first of many lists that passes, and asks cubes together, in a
-//! [`Table`].
+//! A judge asks a [`JudgedList`]; a cube is one. It is made from rows, which [`rows_of`] returns. A
+//! [`Group`] finds the first of many lists that passes, and asks cubes together, in a [`Table`].
 #![tactic(auto)]
 
 // The rows of matchers.
@@ -24,7 +23,7 @@ mod cube;
 // The impossible lists of a space.
 mod impossible;
 
-// What is asked of a verdict.
+// Questions about a verdict.
 mod certainty;
 
 // Many lists at once.
@@ -41,5 +40,5 @@ pub use judged_list::JudgedList;
 pub use rows::rows_of;
 pub use table::Table;
 
-// What holds of the definitions by themselves.
+// Facts about the definitions alone.
 pub mod laws;

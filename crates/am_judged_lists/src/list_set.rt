@@ -62,7 +62,7 @@ impl ListSet {
         self.bits == 0
     }
 
-    /// The first index, from another one on, at which a list is in the set.
+    /// The first index, from the index `from` on, at which a list is in the set.
     pub(crate) fn first_from(self, from: usize) -> Option<usize>
         requires { from < ROOM }
         ensures some { IfSome result (λ place. (from ≤ place) × (place < ROOM)) }

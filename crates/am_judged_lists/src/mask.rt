@@ -16,10 +16,10 @@ const WORD: usize = 64;
 /// Which positions of a label are permitted. Only this file knows how they are stored.
 #[derive(Drop)]
 pub(crate) struct Mask {
-    /// The bits of the first positions. They stand in the mask itself, since most labels have no
-    /// more: such a mask takes no memory, and is read at once.
+    /// The bits of the first positions. They are kept in the mask itself, because most labels have
+    /// no more: such a mask takes no memory, and is read at once.
     first: u64,
-    /// The words behind the first, as many as the label's size needs.
+    /// The words after the first one, as many as the label's size needs.
     more: Vec<u64>,
 }
 
@@ -33,8 +33,9 @@ impl Model for Mask {
 }
 
 impl Mask {
-    /// The positions of a label of this size at which each row of that label is true, of `rows` and
-    /// of `more`. Rows of other labels have no effect. Fails only if memory runs out.
+    /// Makes the mask of the positions of a label of this size at which each row of that label, in
+    /// `rows` and in `more`, is true. Rows of other labels have no effect. Fails only if memory
+    /// runs out.
     pub(crate) fn of_rows(
         alloc: Global,
         rows: &[Row],
@@ -53,7 +54,7 @@ impl Mask {
         Ok(mask)
     }
 
-    /// All positions of a label of this size. Fails only if memory runs out.
+    /// Makes the mask of all positions of a label of this size. Fails only if memory runs out.
     fn full(alloc: Global, size: usize) -> Result<Mask, AllocError>
         ensures { IfOk result (λ mask. (j : ℕ) → slice_index_or mask j false ≡ nat_lt j size) }
     {
@@ -132,7 +133,7 @@ impl Mask {
         (0..size).all(|j| self.contains(j))
     }
 
-    /// Whether the position `j` is permitted. One for which there is no word is not.
+    /// Whether the position `j` is permitted. A position without a word is not permitted.
     pub(crate) fn contains(&self, j: usize) -> bool
         ensures { result ≡ slice_index_or self.now j false }
     {
@@ -140,7 +141,8 @@ impl Mask {
     }
 }
 
-/// The word at `i`, of a first one and of those behind it; past the last a word without bits.
+/// The word at `i`. `first` is the word at 0, and `more` has the words after it. After the last
+/// word, the result is 0.
 fn word_at(first: u64, more: &[u64], i: usize) -> u64
     ensures { result ≡ slice_index (first ∷ more.now) i }
 {
@@ -153,7 +155,7 @@ fn word_at(first: u64, more: &[u64], i: usize) -> u64
     }
 }
 
-/// The words behind the first of all positions of a label of this size.
+/// The words after the first one that permit all positions of a label of this size.
 fn words_behind_first(alloc: Global, size: usize) -> Result<Vec<u64>, AllocError>
     ensures { IfOk result (λ words. (i : ℕ)
         → slice_index words.items i ≡ 2 ^ min (size - WORD * (i + 1)) WORD - 1) }
@@ -166,7 +168,7 @@ fn words_behind_first(alloc: Global, size: usize) -> Result<Vec<u64>, AllocError
     Ok(words)
 }
 
-/// A word with so many bits at its front, or with all that it has room for.
+/// A word with its `count` lowest bits set, or with all its bits set if it has fewer.
 fn ones(count: usize) -> u64
     ensures { result ≡ 2 ^ min count WORD - 1 }
 {

@@ -1,10 +1,10 @@
 //! Cubes that are asked together.
 //!
-//! The cubes stand in blocks of up to 128. For each position of a label that has a mask, a block
-//! has the set of its cubes that permit the position, as the bits of one number. The cubes that may
-//! pass at a prefix are in the sets of all its positions. The first of them is then asked itself,
-//! so the answer of a table is exact. A set may hold a cube that does not pass, but it never lacks
-//! one that does. No more is proved of sets.
+//! The cubes are kept in blocks of up to 128. For each position of a label that has a mask, a block
+//! has the set of its cubes that permit the position, as the bits of one number. A cube that may
+//! pass at a prefix is in the sets of all its positions. From the first such cube on, each cube is
+//! then asked itself, so the answer of a table is exact. A set may hold a cube that does not pass,
+//! but it never lacks one that does. No more is proved of the sets.
 
 ghost use Rattle.std.specs.Prelude.{◌≡◌, ℕ, ◌<◌, ◌≤◌, ◌*◌, ◌+◌, length, IfOk, IfSome, IfNone};
 ghost use Rattle.am_judged_lists.specs.Cube.{verdict_at};
@@ -20,7 +20,7 @@ use am_universe::{Choice, Universe};
 use std::alloc::{AllocError, Global};
 use std::marker::Model;
 
-/// Cubes, and sets of bits by which many are asked at once.
+/// Cubes, and sets of bits by which many cubes are asked at once.
 #[derive(Drop)]
 pub struct Table {
     cubes: Vec<Cube>,
@@ -76,7 +76,7 @@ impl Table {
     }
 }
 
-/// The same among the cubes of a block, the first of which is at the index `first`.
+/// Does the same for the cubes of one block. The first cube of the block is at the index `first`.
 fn next_in(
     cubes: &[Cube],
     block: &Block,

@@ -19,7 +19,7 @@ pub find_none : (test : ℕ → Bool) (start count : ℕ) → ((k : ℕ) → k <
 find_none test start zero none = refl
 find_none test start (suc count) none = rw (none start (omega arith)) (find_none test (start + 1) count (λ k h. none k (omega arith)))
 
--- a list in braces has a length where its text begins with `{` and a closing brace follows
+-- A list in braces has a length only if its text begins with `{` and a closing brace follows.
 pub opened : (b : Bool) (o : Option ℕ) (n : ℕ) → cond b (option_map (λ i. i + 1) o) None ≡ Some n → (b ≡ true) × ((i : ℕ) × (o ≡ Some i) × (i + 1 ≡ n))
 opened true (Some i) n e = (refl, (i, refl, cc))
 opened b o n e = absurd cc

@@ -8,12 +8,12 @@ use Rattle.am_labels.specs.MatcherText.{WordsSpell}
 use Rattle.am_labels.specs.Matcher.{Condition}
 use Rattle.am_labels.specs.MatcherRefusals.{have_valid_patterns, MatcherRefusedFor, PatternsRefusedFor, WordsRefusedFor}
 
--- what is said of all elements is said of one behind others
+-- What holds of all elements holds of one that follows others.
 all_at : {X : Type 0} (P : X → Type 0) (xs : List X) (x : X) (rest : List X) → All P (xs ++ x ∷ rest) → P x
 all_at P [] x rest h = h 0 x (omega arith)
 all_at P (y ∷ ys) x rest h = all_at P ys x rest (λ k d l. h (suc k) d (omega arith))
 
--- a list is refused at a named one behind others whose patterns are valid
+-- A list is refused at a matcher that has a name, after others whose patterns are valid.
 pub refused_at : (before : List Condition) (x : Condition) (after list : List Condition) (kind : Kind)
     → before ++ x ∷ after ≡ list → All (λ s. s.name ≢ []) list
     → IsTrue (have_valid_patterns before) → MatcherRefusedFor x kind
@@ -31,7 +31,7 @@ refused_at before x after list kind e named valid_patterns refused =
       }
     ]
 
--- words that spell a list are refused where the list is, unless that is too long
+-- Words that spell a list are refused as the list is, if the list is not too long.
 pub words_refused : {X : Type 0} (r : Result X Kind) (words : List (List ℕ)) (list : List Condition)
     → WordsSpell words list → length list ≤ MAX_MATCHERS
     → IfErr r (λ kind. kind ≢ kinds.Memory → PatternsRefusedFor list kind)

@@ -1,4 +1,4 @@
--- The body that is read from a raw value is the one that it has, and the only one.
+-- The body that is read from a raw value is the body that it has, and it has no other.
 use Rattle.std.proofs.Common.{◌≡◌, refl, sym, ◌∙◌, ap, subst, inl, inr, ℕ, ◌+◌, ◌-◌, ◌<◌, ◌≤◌, List, [], ◌∷◌, ◌++◌, length, take, drop, get_or, Bool, true, false, not, arith, add-one, reverse, Some, None}
 use Rattle.std.specs.Prelude.{◌==◌}
 use Rattle.std.specs.List.{prefix_len}
@@ -22,14 +22,14 @@ prefix_before : (p : ℕ → Bool) (xs : List ℕ) (y : ℕ) → p y ≡ false �
 prefix_before p [] y e = rw e refl
 prefix_before p (x ∷ xs) y e = rw (prefix_before p xs y e) refl
 
--- behind a quote, an index is escaped as it is without it
+-- A quote in front of a text does not change which of its indices are escaped.
 pub escaped_behind : (xs : List ℕ) (i : ℕ) → is_escaped (34 ∷ xs) (i + 1) ≡ is_escaped xs i
 escaped_behind xs i =
     rw (add-one i, reverse-append (34 ∷ []) (take i xs), prefix_before (λ c. c == 92) (reverse (take i xs)) 34 refl) refl
 
 -- ---- reading
 
--- what HasBody and the lack of quotes say
+-- The body of a raw value, without a quote that is not escaped.
 abbrev pub IsBody : List ℕ → List ℕ → Type 0
 IsBody raw body = HasBody raw body × ((i : ℕ) → i < length body → is_quote body i ≡ false)
 

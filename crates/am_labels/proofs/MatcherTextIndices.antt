@@ -1,4 +1,4 @@
--- Escaped indices and quotes of a matcher text, one index on.
+-- Escaped indices and quotes of a matcher text, from one index to the next.
 use Rattle.std.proofs.Common.{◌≡◌, refl, inl, inr, ℕ, ◌+◌, ◌-◌, ◌<◌, ◌≤◌, ◌%◌, List, length, get_or, Bool, true, false, not, ◌&&◌, cond, arith, add-one, add-zero, zero-add, add_comm}
 use Rattle.std.specs.Prelude.{◌==◌}
 use Rattle.std.specs.List.{range_with_len}
@@ -9,7 +9,7 @@ use Rattle.std.proofs.lemmas.Bool.Decides.{nat_tests}
 use Rattle.am_labels.specs.MatcherText.{is_escaped, is_quote, quotes_before, is_quoted}
 use Rattle.am_labels.specs.MatcherReading.{first_quote}
 
--- the next number is odd where this one is not
+-- The next number is odd exactly if this one is not.
 pub odd_next : (n : ℕ) → ((1 + n) % 2 == 1) ≡ not (n % 2 == 1)
 odd_next n = grind (arith, nat_tests)
 

@@ -9,16 +9,16 @@ use Rattle.am_labels.specs.Matcher.{Condition}
 use Rattle.am_labels.specs.MatcherText.{is_blank, is_separator, separators, pieces_from, without_blank_last, matcher_pieces}
 use Rattle.am_labels.specs.MatcherReading.{IsReadFailure, ReturnsReading, ◌>>=◌, read_piece, read_each_piece, read_list, read_words}
 
--- what is read, behind a front that was read before
+-- What is read, after the conditions that were read before.
 abbrev pub after : List Condition → Option (List Condition) → Option (List Condition)
 after front None = None
 after front (Some ms) = Some (front ++ ms)
 
--- the cuts from an index on
+-- The indices from an index on at which the text is cut.
 abbrev pub cuts_from : List ℕ → ℕ → List ℕ
 cuts_from text i = filter (is_separator text) (range_with_len i (length text - i))
 
--- the pieces from an index on, where the last cut before i stands before that index
+-- The pieces from `start` on, if there is no cut from `start` up to i.
 abbrev pub pieces_left : List ℕ → ℕ → ℕ → List (List ℕ)
 pieces_left text start i = without_blank_last (pieces_from text start (cuts_from text i))
 
@@ -111,7 +111,7 @@ told_at_blank text start i last ss all l e b told =
     let b' = rw e at b in
     sym told ∙ rw (left_at_end text start i l, b') (after_all ss)
 
--- ---- the same where each word is a piece
+-- ---- the same if each word is a piece
 
 next_word : {X : Type 0} (text : X → List ℕ) (ws : List X) (i : ℕ) (d : X) (piece : List ℕ)
     (front : List Condition) → i < length ws → piece ≡ text (get_or ws i d)
@@ -145,7 +145,7 @@ told_past_words text ws i ss all l told =
     sym told ∙ ap (λ rest. after ss (read_each_piece (map text rest))) (drop_of_length-le ws l)
     ∙ after_all ss
 
--- one word is read as a text, and of others each is a piece
+-- One word is read as a text. Of any other number of words, each is a piece.
 
 pub read_one_word : {X Y : Type 0} (text : X → List ℕ) (ws : List X) (d : X)
     (view : Y → List Condition) (r : Result Y Kind) → length ws ≡ 1

@@ -1,4 +1,4 @@
--- The steps of reading a piece, and what each gives for the whole.
+-- The steps of reading a piece, and what each means for the whole piece.
 use Rattle.std.proofs.Common.{◌≡◌, refl, inl, inr, ℕ, List, Option, Some}
 use Rattle.am_universe.specs.declared.kind.Kind.{Kind}
 use Rattle.am_labels.specs.declared.op.Op.{Op}

@@ -1,4 +1,4 @@
--- What is cut from a text at ASCII bytes is a text, and so is a body without its escapes.
+-- A part that is cut from a text at ASCII bytes is UTF-8, and so is a body without its escapes.
 use Rattle.std.proofs.Common.{◌≡◌, refl, sym, ◌∙◌, ap, subst, inl, inr, ◌⊎◌, ℕ, zero, suc, ◌+◌, ◌-◌, ◌<◌, ◌≤◌, List, [], ◌∷◌, ◌++◌, length, take, drop, get_or, true, false, not, ◌&&◌, arith, add-one}
 use Rattle.std.specs.Prelude.{◌==◌}
 use Rattle.std.specs.List.{prefix_len}
@@ -41,7 +41,7 @@ utf8_trim_start s r v u = rw v.1 (utf8_drop s v.0 (omega arith) (λ k e. space_a
 pub utf8_trim_end : (s r : List ℕ) → IsTrimAsciiEnd s r → IsUtf8 s → IsUtf8 r
 utf8_trim_end s r v u = rw v.1 (utf8_take s v.0 v.3 (λ l. space_ascii _ (v.4 v.0 (omega arith) l)) u)
 
--- what a name can hold is ASCII
+-- The bytes of a name are ASCII.
 pub name_ascii : (text : List ℕ) → IsAscii (take (prefix_len continues_name text) text)
 name_ascii text i = elim (cases_lt i (prefix_len continues_name text)) [
   | inl below ↦ rw (get_or-take (prefix_len continues_name text) text i 0 below) (continues_ascii _ (prefix_len_passes continues_name text i 0 below))
@@ -69,12 +69,12 @@ utf8_after_operator op text rest e u =
 cons_ascii : (c : ℕ) (bs : List ℕ) → c < 128 → IsUtf8 bs → IsUtf8 (c ∷ bs)
 cons_ascii c bs h u = IsUtf8-append (c ∷ []) bs (IsUtf8-from_ascii (c ∷ []) (IsAscii-cons c [] h IsAscii-nil)) u
 
--- a byte that is no backslash stands for itself
+-- A byte that is not a backslash stands for itself.
 plain : (c : ℕ) (bs : List ℕ) → (c == 92) ≡ false → unescaped_text (c ∷ bs) ≡ c ∷ unescaped_text bs
 plain c [] h = refl
 plain c (d ∷ bs) h = rw h refl
 
--- a byte stands for itself, or is a backslash before a byte that it escapes
+-- A byte stands for itself, or is a backslash before a byte that it escapes.
 step : (c : ℕ) (bs : List ℕ) → (unescaped_text (c ∷ bs) ≡ c ∷ unescaped_text bs) ⊎ ((d : ℕ) × (more : List ℕ) × (bs ≡ d ∷ more) × (has_escape d ≡ true) × (unescaped_text (c ∷ bs) ≡ byte_of_escape d ∷ unescaped_text more))
 step c [] = inl refl
 step c (d ∷ bs) = elim (cases_Bool (c == 92 && has_escape d)) [
@@ -88,7 +88,7 @@ wide (w ∷ ws) bs h =
     let big : 128 ≤ w = h 0 (omega arith) in
     plain w (ws ++ bs) (grind (arith, nat_tests)) ∙ ap (λ r. w ∷ r) (wide ws bs (λ k l. h (suc k) (omega arith)))
 
--- where the bytes of a character go beyond ASCII, each of them does
+-- Each byte of a character beyond ASCII is beyond ASCII.
 wide_bytes : (c : ℕ) → 128 ≤ c → (k : ℕ) → k < length (encode c) → 128 ≤ get_or (encode c) k 0
 wide_bytes c big k l = elim (cases_lt (get_or (encode c) k 0) 128) [
   | inl small ↦
@@ -127,7 +127,7 @@ utf8_unescaped_within (suc n) (c ∷ cs) l s =
 pub utf8_unescaped : (bs : List ℕ) → IsUtf8 bs → IsUtf8 (unescaped_text bs)
 utf8_unescaped bs u = rw (← u.1.1) (utf8_unescaped_within (length u.0) u.0 (omega arith) u.1.0)
 
--- what stands in quotes
+-- The text before the closing quote is UTF-8.
 pub utf8_before_quote : (raw : List ℕ) (n : ℕ) → n ≡ first_quote raw → n < length raw → IsUtf8 raw → IsUtf8 (take n raw)
 utf8_before_quote raw n e l u =
     let quote = first_quote_found raw (rw (← e) l) in

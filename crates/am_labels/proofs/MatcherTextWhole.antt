@@ -1,4 +1,4 @@
--- What is read from a piece is what it spells, and so for a whole text.
+-- What is read from a piece is what it spells, and the same holds for a whole text.
 use Rattle.std.proofs.Common.{◌≡◌, refl, sym, ◌∙◌, ap, subst, inl, inr, ℕ, suc, ◌+◌, ◌-◌, ◌≤◌, List, [], ◌∷◌, ◌++◌, length, take, drop, get_or, true, false, not, ◌&&◌, arith, Option, Some, Result, Ok, Err, ◌≢◌, IfOk, IfErr, Vec, Global}
 use Rattle.std.specs.Prelude.{◌==◌}
 use Rattle.std.specs.List.{prefix_len, suffix_len, list_all, AllZip, All, AllByRecursion}
@@ -113,12 +113,12 @@ name_parts text name rest e =
     let r : drop (prefix_len continues_name text) text ≡ rest = ap (λ (p : List ℕ × List ℕ). p.1) f.1 in
     (rw (← n, ← r) (sym (take-append-drop (prefix_len continues_name text) text)), rw (← n) (named text f.0))
 
--- what is said of what is read is said of the same again
+-- What holds of a pair that is read holds of an equal pair.
 pub said_again : {A B : Type 0} (P : A → B → Type 0) (a x : A) (b y : B)
     → ◌≡◌ {A = Option (A × B)} (Some (a, b)) (Some (x, y)) → P a b → P x y
 said_again P a x b y e said = let same = some_pair_parts a x b y e in rw (← same.0, ← same.1) said
 
--- an operator and what follows it, as they stand in a text
+-- A text is an operator and what follows it, and no longer operator is there.
 abbrev Stand : List ℕ → Op → List ℕ → Type 0
 Stand text op rest = (text ≡ operator_text op ++ rest) × IsLongest op (operator_text op ++ rest)
 

@@ -1,4 +1,4 @@
--- What is so of an operator by what it is, whichever it is.
+-- Facts about any operator.
 use Rattle.std.proofs.Common.{◌≡◌, ℕ, ◌+◌, ◌<◌, ◌≤◌, List, ◌∷◌, ◌++◌, Bool, true, false, not, cond}
 use Rattle.std.proofs.Common.{refl, ap, sym, ◌∙◌, arith, length, get_or, [], take, drop, Some}
 use Rattle.std.proofs.Common.{inl, inr, add-one}
@@ -39,7 +39,7 @@ is_longest _ c more other = λ longer rest e. (is_short longer).1
 
 -- ---- How it is read.
 
--- where it is read it stands
+-- A text from which an operator is read begins with it.
 pub stands_first : (ops : List Op) (text : List ℕ) (op : Op) (rest : List ℕ)
     → first_operator ops text ≡ Some (op, rest) → text ≡ operator_text op ++ rest
 stands_first [] text op rest e = absurd (none-some (op, rest) e)
@@ -54,7 +54,8 @@ stands_first (o ∷ ops) text op rest e =
       | inr missing ↦ stands_first ops text op rest (rw missing at e)
     ]
 
--- of the operators from an index on the first stands there, or it is one behind it
+-- Reading with the operators from an index on: the text begins with the first of them, or the later
+-- ones decide.
 pub first_here : (ops : List Op) (k : ℕ) (text written : List ℕ) → k < length ops
     → written ≡ operator_text (get_or ops k Equal)
     → same_text (take (length written) text) written ≡ true
@@ -73,7 +74,7 @@ first_behind ops k text written within is missing =
 
 -- ---- What it asks of a text.
 
--- the answer, which the operator may negate
+-- The comparison itself, before the operator may negate it.
 abbrev pub asks : Op → List ℕ → List ℕ → Bool
 asks op value text = cond (negates op) (not (holds op value text)) (holds op value text)
 
@@ -101,7 +102,7 @@ negated true false false e = refl
 negated true true false e = absurd (cc)
 negated true false true e = absurd (cc)
 
--- the truth on two texts is one where the answers are, and the answers where the truth is
+-- The truths on two texts are the same exactly if the comparisons are.
 pub holds_same : (op : Op) (value x y : List ℕ) → asks op value x ≡ asks op value y
     → holds op value x ≡ holds op value y
 holds_same op value x y e = negated (negates op) (holds op value x) (holds op value y) e

@@ -1,4 +1,4 @@
--- The values that the set of a list has.
+-- The values in the label set of a list.
 use Rattle.std.proofs.Common.{◌≡◌, ℕ, true, false, cond, List, [], ◌∷◌, map, Bool, Option}
 use Rattle.std.proofs.Common.{Some, None, unwrap_or, Contains, ap, ◌∙◌, refl, subst, inl, inr}
 use Rattle.std.specs.Prelude.{fold}
@@ -26,7 +26,7 @@ inserted_value : (b : Bool) (v : List ℕ) (found : Option (List ℕ))
 inserted_value true v found = refl
 inserted_value false v found = refl
 
--- one value put: it is that of its name, and the others stay
+-- Setting one value: its name has it, and the other values stay.
 pub value_of-with_value : (s : LabelMap) (k v q : List ℕ)
     → value_of (with_value s k v) q ≡ cond (same_text k q) v (value_of s q)
 value_of-with_value s k [] q =
@@ -35,7 +35,7 @@ value_of-with_value s k (c ∷ cs) q =
     ap (λ o. unwrap_or o []) (inserted_at s k (c ∷ cs) q)
     ∙ inserted_value (same_text k q) (c ∷ cs) (get s q)
 
--- the set with the values of a list put, one after the other
+-- The set after the values of a list are set, one after the other.
 abbrev set_from : LabelMap → List Condition → LabelMap
 set_from s ms = fold (λ s m. with_value s m.name m.value) s ms
 

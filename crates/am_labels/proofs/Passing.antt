@@ -1,4 +1,4 @@
--- Some of a list that passes a test, and what a filter keeps.
+-- An item of a list that passes a test, and what a filter keeps.
 use Rattle.std.proofs.Common.{◌≡◌, inl, inr, List, [], ◌∷◌, Bool, true, false, cond, refl, ap, sym, ◌∙◌}
 use Rattle.std.specs.Prelude.{IsTrue}
 use Rattle.std.specs.List.{list_any, filter}
@@ -34,7 +34,7 @@ kept_step test x y true xs ks e (inl same) rest = (inl same, ap test (sym same) 
 kept_step test x y true xs ks e (inr h) rest = let r = rest h in (inr r.0, r.1)
 kept_step test x y false xs ks e h rest = let r = rest h in (inr r.0, r.1)
 
--- what is kept was there, and passes
+-- An item that is kept was in the list, and passes.
 pub passes_from_kept : {X : Type 0} (test : X → Bool) (xs : List X) (y : X)
     → IsIn (filter test xs) y → IsIn xs y × (test y ≡ true)
 passes_from_kept test [] y h = absurd h
@@ -46,7 +46,7 @@ pub kept_behind : {X : Type 0} (b : Bool) (x y : X) (ks : List X) → IsIn ks y
 kept_behind true x y ks h = inr h
 kept_behind false x y ks h = h
 
--- and what was there and passes is kept
+-- An item that was in the list and passes is kept.
 pub kept_from_passes : {X : Type 0} (test : X → Bool) (xs : List X) (y : X) → IsIn xs y
     → test y ≡ true → IsIn (filter test xs) y
 kept_from_passes test [] y h e = absurd h
@@ -56,7 +56,7 @@ kept_from_passes test (x ∷ xs) y (inl same) e =
 kept_from_passes test (x ∷ xs) y (inr h) e =
     kept_behind (test x) x y (filter test xs) (kept_from_passes test xs y h e)
 
--- a test that all pass keeps all, and one that none passes keeps none
+-- A test that all items pass keeps all, and a test that none passes keeps none.
 pub all_kept : {X : Type 0} (test : X → Bool) (xs : List X) → ((x : X) → test x ≡ true)
     → filter test xs ≡ xs
 all_kept test [] each = refl

@@ -13,7 +13,7 @@ same_on : (o : Option PieceStep) (f g : PieceStep → Bool) → ((s : PieceStep)
 same_on None f g same = refl
 same_on (Some s) f g same = same s
 
--- as many steps as bytes are enough
+-- As many steps as there are bytes are enough.
 within-enough : (n m : ℕ) (context : ClassContext) (t : List ℕ) → length t ≤ n → length t ≤ m
     → has_no_refused_piece_within n context t ≡ has_no_refused_piece_within m context t
 unfolding has_no_refused_piece_within
@@ -25,7 +25,7 @@ within-enough (suc n) (suc m) context (c ∷ t) i j =
     within-enough n m s.next (drop (s.width - 1) t) (omega arith) (omega arith))
 within-enough n m context t i j = refl
 
--- a step leaves it to what stands behind, and where there is none the text is not clean
+-- After a step, the text that follows decides. If there is no step, the text has a refused piece.
 pub by_step : (context : ClassContext) (c : ℕ) (t : List ℕ) (s : PieceStep)
     → first_step context (c ∷ t) ≡ Some s
     → has_no_refused_piece context (c ∷ t) ≡ has_no_refused_piece s.next (drop (s.width - 1) t)

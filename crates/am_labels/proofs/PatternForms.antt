@@ -1,4 +1,4 @@
--- Each form of a piece is cut off as one, and is refused as one.
+-- A piece of each form is cut off as a whole, and is refused as a whole.
 use Rattle.std.proofs.Common.{◌≡◌, ◌≢◌, refl, sym, ◌∙◌, ap, inl, inr, ℕ, ◌+◌, ◌-◌}
 use Rattle.std.proofs.Common.{List, [], ◌∷◌, ◌++◌, length, take, drop, get_or, Bool, true}
 use Rattle.std.proofs.Common.{false, not, ◌&&◌, ◌||◌, cond, arith, Option, Some, None, option_map}
@@ -32,7 +32,7 @@ use Rattle.am_labels.proofs.PatternCuts.{by_step, by_none}
 use Rattle.std.proofs.lemmas.List.Sums.{prefix_len-le-length}
 use Rattle.am_labels.proofs.MatcherTextLists.{prefix_all, prefix_whole, drop_prefix, take_prefix, all_of_prefix}
 
--- a step to what is left
+-- After a step, what is left decides.
 stepped : (context : ClassContext) (c : ℕ) (t : List ℕ) (next : ClassContext) (width : ℕ)
     (rest : List ℕ) → first_step context (c ∷ t) ≡ step_to next width
     → drop (width - 1) t ≡ rest → has_no_refused_piece context (c ∷ t) ≡ has_no_refused_piece next rest
@@ -106,7 +106,7 @@ clean_last context = stepped context 92 [] context 1 [] refl refl
 
 -- ---- What is plain outside a class.
 
--- none of the characters that begin something outside a class
+-- A character that begins no other form outside a class.
 abbrev is_safe : ℕ → Bool
 is_safe c = not (c ∈ "\\{[(")
 
@@ -122,7 +122,7 @@ unfolding first_step unescaped_step
 clean_plain_outside c rest h =
     stepped OutsideClass c rest OutsideClass 1 rest (grind (arith, nat_tests)) refl
 
--- characters that are plain wherever they stand
+-- A run of characters that are plain, whatever follows them.
 clean_run : (p : ℕ → Bool) (run rest : List ℕ) → ((c : ℕ) → p c ≡ true → is_safe c ≡ true)
     → list_all p run ≡ true → has_no_refused_piece OutsideClass (run ++ rest) ≡ has_no_refused_piece OutsideClass rest
 clean_run p [] rest safe h = refl
@@ -162,7 +162,7 @@ upper_ends_digits [] rest h = refl
 upper_ends_digits (c ∷ m) rest h =
     let comma = eqb-true c 44 (and_parts (c == 44) (list_all is_ascii_digit m) h).0 in rw comma refl
 
--- behind the n
+-- What follows the n ends a count.
 abbrev pub ends_count : List ℕ → Bool
 ends_count after =
     let most = drop 1 after in
@@ -174,7 +174,7 @@ upper_ends (c ∷ m) rest h =
     let parts = and_parts (c == 44) (list_all is_ascii_digit m) h in
     rw (eqb-true c 44 parts.0, drop_prefix is_ascii_digit m (125 ∷ rest) parts.1 refl) refl
 
--- a count begins there
+-- The text begins with a count.
 pub count_begins : (least more rest : List ℕ) → (is_number least && is_upper_bound more) ≡ true
     → begins_count (least ++ (more ++ 125 ∷ rest)) ≡ true
 count_begins least more rest h =
@@ -214,7 +214,7 @@ clean_count least more rest h =
     ∙ clean_upper more (125 ∷ rest) parts.1
     ∙ clean_plain_outside 125 rest refl
 
--- a count behind the brace: the n, what follows it, and the rest
+-- A count after the brace: the n, what follows it, and the rest.
 pub record CountAt (t : List ℕ) : Type 0 where
   pub least : List ℕ
   pub more : List ℕ
@@ -262,7 +262,7 @@ count_at t h =
           }
     ]
 
--- any other brace
+-- Any other brace is refused.
 clean_brace : (rest : List ℕ)
     → ((least more after : List ℕ) → (is_number least && is_upper_bound more) ≡ true
     → rest ≢ least ++ (more ++ 125 ∷ after)) → has_no_refused_piece OutsideClass (123 ∷ rest) ≡ false
@@ -325,7 +325,7 @@ clean_bracket rest h =
     (bracket_step rest None
     (none_found (λ named. starts_with nat_eq (91 ∷ rest) named) named_classes h))
 
--- a named class is found at its own front, which is a `[`
+-- A named class is found at the beginning of its own text, which is a `[`.
 abbrev pub IsFoundFirst : List ℕ → Type 0
 IsFoundFirst named =
     ((rest : List ℕ) → named_class_at (named ++ rest) ≡ Some named) × (named ≡ 91 ∷ drop 1 named)

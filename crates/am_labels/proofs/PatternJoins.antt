@@ -1,4 +1,4 @@
--- Every pattern is a join of pieces, and it is of the profile where none of them is refused.
+-- Every pattern is a join of pieces, and it is in the profile exactly if none of them is refused.
 use Rattle.std.proofs.Common.{◌≡◌, ◌↔◌, refl, sym, ◌∙◌, ap, subst, inl, inr, ◌⊎◌, ℕ, zero, suc, ◌+◌}
 use Rattle.std.proofs.Common.{◌<◌, ◌≤◌, List, [], ◌∷◌, ◌++◌, length, take, drop, get_or, Bool}
 use Rattle.std.proofs.Common.{true, false, not, ◌&&◌, ◌||◌, cond, arith, nat_eq, IsTrue}
@@ -37,7 +37,7 @@ begun : {context : ClassContext} (piece : Piece) (rest : List ℕ) {text : List 
     → text ≡ piece_text piece ++ rest → StandsIn context piece rest → Front context text
 begun piece rest is stands = record { piece = piece; rest = rest; whole = is; stands = stands }
 
--- a text up to its first `}`
+-- A text, cut at its first `}`.
 record Closed (text : List ℕ) : Type 0 where
   inner : List ℕ
   rest : List ℕ
@@ -125,7 +125,7 @@ start_front (r ∷ t) = elim (cases_Bool (94 == r)) [
   ]
 ]
 
--- the text with its first byte known
+-- The same for a text whose first byte is known by a test.
 at_first : (context : ClassContext) (x c : ℕ) (t : List ℕ) → (c == x) ≡ true → Front context (x ∷ t)
     → Front context (c ∷ t)
 at_first context x c t e f = subst (λ (d : ℕ). Front context (d ∷ t)) (sym (eqb-true c x e)) f

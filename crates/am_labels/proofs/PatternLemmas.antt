@@ -12,7 +12,7 @@ use Rattle.am_labels.specs.Pattern.{anchored_pattern, pattern_reading, is_patter
 use Rattle.am_labels.specs.PatternView.{SearchesFor}
 
 module _ (r : Regex) (p : List ℕ) (source : regex_source r ≡ anchored_pattern p) (config : regex_config r ≡ default_config) (is_read : IsReadFromSource r) where
-  -- by what the grammar answers
+  -- By what the grammar reads in the anchored pattern.
   read_by : (o : Option (Nested Re × Names)) → read default_config (chars (anchored_pattern p)) ≡ o →
       (is_pattern p ≡ true) × SearchesFor (regex_pattern r) p
   unfolding Reads pattern_reading

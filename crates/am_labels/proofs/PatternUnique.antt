@@ -1,4 +1,5 @@
--- A pattern is a join of pieces in one way: the piece at the front of a text is told by the text.
+-- A pattern is the join of only one list of pieces: a text determines the piece that it begins
+-- with.
 use Rattle.std.proofs.Common.{◌≡◌, refl, sym, ◌∙◌, ap, subst, inl, inr, ℕ, ◌+◌, List, [], ◌∷◌, ◌++◌}
 use Rattle.std.proofs.Common.{length, take, drop, get_or, Bool, true, false, not, ◌&&◌, ◌||◌, cond}
 use Rattle.std.proofs.Common.{arith, Option, Some, None}
@@ -34,18 +35,18 @@ before_closing t = take_while (λ c. not (c == 125)) t
 abbrev braces_piece : ℕ → List ℕ → Piece
 braces_piece d t = cond (has_no_closing t) (open_escape d t) (braced_escape d (before_closing t))
 
--- behind a backslash
+-- The piece that a backslash begins, given the text after it.
 abbrev escape_piece : List ℕ → Piece
 escape_piece [] = last_backslash
 escape_piece (d ∷ t) = cond (takes_braces d && begins "{" t) (braces_piece d (drop 1 t)) (escape d)
 
--- behind a `{`
+-- The piece that a `{` begins, given the text after it.
 abbrev count_piece : List ℕ → Piece
 count_piece t =
     cond (begins_count t)
     (count (take (digits_len t) t) (before_closing (drop (digits_len t) t))) brace
 
--- behind a `[`
+-- The piece that a `[` begins, given the text after it.
 abbrev start_piece : List ℕ → Piece
 start_piece t =
     cond (begins "^]" t) (class_start true true)

@@ -1,4 +1,4 @@
--- What a row says of the label set of a choice.
+-- What a row says about the label set of a choice.
 use Rattle.std.proofs.Common.{◌≡◌, ℕ, zero, suc, ◌+◌, ◌<◌, Bool, true, false, ◌&&◌, List, [], ◌∷◌, length, map, get_or, Option, Some, None, option_map, unwrap_or, slice_get, slice_index, ap, sym, ◌∙◌, refl, inl, inr, arith}
 use Rattle.std.specs.Cmp.Lexicographic.{bytes_decides}
 use Rattle.std.specs.List.{position, position_from}
@@ -27,7 +27,7 @@ none_from p i (x ∷ xs) e (suc k) d h =
       | inr fails ↦ none_from p (i + 1) xs (rw fails at e) k d (omega arith)
     ]
 
--- where there is no first index at which a test passes, it passes nowhere
+-- If there is no first index at which a test passes, it passes nowhere.
 none_passes : {X : Type 0} (p : X → Bool) (xs : List X) → position p xs ≡ None → (k : ℕ) (d : X) → k < length xs → p (get_or xs k d) ≡ false
 none_passes p xs e = none_from p 0 xs (sym (position_from-zero p xs) ∙ e)
 

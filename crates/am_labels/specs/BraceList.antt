@@ -14,8 +14,7 @@ abbrev pub first_closing : List ℕ → Option ℕ
 first_closing text = find (is_closing_brace text) (range_with_len 0 (length text))
 
 -- The length of the list that a text begins with: from its `{` to the first `}` outside quoted
--- parts. None where it begins
--- with no `{`, or no such `}` follows.
+-- parts. `None` if the text does not begin with `{`, or has no such `}`.
 -- Source: own choice.
 -- Example: the list of `{a="}"} or {b="c"}` is `{a="}"}`, of 7 bytes.
 abbrev pub brace_len : List ℕ → Option ℕ

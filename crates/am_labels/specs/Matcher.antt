@@ -1,4 +1,4 @@
--- Matchers, and of which label sets they are true.
+-- Matchers, and the label sets on which they are true.
 use Rattle.std.specs.Prelude.{ℕ, List, Bool, true, false, not, codes}
 use Rattle.std.specs.List.{list_all}
 use Rattle.am_labels.specs.declared.op.Op.{Op}
@@ -37,7 +37,7 @@ abbrev pub is_equality : Op → Bool
 is_equality Equal = true
 is_equality other = false
 
--- Whether a comparison is that with a pattern.
+-- Whether a comparison is with a pattern.
 abbrev is_by_pattern : Comparison → Bool
 is_by_pattern Pattern = true
 is_by_pattern other = false
@@ -46,7 +46,7 @@ is_by_pattern other = false
 abbrev pub takes_pattern : Op → Bool
 takes_pattern op = is_by_pattern (comparison op)
 
--- The operators that ask for the contrary: `!=` and `!~`.
+-- The operators that negate a comparison: `!=` and `!~`.
 abbrev pub negates : Op → Bool
 negates Equal = false
 negates NotEqual = true

@@ -1,5 +1,5 @@
--- Reading a matcher text step by step, as a function: the list that is spelled, or nothing. It
--- serves proofs; what counts is the relation that it decides, `Spells`.
+-- Reading a matcher text step by step, as a function that gives the list that the text spells, or
+-- nothing. It serves the proofs. `Spells` defines what a text spells, and the function decides it.
 use Rattle.std.specs.Prelude.{◌≡◌, ℕ, ◌+◌, ◌-◌, List, [], ◌∷◌, length, take, drop, slice_index}
 use Rattle.std.specs.Prelude.{◌==◌, if◌then◌else◌, Option, Some, None, ◌⊎◌, Result, Ok, Err}
 use Rattle.std.specs.Option.{option_and_then}
@@ -16,15 +16,16 @@ use Rattle.am_labels.specs.MatcherText.{unescaped_text, matcher_pieces}
 use Rattle.am_labels.specs.MatcherText.{without_opening, without_closing, pieces_of_words}
 
 infixl 10 ◌>>=◌
--- What is read next, given what was read first; nothing where either reads nothing.
+-- What is read next, given what was read first; nothing if either reads nothing.
 abbrev pub ◌>>=◌ : {A B : Type 0} → Option A → (A → Option B) → Option B
 o >>= f = option_and_then f o
 
--- A refusal comes where memory ran out, or where reading gives nothing.
+-- A refusal means that memory ran out, or that reading gives nothing.
 abbrev pub IsReadFailure : {Y : Type 0} → Kind → Option Y → Type 0
 IsReadFailure kind read = (kind ≡ Memory) ⊎ ((kind ≡ BadMatcher) × (read ≡ None))
 
--- What a function returned, as `view` sees it, is what reading gives, unless memory ran out.
+-- A function returned what reading gives, as `view` sees it. It failed only if memory ran out, or
+-- if reading gives nothing.
 abbrev pub ReturnsReading : {X Y : Type 0} → (X → Y) → Result X Kind → Option Y → Type 0
 ReturnsReading view (Ok x) read = read ≡ Some (view x)
 ReturnsReading view (Err kind) read = IsReadFailure kind read
@@ -49,7 +50,8 @@ read_body raw =
     else None)
     else (if first_quote raw == length raw then Some raw else None)
 
--- An operator, and what follows it: the first of all that stands there.
+-- The first operator of a list that a text begins with, and what follows it; and the same for the
+-- list of all operators.
 abbrev pub first_operator : List Op → List ℕ → Option (Op × List ℕ)
 first_operator [] text = None
 first_operator (op ∷ more) text =

@@ -1,5 +1,5 @@
--- Why a matcher, a list of matchers or the words of a list are refused. That memory ran out is no
--- part of it.
+-- Why a matcher, a list of matchers or the words of a list are refused. Running out of memory is
+-- not one of these reasons.
 use Rattle.std.specs.Prelude.{◌≡◌, ◌≢◌, ℕ, ◌<◌, ◌≤◌, List, [], ◌∷◌, ◌++◌, length, Bool, not}
 use Rattle.std.specs.Prelude.{◌&&◌, ◌||◌, if◌then◌else◌, IsTrue, ◌⊎◌}
 use Rattle.std.specs.List.{list_all}
@@ -19,24 +19,25 @@ has_valid_pattern m = not (takes_pattern m.op) || in_profile m.value && is_patte
 abbrev pub have_valid_patterns : List Condition → Bool
 have_valid_patterns ms = list_all has_valid_pattern ms
 
--- A pattern is refused outside the profile. Of the profile, it is refused where the engine does not
--- build it.
+-- Why a pattern is refused: it is outside the profile; or it is in the profile, and the engine does
+-- not build it.
 abbrev pub pattern_refusal : List ℕ → Kind
 pattern_refusal pattern = if in_profile pattern then kinds.Pattern else kinds.PatternProfile
 
--- The value of a matcher is refused: it is a pattern. Which patterns of the profile are refused is
--- the engine's to say.
+-- The value of a matcher is refused. Only a pattern can be refused. The engine decides which
+-- patterns of the profile it refuses.
 pub record ValueRefusedFor (m : Condition) (kind : Kind) : Type 0 where
   pub pattern : IsTrue (takes_pattern m.op)
   pub kind_is : kind ≡ pattern_refusal m.value
 
--- A matcher is refused: for `Empty`, its name; or else its value.
+-- A matcher is refused: its name is empty, which is `Empty`; or else its value is refused.
 abbrev pub MatcherRefusedFor : Condition → Kind → Type 0
 MatcherRefusedFor m kind =
     ((m.name ≡ []) × (kind ≡ kinds.Empty))
     ⊎ ((m.name ≢ []) × ValueRefusedFor m kind)
 
--- A list is refused at the value of one matcher, and the patterns of those before it are valid.
+-- A list is refused because of the value of one matcher, and the patterns of the matchers before it
+-- are valid.
 pub record PatternsRefusedFor (ms : List Condition) (kind : Kind) : Type 0 where
   pub before : List Condition
   pub refused : Condition
@@ -45,7 +46,8 @@ pub record PatternsRefusedFor (ms : List Condition) (kind : Kind) : Type 0 where
   pub earlier : IsTrue (have_valid_patterns before)
   pub value : ValueRefusedFor refused kind
 
--- A list is refused: for `Limit`, more than `MAX_MATCHERS`; or else one of its patterns.
+-- A list is refused: it has more than `MAX_MATCHERS` matchers, which is `Limit`; or else one of its
+-- patterns is refused.
 abbrev pub ListRefusedFor : List Condition → Kind → Type 0
 ListRefusedFor ms kind =
     ((MAX_MATCHERS < length ms) × (kind ≡ kinds.Limit))
@@ -57,8 +59,8 @@ pub record WordsSpellListRefusedFor (words : List (List ℕ)) (kind : Kind) : Ty
   pub spelled : WordsSpell words list
   pub refused : ListRefusedFor list kind
 
--- Words are refused: for `BadMatcher`, they spell no list; or else the list that they spell. A text
--- is refused as the one word that it is.
+-- Words are refused: they spell no list, which is `BadMatcher`; or else the list that they spell is
+-- refused. A text is refused as a single word is.
 abbrev pub WordsRefusedFor : List (List ℕ) → Kind → Type 0
 WordsRefusedFor words kind =
     ((kind ≡ kinds.BadMatcher) × ((ms : List Condition) → WordsSpell words ms → ⊥))

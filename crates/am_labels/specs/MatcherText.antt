@@ -1,7 +1,7 @@
--- What a matcher text spells: a list of conditions, each a name, an operator and a value. It is
--- said by indices into the text, which is a list of bytes, and by counts, not by a reader's states.
--- The syntax is the classic one; where the reference leaves something open, it is this project's
--- reading.
+-- What a matcher text spells: a list of conditions, each with a name, an operator and a value. The
+-- definitions use indices into the text, which is a list of bytes, and counts, but not the states
+-- of a reader. The syntax is the classic one. If the reference leaves something open, the reading
+-- is this project's own.
 use Rattle.std.specs.Prelude.{◌≡◌, ℕ, zero, suc, ◌+◌, ◌-◌, ◌%◌, ◌≤◌, List, [], ◌∷◌, ◌++◌}
 use Rattle.std.specs.Prelude.{length, take, drop, slice_index, slice_range, EachIndex, Bool, false}
 use Rattle.std.specs.Prelude.{not, ◌&&◌, ◌||◌, ◌==◌, if◌then◌else◌, IsTrue, IsFalse, ◌⊎◌}
@@ -15,14 +15,14 @@ use Rattle.am_labels.specs.Matcher.{Condition, operator_text}
 
 -- ---- Bytes.
 
--- Whitespace: space, tab, line feed, carriage return and form feed; and a text of it or of nothing.
+-- Whitespace: space, tab, line feed, carriage return and form feed; and a text of nothing else.
 abbrev pub is_space : ℕ → Bool
 is_space = is_ascii_whitespace
 
 abbrev pub is_blank : List ℕ → Bool
 is_blank text = list_all is_space text
 
--- A name: what begins and goes on as a label name, but for `:`, which may stand anywhere in it.
+-- A name: it begins and goes on as a label name does, but may also have `:` anywhere.
 abbrev pub begins_name : ℕ → Bool
 begins_name c = begins_label_name c || c == colon
 
@@ -35,11 +35,11 @@ is_name (c ∷ cs) = begins_name c && list_all continues_name cs
 
 -- ---- Backslashes and quotes.
 
--- What stands at an index is escaped: an odd number of backslashes stands directly before it.
+-- The byte at an index is escaped: an odd number of backslashes is directly before it.
 abbrev pub is_escaped : List ℕ → ℕ → Bool
 is_escaped text i = suffix_len (λ c. c == backslash) (take i text) % 2 == 1
 
--- A quote that is not escaped; and how many of them stand before an index.
+-- A quote that is not escaped; and how many of them are before an index.
 abbrev pub is_quote : List ℕ → ℕ → Bool
 is_quote text i = slice_index text i == double_quote && not (is_escaped text i)
 
@@ -47,7 +47,8 @@ abbrev pub quotes_before : List ℕ → ℕ → ℕ
 quotes_before text zero = 0
 quotes_before text (suc i) = quotes_before text i + (if is_quote text i then 1 else 0)
 
--- Each begins a quoted part or ends one, so an index is in a quoted part where their number is odd.
+-- Each of them begins or ends a quoted part. So an index is in a quoted part if their number is
+-- odd.
 abbrev pub is_quoted : List ℕ → ℕ → Bool
 is_quoted text i = quotes_before text i % 2 == 1
 
@@ -68,19 +69,20 @@ is_separator text i = slice_index text i == comma && not (is_quoted text i)
 abbrev pub separators : List ℕ → List ℕ
 separators text = filter (is_separator text) (range_with_len 0 (length text))
 
--- What stands from an index on, cut at these indices.
+-- The text from an index on, cut at these indices.
 abbrev pub pieces_from : List ℕ → ℕ → List ℕ → List (List ℕ)
 pieces_from text start [] = drop start text ∷ []
 pieces_from text start (index ∷ indices) =
     slice_range text start index ∷ pieces_from text (index + 1) indices
 
--- Pieces without the last one, where that is blank.
+-- Pieces without the last one, if that is blank.
 abbrev pub without_blank_last : List (List ℕ) → List (List ℕ)
 without_blank_last [] = []
 without_blank_last (piece ∷ []) = if is_blank piece then [] else piece ∷ []
 without_blank_last (piece ∷ next ∷ more) = piece ∷ without_blank_last (next ∷ more)
 
--- The pieces of a text without braces: it is cut at its separators, and a blank last piece is none.
+-- The pieces of a text without braces: the text is cut at its separators, and a blank last piece is
+-- left out.
 -- Source: Alertmanager configuration reference 0.25, "<matcher>".
 -- Example: `a="1,2",b="3",` has the pieces `a="1,2"` and `b="3"`.
 abbrev pub matcher_pieces : List ℕ → List (List ℕ)
@@ -88,7 +90,7 @@ matcher_pieces text = without_blank_last (pieces_from text 0 (separators text))
 
 -- ---- One piece.
 
--- The bytes that a backslash escapes, `"`, `\` and `n`, and what they then give: a quote, a
+-- The bytes that a backslash escapes, `"`, `\` and `n`; and what they then stand for: a quote, a
 -- backslash and a line feed.
 abbrev pub has_escape : ℕ → Bool
 has_escape c = (c == double_quote || c == backslash) || c == letter_n
@@ -96,8 +98,8 @@ has_escape c = (c == double_quote || c == backslash) || c == letter_n
 abbrev pub byte_of_escape : ℕ → ℕ
 byte_of_escape c = if c == letter_n then line_feed else c
 
--- A body read from left to right without its escapes: a backslash before any other byte, or at the
--- end, stands for itself.
+-- A body without its escapes, which is read from left to right. A backslash before any other byte,
+-- or at the end, stands for itself.
 -- Source: Alertmanager configuration reference 0.25, "<matcher>".
 -- Example: `a\nb` gives `a`, a line feed and `b`; `\d` stays as it is.
 abbrev pub unescaped_text : List ℕ → List ℕ
@@ -107,16 +109,16 @@ unescaped_text (c ∷ d ∷ more) =
     if c == backslash && has_escape d then byte_of_escape d ∷ unescaped_text more
     else c ∷ unescaped_text (d ∷ more)
 
--- The body of a raw value: of one in quotes, the last of which is not escaped, what stands between
--- them; of one that begins with no quote, all of it.
+-- The body of a raw value. If the value is in quotes, and the last quote is not escaped, it is the
+-- text between them. If the value does not begin with a quote, it is all of the value.
 abbrev pub HasBody : List ℕ → List ℕ → Type 0
 HasBody raw body =
     ((raw ≡ double_quote ∷ (body ++ double_quote ∷ []))
     × IsFalse (is_escaped raw (length body + 1)))
     ⊎ (IsFalse (slice_index raw 0 == double_quote) × (raw ≡ body))
 
--- The value of a raw value: its body holds no quote that is not escaped, and is read without its
--- escapes.
+-- The value of a raw value: its body without the escapes. The body must have no quote that is not
+-- escaped.
 -- Source: Alertmanager configuration reference 0.25, "<matcher>".
 -- Example: `"a\"b"` has the value `a"b`, `db` has the value `db`, and `a"b` has none.
 pub record HasValue (raw value : List ℕ) : Type 0 where
@@ -125,20 +127,20 @@ pub record HasValue (raw value : List ℕ) : Type 0 where
   pub no_quote : EachIndex body (λ i. IsFalse (is_quote body i))
   pub value_is : value ≡ unescaped_text body
 
--- No whitespace stands at either end.
+-- There is no whitespace at either end.
 abbrev pub is_trimmed : List ℕ → Bool
 is_trimmed raw =
     not (is_space (slice_index raw 0)) && not (is_space (slice_index raw (length raw - 1)))
 
--- No operator that stands at the beginning of a text is longer than this one. So `=~` is never `=`
--- before a `~`.
+-- No operator that a text begins with is longer than this one. So `=~` is never read as `=` before
+-- a `~`.
 abbrev pub IsLongest : Op → List ℕ → Type 0
 IsLongest op text =
     (other : Op) (rest : List ℕ) → text ≡ operator_text other ++ rest
     → length (operator_text other) ≤ length (operator_text op)
 
 -- A piece spells a condition: whitespace, a name, whitespace, an operator, whitespace, a raw value,
--- whitespace. The operator is the longest that stands there.
+-- whitespace. Each whitespace may be empty. The operator is the longest one there.
 -- Source: Alertmanager configuration reference 0.25, "<matcher>".
 -- Example: ` team = db ` spells the name `team`, the operator `=` and the value `db`.
 pub record SpellsOne (piece : List ℕ) (m : Condition) : Type 0 where
@@ -155,7 +157,8 @@ pub record SpellsOne (piece : List ℕ) (m : Condition) : Type 0 where
   pub trimmed : IsTrue (is_trimmed raw)
   pub value : HasValue raw m.value
 
--- A text spells the list whose conditions its pieces spell one by one, once its braces are off.
+-- A text spells a list of conditions: after its braces are removed, its pieces spell them one by
+-- one.
 -- Source: Alertmanager configuration reference 0.25, "<matcher>".
 -- Example: `{team="db",severity=~"crit.*"}` spells two conditions; the empty text spells the empty
 -- list.
@@ -164,15 +167,15 @@ Spells text ms = AllZip SpellsOne (matcher_pieces (without_closing (without_open
 
 -- ---- Words.
 
--- The pieces of words. One word is the text of a list, and has its pieces. Of several words each
--- is a piece by itself: it is not cut at its commas, and it has no braces to take off.
+-- The pieces of words. A single word is the text of a list, and has the pieces of this text. Each
+-- of several words is a piece by itself: it is not cut at its commas, and no braces are removed.
 abbrev pub pieces_of_words : List (List ℕ) → List (List ℕ)
 pieces_of_words [] = []
 pieces_of_words (text ∷ []) = matcher_pieces (without_closing (without_opening text))
 pieces_of_words (word ∷ next ∷ more) = word ∷ next ∷ more
 
--- Words spell the list whose conditions their pieces spell one by one. So one word spells what it
--- spells as a text, and each of several spells one condition.
+-- Words spell a list of conditions: their pieces spell them one by one. So one word spells what it
+-- spells as a text, and each of several words spells one condition.
 -- Source: amtool 0.25, "config routes test": each label is a word of its own; one word: own choice.
 -- Example: `team=db` and `note=a,b` spell two conditions, the second with the value `a,b`;
 -- `{team=db` and `note=a}` spell none.

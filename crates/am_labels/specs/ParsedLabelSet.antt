@@ -1,4 +1,4 @@
--- What label set the words of a list of matchers give, and why they give none.
+-- The label set that the words of a list of matchers give, and why they give none.
 use Rattle.std.specs.Prelude.{◌≡◌, ℕ, ◌≤◌, List, [], ◌∷◌, length, Bool, true, false, ◌||◌}
 use Rattle.std.specs.Prelude.{fold, IsTrue, ◌⊎◌}
 use Rattle.std.specs.List.{list_all, list_any}
@@ -16,18 +16,18 @@ use Rattle.am_labels.specs.MatcherRefusals.{have_valid_patterns, WordsRefusedFor
 abbrev pub are_equalities : List Condition → Bool
 are_equalities ms = list_all (λ m. is_equality m.op) ms
 
--- A name stands twice.
+-- A name occurs twice.
 abbrev pub repeats_name : List Condition → Bool
 repeats_name [] = false
 repeats_name (m ∷ ms) =
     list_any (λ other. same_text other.name m.name) ms || repeats_name ms
 
--- The set that has each name with its value. An empty value leaves the label out.
+-- The set in which each name has its value. An empty value leaves the label out.
 abbrev pub set_of_list : List Condition → LabelMap
 set_of_list ms = fold (λ s m. with_value s m.name m.value) finite.empty ms
 
--- Words give a set: that of the list that they spell, of at most `MAX_MATCHERS`, each with `=`, no
--- name twice.
+-- Words give a label set: that of the list that they spell. The list has at most `MAX_MATCHERS`
+-- matchers, each with `=`, and no name occurs twice.
 -- Source: own choice.
 -- Example: the one word `team="db",severity=""` gives the set with `team` alone, and so do the two
 -- words `team=db` and `severity=`.
@@ -39,14 +39,14 @@ pub record WordsSpellSet (words : List (List ℕ)) (set : LabelMap) : Type 0 whe
   pub distinct : repeats_name list ≡ false
   pub set_is : set ≡ set_of_list list
 
--- A list of matchers gives no set: for `BadMatcher`, an operator is not `=`; or else for
--- `Duplicate`, a name stands twice.
+-- A list of matchers gives no set: an operator is not `=`, which is `BadMatcher`; or else a name
+-- occurs twice, which is `Duplicate`.
 abbrev pub SetRefusedFor : List Condition → Kind → Type 0
 SetRefusedFor ms kind =
     ((are_equalities ms ≡ false) × (kind ≡ kinds.BadMatcher))
     ⊎ ((are_equalities ms ≡ true) × (repeats_name ms ≡ true) × (kind ≡ kinds.Duplicate))
 
--- Words spell a list that is not refused by itself, and gives no set.
+-- Words spell a list that is not refused as a list of matchers, but gives no set.
 pub record WordsSpellSetRefusedFor (words : List (List ℕ)) (kind : Kind) : Type 0 where
   pub list : List Condition
   pub spelled : WordsSpell words list
@@ -54,6 +54,7 @@ pub record WordsSpellSetRefusedFor (words : List (List ℕ)) (kind : Kind) : Typ
   pub valid_patterns : IsTrue (have_valid_patterns list)
   pub refused : SetRefusedFor list kind
 
--- Words are refused as a label set: as a list of matchers, or else because that list gives no set.
+-- Words are refused as a label set: they are refused as a list of matchers, or that list gives no
+-- set.
 abbrev pub SetWordsRefusedFor : List (List ℕ) → Kind → Type 0
 SetWordsRefusedFor words kind = WordsRefusedFor words kind ⊎ WordsSpellSetRefusedFor words kind

@@ -1,5 +1,5 @@
--- What a pattern means. It is anchored at both ends. The crate `regex` says what the anchored text
--- is read as, and what that finds.
+-- What a pattern means. It is anchored at both ends. The crate `regex` defines how the anchored
+-- text is read, and what it then finds.
 use Rattle.std.specs.Prelude.{ℕ, List, ◌++◌, Bool, Option, is_some, option_map, codes, chars}
 use Rattle.regex_hir.specs.Re.{Re}
 use Rattle.regex_hir.specs.Find.{find_str}
@@ -9,7 +9,7 @@ use Rattle.regex_syntax.specs.Verdict.{default_config}
 
 -- The text that the engine compiles for a pattern.
 -- Source: Alertmanager configuration reference 0.25, "<matcher>": a pattern is fully anchored.
--- Example: of `db|web` it is `^(?:db|web)$`.
+-- Example: for `db|web` it is `^(?:db|web)$`.
 abbrev pub anchored_pattern : List ℕ → List ℕ
 anchored_pattern p = codes "^(?:" ++ p ++ codes ")$"
 

@@ -1,5 +1,5 @@
--- How a pattern is cut from left to right, as a function, and the test whether it is of the
--- profile. What counts is the relation that the test decides, `IsInProfile`.
+-- How a pattern is cut from left to right, as a function, and the test whether it is in the
+-- profile. `IsInProfile` defines the profile, and the test decides it.
 use Rattle.std.specs.Prelude.{ℕ, zero, suc, ◌+◌, ◌-◌, List, [], ◌∷◌, length, take, drop, Bool, true}
 use Rattle.std.specs.Prelude.{◌==◌, ◌&&◌, ◌||◌, nat_eq, nat_lt, if◌then◌else◌, Option, Some}
 use Rattle.std.specs.Prelude.{None, option_map, unwrap_or}
@@ -23,20 +23,20 @@ step_to next width = Some (record { width = width; next = next })
 abbrev pub step_by : ClassContext → Option ℕ → Option PieceStep
 step_by next width = option_map (λ n. record { width = n; next = next }) width
 
--- How far it is up to the next `}`, or to the end.
+-- The length of a text up to and including its first `}`, or of all of it if it has none.
 abbrev pub up_to_brace : List ℕ → ℕ
 up_to_brace t = unwrap_or (option_map (λ i. i + 1) (position (λ c. c == right_brace) t)) (length t)
 
--- The length of the braces that belong to an escape, from what stands behind it.
+-- The length of the braces that belong to the escape of a byte, given the text after the byte.
 abbrev pub braces_len : ℕ → List ℕ → ℕ
 braces_len c t = if takes_braces c && begins "{" t then up_to_brace t else 0
 
--- The length of an escape, from what stands behind the backslash; none where it is refused.
+-- The length of an escape, given the text after the backslash; `None` if the escape is refused.
 abbrev pub escape_len : List ℕ → Option ℕ
 escape_len [] = Some 1
 escape_len (c ∷ t) = if is_refused_escape c then None else Some (2 + braces_len c t)
 
--- How many letters and `-` a text begins with, and these letters and `-`.
+-- How many letters and `-` a text begins with; and these letters and `-`.
 abbrev pub flag_run_len : List ℕ → ℕ
 flag_run_len t = prefix_len is_flag t
 
@@ -47,7 +47,7 @@ flag_run t = take (flag_run_len t) t
 abbrev pub digits_len : List ℕ → ℕ
 digits_len t = prefix_len is_ascii_digit t
 
--- A count begins behind the `{`: `n}`, `n,}` or `n,m}`, each number of one digit or more.
+-- A count begins after the `{`: `n}`, `n,}` or `n,m}`, where each number has at least one digit.
 abbrev pub begins_count : List ℕ → Bool
 begins_count t =
     let after = drop (digits_len t) t in
@@ -67,8 +67,8 @@ class_start_len t =
 abbrev pub named_class_at : List ℕ → Option (List ℕ)
 named_class_at t = find (λ named. starts_with nat_eq t named) named_classes
 
--- The first step through a text that begins with something else than a backslash; none where it is
--- refused. (The rest of a run of flags and of a count is plain by itself.)
+-- The first step through a text that does not begin with a backslash; `None` if the text is refused
+-- there. (A step takes only the `(?` of flags and the `{` of a count. The rest is then plain.)
 unfoldable pub unescaped_step : ClassContext → List ℕ → Option PieceStep
 unescaped_step OutsideClass t =
     if begins "(?" t then
@@ -82,13 +82,13 @@ unescaped_step InsideClass t =
     else if begins "]" t then step_to OutsideClass 1
     else step_to InsideClass 1
 
--- The first step through a text that is not empty; none where it is refused.
+-- The first step through a text that is not empty; `None` if the text is refused there.
 unfoldable pub first_step : ClassContext → List ℕ → Option PieceStep
 first_step context t =
     if begins "\\" t then step_by context (escape_len (drop 1 t)) else unescaped_step context t
 
--- Nothing refused stands from there on. The number bounds how many steps there are: each takes one
--- byte at least.
+-- No piece of the rest of a pattern is refused. The number limits how many steps are made. Each
+-- step takes at least one byte.
 unfoldable pub has_no_refused_piece_within : ℕ → ClassContext → List ℕ → Bool
 has_no_refused_piece_within zero context t = true
 has_no_refused_piece_within (suc n) context [] = true
@@ -96,10 +96,10 @@ has_no_refused_piece_within (suc n) context (c ∷ t) =
     is_some_and (first_step context (c ∷ t))
     (λ s. has_no_refused_piece_within n s.next (drop (s.width - 1) t))
 
--- The same, with steps enough.
+-- The same, with enough steps for the whole rest.
 unfoldable pub has_no_refused_piece : ClassContext → List ℕ → Bool
 has_no_refused_piece context t = has_no_refused_piece_within (length t) context t
 
--- A pattern of the profile. It begins outside a class.
+-- A pattern is in the profile. It begins outside a class.
 abbrev pub in_profile : List ℕ → Bool
 in_profile pattern = has_no_refused_piece OutsideClass pattern

@@ -1,9 +1,9 @@
 -- The profile of patterns. It leaves out forms that Go's engine and the crate `regex` are known to
 -- refuse or to read differently, but not all of them. A pattern is a join of pieces, each of a form
--- that may stand there, outside or inside a class, and it is of the profile where none of them is
--- refused. Texts are lists of bytes: what has a meaning of its own is ASCII, and a byte from 128 on
--- is plain or stands behind a backslash. With pieces of characters the same patterns would be
--- refused.
+-- that is allowed there, outside or inside a class. It is in the profile if none of them is
+-- refused. Texts are lists of bytes: only ASCII bytes have a meaning of their own, and a byte from
+-- 128 on is plain or part of an escape. If pieces were made of characters, the same patterns would
+-- be refused.
 use Rattle.std.specs.Prelude.{◌≡◌, ◌≢◌, ℕ, List, [], ◌∷◌, ◌++◌, length, slice_index, Bool, true}
 use Rattle.std.specs.Prelude.{false, not, ◌==◌, ◌&&◌, ◌||◌, nat_eq, nat_lt, if◌then◌else◌, IsTrue}
 use Rattle.std.specs.Prelude.{IsFalse, Contains, ⊤, codes}
@@ -22,7 +22,7 @@ use Rattle.am_labels.specs.declared.pattern_profile.ClassContext.TheVariants.{In
 pub data Piece : Type 0 where
   -- a backslash and the character after it
   escape : ℕ → Piece
-  -- the same with braces: the character, and what stands between `{` and `}`
+  -- the same with braces: the character, and the text between `{` and `}`
   braced_escape : ℕ → List ℕ → Piece
   -- the same with braces that are not closed, at the end of the pattern
   open_escape : ℕ → List ℕ → Piece
@@ -30,7 +30,7 @@ pub data Piece : Type 0 where
   last_backslash : Piece
   -- outside, `(?` and the letters and `-` that follow
   flags : List ℕ → Piece
-  -- outside, `{n}`, `{n,}` or `{n,m}`: the n, and what stands between it and the `}`
+  -- outside, `{n}`, `{n,}` or `{n,m}`: the n, and the text between it and the `}`
   count : List ℕ → List ℕ → Piece
   -- outside, any other `{`
   brace : Piece
@@ -64,15 +64,15 @@ piece_text (pair c) = c ∷ c ∷ []
 piece_text class_end = codes "]"
 piece_text (plain c) = c ∷ []
 
--- The characters whose escape takes a directly following `{` and all up to the next `}`.
+-- The characters whose escape takes a directly following `{` and everything up to the next `}`.
 abbrev pub takes_braces : ℕ → Bool
 takes_braces c = c ∈ "xpP"
 
--- No `}` stands in the text.
+-- The text has no `}`.
 abbrev pub has_no_closing : List ℕ → Bool
 has_no_closing text = list_all (λ c. not (c == right_brace)) text
 
--- What may stand in the run behind `(?`: a letter or `-`.
+-- A byte that the run after `(?` may have: a letter or `-`.
 abbrev pub is_flag : ℕ → Bool
 is_flag c = is_ascii_alphabetic c || c == hyphen
 
@@ -80,7 +80,7 @@ is_flag c = is_ascii_alphabetic c || c == hyphen
 abbrev pub is_number : List ℕ → Bool
 is_number n = nat_lt 0 (length n) && list_all is_ascii_digit n
 
--- What may stand behind the n of a count: nothing, or `,` and an m, which may be missing.
+-- What may follow the n of a count: nothing, or `,` and an m, which may be missing.
 abbrev pub is_upper_bound : List ℕ → Bool
 is_upper_bound [] = true
 is_upper_bound (c ∷ m) = c == comma && list_all is_ascii_digit m
@@ -99,7 +99,7 @@ named_classes =
     (λ name. (codes "[:" ++ name ++ codes ":]") ∷ (codes "[:^" ++ name ++ codes ":]") ∷ [])
     class_names
 
--- A named class begins there.
+-- The text begins with a named class.
 abbrev pub begins_named_class : List ℕ → Bool
 begins_named_class text = list_any (λ named. starts_with nat_eq text named) named_classes
 
@@ -109,17 +109,17 @@ is_longest_start negated true rest = true
 is_longest_start true false rest = not (begins "]" rest)
 is_longest_start false false rest = not (begins "^" rest || begins "]" rest)
 
--- Outside a class a character is plain where no other form begins with it.
+-- Outside a class, a character is plain if no other form begins with it.
 abbrev pub is_plain_outside : ℕ → List ℕ → Bool
 is_plain_outside c rest = not (c ∈ "\\{[" || c == left_parenthesis && begins "?" rest)
 
--- Inside a class a character is plain where no other form begins with it: `&&`, `--` and `~~` are
+-- Inside a class, a character is plain if no other form begins with it: `&&`, `--` and `~~` are
 -- forms of two characters.
 abbrev pub is_plain_inside : ℕ → List ℕ → Bool
 is_plain_inside c rest = not (c ∈ "\\[]" || c ∈ "&-~" && slice_index rest 0 == c)
 
--- A piece may stand in a context before the rest of the pattern: its form is one of that context,
--- and goes as far as it can.
+-- A piece may be in a context, before the rest of the pattern: its form is one of that context, and
+-- it is as long as it can be.
 abbrev pub StandsIn : ClassContext → Piece → List ℕ → Type 0
 StandsIn context (escape c) rest = IsFalse (takes_braces c && begins "{" rest)
 StandsIn context (braced_escape c inner) rest = IsTrue (takes_braces c && has_no_closing inner)
@@ -142,7 +142,7 @@ StandsIn InsideClass class_end rest = ⊤
 StandsIn InsideClass (plain c) rest = IsTrue (is_plain_inside c rest)
 StandsIn context piece rest = ⊥
 
--- Where the next piece stands.
+-- The context of the next piece.
 abbrev pub context_after : ClassContext → Piece → ClassContext
 context_after context (class_start negated closing) = InsideClass
 context_after context class_end = OutsideClass
@@ -150,21 +150,21 @@ context_after context _ = context
 
 -- ---- What is refused.
 
--- The letters that may stand behind a backslash.
+-- The letters that may follow a backslash.
 abbrev pub is_escape_letter : ℕ → Bool
 is_escape_letter c = list_any (λ letter. letter == c) (codes "dDwWsSbBtnrfvaAzxpP")
 
--- A backslash may not stand before `<`, `>`, a digit, or any other letter.
+-- A backslash may not be before `<`, `>`, a digit, or any other letter.
 abbrev pub is_refused_escape : ℕ → Bool
 is_refused_escape c =
     c ∈ "<>" || is_ascii_digit c || is_ascii_alphabetic c && not (is_escape_letter c)
 
--- The letters that no run of flags may hold.
+-- The letters that no run of flags may have.
 abbrev pub is_refused_flag : ℕ → Bool
 is_refused_flag c = c ∈ "xuR"
 
--- A piece that may stand in no pattern of the profile: such a backslash or run of flags, a `{` that
--- is no count, and inside a class a `[` that is no named class, and `&&`, `--` and `~~`.
+-- A piece that no pattern of the profile has: such a backslash or run of flags, a `{` that begins
+-- no count, and inside a class a `[` that begins no named class, and `&&`, `--` and `~~`.
 abbrev pub is_refused : Piece → Bool
 is_refused (escape c) = is_refused_escape c
 is_refused (flags run) = list_any is_refused_flag run
@@ -175,21 +175,22 @@ is_refused _ = false
 
 -- ---- Patterns.
 
--- The pieces stand there, one behind the other, the first of them in this context.
+-- The pieces may follow one another, if the first of them is in this context.
 abbrev pub Stand : ClassContext → List Piece → Type 0
 Stand context [] = ⊤
 Stand context (piece ∷ pieces) =
     StandsIn context piece (flat_map piece_text pieces) × Stand (context_after context piece) pieces
 
--- A pattern is a join of these pieces. It begins outside a class. Every pattern is one, in one way.
+-- A pattern is a join of these pieces. It begins outside a class. Every pattern is the join of
+-- exactly one list of pieces.
 pub record IsJoinOf (pattern : List ℕ) (pieces : List Piece) : Type 0 where
   pub join : pattern ≡ flat_map piece_text pieces
   pub stand : Stand OutsideClass pieces
 
--- A pattern of the profile: a join of pieces, none of which is refused. It need not be one that the
--- grammar reads: `(` is of the profile and no pattern.
+-- A pattern is in the profile: it is a join of pieces, none of which is refused. The grammar need
+-- not read it: `(` is in the profile, but is no pattern.
 -- Source: own choice.
--- Example: `crit.*` is of the profile; `\<db`, `(?x)db`, `a{` and `[a&&b]` are not.
+-- Example: `crit.*` is in the profile; `\<db`, `(?x)db`, `a{` and `[a&&b]` are not.
 pub record IsInProfile (pattern : List ℕ) : Type 0 where
   pub pieces : List Piece
   pub is_join : IsJoinOf pattern pieces

@@ -9,13 +9,13 @@ use Rattle.am_labels.specs.Pattern.{anchored_pattern, finds}
 abbrev pub pattern_text : Regex → List ℕ
 pattern_text r = take (length (regex_source r) - 6) (drop 4 (regex_source r))
 
--- The engine read that pattern, anchored, under the options that a pattern has by itself.
+-- The engine read that pattern, anchored, with the default options.
 pub record IsAnchored (r : Regex) : Type 0 where
   pub source : regex_source r ≡ anchored_pattern (pattern_text r)
   pub config : regex_config r ≡ default_config
   pub read : IsReadFromSource r
 
--- A search for `re` finds something in a text exactly where the pattern does.
+-- A search for `re` finds something in a text exactly if the pattern finds the text.
 abbrev pub SearchesFor : Re → List ℕ → Type 0
 SearchesFor re p =
     (text : List ℕ) → ((k : ℕ) → get_or text k 0 < 256)

@@ -1,4 +1,4 @@
--- What the code knows of an index of a matcher text from the bytes before it.
+-- What the code knows about an index of a matcher text from the bytes before it.
 use Rattle.std.specs.Prelude.{◌≡◌, ℕ, List}
 use Rattle.am_labels.specs.MatcherText.{is_escaped, is_quoted}
 use Rattle.am_labels.specs.declared.quotes.QuoteState.{QuoteState}

@@ -15,7 +15,7 @@ pub record TruthRow : Type 0 where
 abbrev pub truth_on_value : Condition → Option (List ℕ) → Bool
 truth_on_value m value = holds m.op m.value (unwrap_or value [])
 
--- The truths on the values of the label at a position, or on absence alone where the label is not
+-- The truths on the values of the label at a position, or on absence alone if the label is not
 -- declared.
 abbrev pub truths_of : List Label → Condition → Option ℕ → List Bool
 truths_of u m None = truth_on_value m None ∷ []
@@ -26,8 +26,8 @@ abbrev pub row_of : List Label → Condition → TruthRow
 row_of u m =
     record { label = label_position u m.name; truths = truths_of u m (label_position u m.name) }
 
--- The truth of a row at a position of its label; the same at every position where the label is not
--- declared.
+-- The truth of a row at a position of its label. If the label is not declared, it is the same at
+-- every position.
 abbrev pub truth_among : Option ℕ → List Bool → ℕ → Bool
 truth_among None truths j = slice_index_or truths 0 false
 truth_among (Some i) truths j = slice_index_or truths j false
@@ -35,13 +35,14 @@ truth_among (Some i) truths j = slice_index_or truths j false
 abbrev pub truth_at : TruthRow → ℕ → Bool
 truth_at row j = truth_among row.label row.truths j
 
--- A choice of so many positions has one for a label; for one that is not declared none is needed.
+-- A choice with this number of positions has one for the label. A label that is not declared needs
+-- none.
 abbrev pub is_reached : Option ℕ → ℕ → Bool
 is_reached None n = true
 is_reached (Some i) n = nat_lt i n
 
--- The truth of a row at a choice, false at one with no position for its label; and that of the rows
--- of a list of matchers: each of them is true.
+-- The truth of a row at a choice, which is false if the choice has no position for the label; and
+-- that of the rows of a list of matchers: each of them is true.
 abbrev pub row_holds : TruthRow → List ℕ → Bool
 row_holds row c =
     is_reached row.label (length c) && truth_at row (slice_index c (unwrap_or row.label 0))

@@ -14,7 +14,7 @@ pub record Space : Type 0 where
   pub labels : List Label
   pub impossible : List (List Condition)
 
--- The labels are those of a universe, and the lists are not too many.
+-- The labels are a universe, and there are at most `MAX_IMPOSSIBLE` impossible lists.
 pub record IsSpace (s : Space) : Type 0 where
   pub labels : IsUniverse s.labels
   pub at_most : length s.impossible ≤ MAX_IMPOSSIBLE

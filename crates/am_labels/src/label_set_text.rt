@@ -16,7 +16,7 @@ use std::alloc::{AllocError, Global};
 ///
 /// An empty value leaves the label out. Fails with the first of: the refusals of `parse_matchers`;
 /// `BadMatcher`, an operator is not `=`; `Duplicate`, a name occurs twice, even if a value is
-/// empty. `Memory` comes whenever memory runs out.
+/// empty. Fails with `Memory` whenever memory runs out.
 pub fn parse_set(alloc: Global, text: &str) -> Result<LabelSet, Kind>
     ensures spelled { IfOk result (λ set. WordsSpellSet (text.now ∷ []) set) }
     ensures refused { IfErr result (λ kind. kind ≢ kinds.Memory
@@ -31,7 +31,7 @@ pub fn parse_set(alloc: Global, text: &str) -> Result<LabelSet, Kind>
 /// may have commas, as `note=a,b`. Fails with the first of: `BadMatcher`, one of several words is
 /// not a matcher; `Limit`, there are more than `MAX_MATCHERS` matchers; the refusals of their
 /// patterns, as in `parse_matchers`; and then `BadMatcher` and `Duplicate`, as in `parse_set`.
-/// `Memory` comes whenever memory runs out.
+/// Fails with `Memory` whenever memory runs out.
 pub fn parse_set_words(alloc: Global, words: &[&str]) -> Result<LabelSet, Kind>
     ensures spelled { IfOk result (λ set.
         WordsSpellSet (map (λ word. word.now) words.now) set) }
@@ -72,7 +72,7 @@ fn has_name(matchers: &[Matcher], name: &str) -> bool
     matchers.iter().any(|other| other.name() == name)
 }
 
-/// The set that has each name with its value.
+/// The label set in which each name has its value. An empty value leaves the label out.
 fn set_of_list(alloc: Global, matchers: &[Matcher]) -> Result<LabelSet, AllocError>
     ensures { IfOk result (λ set. set ≡ set_of_list matchers.now) }
 {

@@ -10,7 +10,7 @@
 //! those of its names that callers need.
 #![tactic(auto)]
 
-// How much there may be.
+// The limits of lists of matchers and of spaces.
 pub mod limits;
 
 // The layer below: universes, label sets, sinks and refusals.
@@ -26,7 +26,7 @@ mod pattern_profile;
 
 pub use op::{Comparison, Op};
 
-// A matcher, a list of them, and what decides one label set after another.
+// A matcher, a list of them, and the test of one label set after another.
 mod matcher;
 mod matchers;
 mod prepared_matchers;
@@ -35,12 +35,12 @@ pub use matcher::Matcher;
 pub use matchers::Matchers;
 pub use prepared_matchers::PreparedMatchers;
 
-// A universe, and the lists of matchers that no label set of it matches.
+// A universe without its impossible label sets.
 mod space;
 
 pub use space::Space;
 
-// Their texts.
+// The texts of label sets and of matchers.
 mod label_set_text;
 mod matcher_text;
 mod quotes;
@@ -58,5 +58,5 @@ mod row;
 
 pub use row::Row;
 
-// What holds of the definitions by themselves.
+// Facts about the definitions alone.
 pub mod laws;

@@ -31,7 +31,7 @@ impl Model for Matcher {
     ghost view = { λ m.
         record { name = string_bytes m.name; op = m.op; value = string_bytes m.value } };
 
-    // The pattern is built once, where the operator takes one.
+    // The pattern is built once, if the operator takes one.
     ghost invariant = { λ m.
         m.pattern ≡ (if takes_pattern m.op then Some (string_bytes m.value) else None) };
 }
@@ -41,8 +41,9 @@ impl Matcher {
     ///
     /// Fails with `Empty` for the empty name. Then, for `=~` and `!~`, it fails with
     /// `PatternProfile` exactly if the value is outside the profile of patterns, and with `Pattern`
-    /// if the engine refuses a pattern of the profile. The engine refuses each that its grammar
-    /// does not read between `^(?:` and `)$`. `Memory` comes only for a pattern of the profile.
+    /// if the engine refuses a pattern of the profile. The engine refuses every pattern that its
+    /// grammar does not read between `^(?:` and `)$`. Fails with `Memory` only for a pattern of the
+    /// profile.
     pub fn new(alloc: Global, name: String, op: Op, value: String) -> Result<Matcher, Kind>
         ensures ok { IfOk result (λ m.
             m ≡ record { name = string_bytes name; op = op; value = string_bytes value }) }
@@ -110,7 +111,7 @@ impl Matcher {
     }
 }
 
-/// Tests one text after another by a matcher. The engine keeps its caches from one text to the
+/// Tests one text after another against a matcher. The engine keeps its caches from one text to the
 /// next, and a test cannot fail.
 #[derive(Drop)]
 pub(crate) struct PreparedMatcher<'m> {

@@ -47,8 +47,8 @@ impl Model for Condition {
 /// have braces around it. Fails with the first of: `BadMatcher`, the text does not spell a list;
 /// `Limit`, the list has more than [`MAX_MATCHERS`] matchers; and then, matcher by matcher,
 /// `PatternProfile`, the pattern is outside the profile, or `Pattern`, the engine refuses a pattern
-/// of the profile. The engine refuses each that its grammar does not read. `Memory` comes whenever
-/// memory runs out.
+/// of the profile. The engine refuses every pattern that its grammar does not read. Fails with
+/// `Memory` whenever memory runs out.
 pub fn parse_matchers(alloc: Global, text: &str) -> Result<Matchers, Kind>
     ensures spelled { IfOk result (λ ms. Spells text.now ms) }
     ensures at_most { IfOk result (λ ms. length ms ≤ MAX_MATCHERS) }
@@ -104,7 +104,8 @@ fn read_list(alloc: Global, words: &[&str]) -> Result<Vec<Condition>, Kind>
     read_words(alloc, words)
 }
 
-// The same. Its contract names the function that is computed, and the one above what words spell.
+// Does the work of `read_list`. The contract here names the function that is computed; that of
+// `read_list` says what the words spell.
 fn read_words(alloc: Global, words: &[&str]) -> Result<Vec<Condition>, Kind>
     ensures { ReturnsReading (λ list. list.items) result
         (read_words (map (λ word. word.now) words.now)) }
@@ -156,8 +157,8 @@ fn without_closing(text: &[u8]) -> &[u8]
     }
 }
 
-/// Cuts the text at each comma outside quoted parts, and reads each piece. A blank piece at the end
-/// is none.
+/// Cuts the text at each comma outside quoted parts, and reads each piece. A blank last piece is
+/// ignored.
 fn read_pieces(alloc: Global, text: &[u8]) -> Result<Vec<Condition>, Kind>
     requires { IsUtf8 text.now }
     ensures { ReturnsReading (λ list. list.items) result
@@ -186,7 +187,7 @@ fn is_blank(text: &[u8]) -> bool
     text.iter().all(|byte| byte.is_ascii_whitespace())
 }
 
-/// Reads one piece: a name, an operator and a value, with whitespace around each.
+/// Reads one piece: a name, an operator and a value. Each may have whitespace around it.
 fn read_piece(alloc: Global, piece: &[u8]) -> Result<Condition, Kind>
     requires { IsUtf8 piece.now }
     ensures { ReturnsReading (λ m. m) result (read_piece piece.now) }
@@ -199,7 +200,7 @@ fn read_piece(alloc: Global, piece: &[u8]) -> Result<Condition, Kind>
     Ok(Condition { name, op, value })
 }
 
-/// The text without the whitespace that it begins with.
+/// The text without its leading whitespace.
 fn trim_start(text: &[u8]) -> &[u8]
     ensures value { result.now ≡ without_leading_blanks text.now }
     ensures utf8 { IsUtf8 text.now → IsUtf8 result.now }
@@ -207,7 +208,7 @@ fn trim_start(text: &[u8]) -> &[u8]
     text.trim_ascii_start()
 }
 
-/// The text without the whitespace that it ends with.
+/// The text without its trailing whitespace.
 fn trim_end(text: &[u8]) -> &[u8]
     ensures value { result.now ≡ without_trailing_blanks text.now }
     ensures utf8 { IsUtf8 text.now → IsUtf8 result.now }
@@ -222,7 +223,7 @@ fn begins_name(byte: u8) -> bool
     begins_label_name(byte) || byte == b':'
 }
 
-/// Whether a name may go on with the byte.
+/// Whether a name may have the byte after its first.
 fn continues_name(byte: u8) -> bool
     ensures { result ≡ continues_name byte }
 {
@@ -242,7 +243,7 @@ fn read_name(text: &[u8]) -> Result<(&[u8], &[u8]), Kind>
     }
 }
 
-/// How many bytes at the beginning can stand in a name.
+/// How many bytes at the beginning may continue a name.
 fn name_len(text: &[u8]) -> usize
     ensures at_most { result ≤ length text.now }
     ensures value { result ≡ prefix_len continues_name text.now }
@@ -265,7 +266,7 @@ fn read_operator(text: &[u8]) -> Result<(Op, &[u8]), Kind>
     Err(Kind::BadMatcher)
 }
 
-/// What a raw value says: what stands between its quotes, or all of it where it begins with none.
+/// The body of a raw value: the text between its quotes, or all of it if it begins with no quote.
 #[tactic(auto, unfolding(crate::specs::MatcherReading::read_body))]
 fn read_body(raw: &[u8]) -> Result<&[u8], Kind>
     ensures value { ReturnsReading (λ x. x.now) result (read_body raw.now) }
@@ -338,7 +339,7 @@ fn text_from(bytes: Vec<u8>) -> Result<String, Kind>
 {
     match String::from_utf8(bytes) {
         Ok(text) => Ok(text),
-        // It can't come here: what is cut from a text at ASCII bytes is a text.
+        // This cannot happen: a part that is cut from a text at ASCII bytes is UTF-8.
         Err(_) => Err(Kind::BadMatcher),
     }
 }

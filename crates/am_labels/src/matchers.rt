@@ -112,7 +112,7 @@ impl Matchers {
         &self.matchers[i]
     }
 
-    /// The matchers in a row.
+    /// The matchers as a slice.
     pub(crate) fn as_slice(&self) -> &[Matcher]
         ensures { result.now ≡ self.now }
     {

@@ -9,8 +9,8 @@ use regex::{Error, Regex};
 use std::alloc::{AllocError, Global};
 use std::marker::Model;
 
-/// A pattern, compiled so that it has to match a whole text. What is compiled is large, so it is
-/// boxed: a matcher that has no pattern then takes no room for one.
+/// A pattern, compiled so that it has to match a whole text. The compiled form is large, so it is
+/// boxed: a matcher without a pattern then keeps no room for one.
 #[derive(Drop)]
 pub(crate) struct Pattern {
     regex: Box<Regex>,
@@ -56,7 +56,7 @@ impl Pattern {
         }
     }
 
-    /// What searches for this pattern in one text after another.
+    /// Prepares a search for this pattern in one text after another.
     pub(crate) fn matcher(&self, alloc: Global) -> Result<PatternMatcher<'_>, AllocError>
         ensures { IfOk result (λ m. m ≡ self.now) }
     {
@@ -68,8 +68,8 @@ impl Pattern {
     }
 }
 
-/// Searches for a pattern in one text after another. The engine keeps its caches from one to the
-/// next, and a search cannot fail. What the engine keeps is large, so it is boxed.
+/// Searches for a pattern in one text after another. The engine keeps its caches from one text to
+/// the next, and a search cannot fail. The state of the engine is large, so it is boxed.
 #[derive(Drop)]
 pub(crate) struct PatternMatcher<'p> {
     pattern: &'p Pattern,

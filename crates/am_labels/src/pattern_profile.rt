@@ -9,14 +9,14 @@ ghost use Rattle.am_labels.specs.PatternCut.{flag_run, flag_run_len, begins_coun
 ghost use Rattle.am_labels.specs.PatternCut.{class_start_len, named_class_at, up_to_brace};
 ghost use Rattle.am_labels.specs.PatternCut.{braces_len};
 
-/// Where a piece of a pattern stands: outside or inside a class, which is in brackets.
+/// Where a piece of a pattern is: outside or inside a class, which is in brackets.
 #[derive(Clone, Copy)]
 enum ClassContext {
     OutsideClass,
     InsideClass,
 }
 
-/// A step through a pattern: how far it goes, and where what follows stands.
+/// A step through a pattern: its length in bytes, and the context of what follows.
 #[derive(Clone, Copy)]
 struct PieceStep {
     width: usize,
@@ -31,8 +31,8 @@ impl PieceStep {
     }
 }
 
-/// Whether the pattern is of the profile. It leaves out forms that Go's engine and the crate
-/// `regex` are known to refuse or to read differently, but not all of them.
+/// Whether the pattern is in the profile. The profile leaves out forms that Go's engine and the
+/// crate `regex` are known to refuse or to read differently, but not all of them.
 pub(crate) fn is_in_profile(pattern: &str) -> bool
     ensures { result ≡ in_profile pattern.now }
 {
@@ -48,7 +48,7 @@ pub(crate) fn is_in_profile(pattern: &str) -> bool
     true
 }
 
-/// The first step through a text; `None` where it is refused.
+/// The first step through a text; `None` if the text is refused there.
 #[tactic(auto, unfolding(crate::specs::PatternCut::first_step))]
 fn first_step(context: ClassContext, text: &[u8]) -> Option<PieceStep>
     requires { 0 < length text.now }
@@ -66,7 +66,7 @@ fn first_step(context: ClassContext, text: &[u8]) -> Option<PieceStep>
     }
 }
 
-/// The first step outside a class, through a text that begins with no backslash.
+/// The first step outside a class, through a text that does not begin with a backslash.
 #[tactic(auto, unfolding(crate::specs::PatternCut::unescaped_step))]
 fn outside_step(text: &[u8]) -> Option<PieceStep>
     requires { 0 < length text.now }
@@ -89,7 +89,7 @@ fn outside_step(text: &[u8]) -> Option<PieceStep>
     Some(PieceStep::to(1, ClassContext::OutsideClass))
 }
 
-/// The first step inside a class, through a text that begins with no backslash.
+/// The first step inside a class, through a text that does not begin with a backslash.
 #[tactic(auto, unfolding(crate::specs::PatternCut::unescaped_step))]
 fn inside_step(text: &[u8]) -> Option<PieceStep>
     requires { 0 < length text.now }
@@ -110,8 +110,7 @@ fn inside_step(text: &[u8]) -> Option<PieceStep>
     Some(PieceStep::to(1, ClassContext::InsideClass))
 }
 
-/// The length of the escape that a backslash begins, from what stands behind it; `None` where it is
-/// refused.
+/// The length of an escape, given the text after its backslash; `None` if the escape is refused.
 fn escape_len(after: &[u8]) -> Option<usize>
     ensures value { result ≡ escape_len after.now }
     ensures within { IfSome result (λ n. n ≤ length after.now + 1) }
@@ -128,7 +127,7 @@ fn escape_len(after: &[u8]) -> Option<usize>
     }
 }
 
-/// Whether a backslash may not stand before it.
+/// Whether the profile refuses the byte after a backslash.
 fn is_refused_escape(byte: u8) -> bool
     ensures { result ≡ is_refused_escape byte }
 {
@@ -138,7 +137,7 @@ fn is_refused_escape(byte: u8) -> bool
         || byte.is_ascii_alphabetic() && !b"dDwWsSbBtnrfvaAzxpP".contains(&byte)
 }
 
-/// The length of the braces that belong to an escape, from what stands behind it.
+/// The length of the braces that belong to the escape of a byte, given the text after the byte.
 fn braces_len(byte: u8, after: &[u8]) -> usize
     ensures value { result ≡ braces_len byte after.now }
     ensures within { result ≤ length after.now }
@@ -149,7 +148,7 @@ fn braces_len(byte: u8, after: &[u8]) -> usize
     up_to_brace(after)
 }
 
-/// How far it is up to the next `}`, or to the end.
+/// The length of the text up to and including its first `}`, or of all of it if it has none.
 fn up_to_brace(text: &[u8]) -> usize
     ensures value { result ≡ up_to_brace text.now }
     ensures within { result ≤ length text.now }
@@ -167,7 +166,7 @@ fn brace_at(text: &[u8]) -> Option<usize>
     text.iter().position(|b| *b == b'}')
 }
 
-/// Whether the run of flags behind `(?` holds none that is refused.
+/// Whether the run of flags after `(?` has no refused flag.
 fn has_only_common_flags(after: &[u8]) -> bool
     ensures { result ≡ not (list_any is_refused_flag (flag_run after.now)) }
 {
@@ -186,7 +185,7 @@ fn is_refused_flag(byte: u8) -> bool
     matches!(byte, b'x' | b'u' | b'R')
 }
 
-/// The length of the run of letters and `-` at the front.
+/// The length of the run of letters and `-` at the beginning.
 fn flag_run_len(text: &[u8]) -> usize
     ensures value { result ≡ flag_run_len text.now }
     ensures within { result ≤ length text.now }
@@ -196,7 +195,7 @@ fn flag_run_len(text: &[u8]) -> usize
         .count()
 }
 
-/// Whether a count of repetitions begins behind the `{`.
+/// Whether a count of repetitions begins after the `{`.
 fn begins_count(text: &[u8]) -> bool
     ensures { result ≡ begins_count text.now }
 {
@@ -222,7 +221,8 @@ fn digits_len(text: &[u8]) -> usize
     text.iter().take_while(|b| b.is_ascii_digit()).count()
 }
 
-/// The length of the beginning of a class: `[`, and directly behind it `^`, and then `]`.
+/// The length of the beginning of a class: `[`, then `^` if it follows directly, then `]` if it
+/// follows directly.
 fn class_start_len(text: &[u8]) -> usize
     requires { 0 < length text.now }
     ensures value { result ≡ class_start_len text.now }
@@ -237,7 +237,7 @@ fn class_start_len(text: &[u8]) -> usize
     }
 }
 
-/// The named classes that may stand inside a class.
+/// The named classes that may be inside a class.
 const NAMED_CLASSES: [&str; 28] = [
     "[:alnum:]",
     "[:^alnum:]",
@@ -269,7 +269,7 @@ const NAMED_CLASSES: [&str; 28] = [
     "[:^xdigit:]",
 ];
 
-/// The length of the named class that begins a text.
+/// The length of the named class that a text begins with.
 fn named_class_len(text: &[u8]) -> Option<usize>
     ensures value { result ≡ option_map (λ named. length named) (named_class_at text.now) }
     ensures within { IfSome result (λ n. n ≤ length text.now) }

@@ -7,14 +7,14 @@ use am_universe::LabelSet;
 use std::alloc::{AllocError, Global};
 use std::marker::Model;
 
-/// Tests one label set after another by a list of matchers.
+/// Tests one label set after another against a list of matchers.
 ///
 /// The search for a pattern is made when the first text reaches it, and serves all later texts. So
 /// no search is made that is not needed, even for a single label set.
 #[derive(Drop)]
 pub struct PreparedMatchers<'m> {
     matchers: &'m [Matcher],
-    // The front of the list: the matchers that some text has reached.
+    // A prefix of the list: the matchers that some label set has reached.
     prepared: Vec<PreparedMatcher<'m>>,
 }
 

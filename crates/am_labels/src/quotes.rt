@@ -4,12 +4,12 @@ ghost use Rattle.std.specs.Prelude.{◌≡◌, ◌+◌, ◌<◌, ℕ, List, leng
 ghost use Rattle.am_labels.specs.MatcherText.{is_quote, is_quoted};
 ghost use Rattle.am_labels.specs.QuoteState.{IsStateAt};
 
-/// What the bytes before an index of a text say of it.
+/// What the bytes before an index of a text tell about the index.
 #[derive(Clone, Copy)]
 pub(crate) struct QuoteState {
-    /// An odd number of backslashes stands directly before it.
+    /// An odd number of backslashes is directly before the index.
     escaped: bool,
-    /// It is in a quoted part.
+    /// The index is in a quoted part.
     quoted: bool,
 }
 
@@ -24,7 +24,7 @@ impl QuoteState {
         }
     }
 
-    /// The state of the next index, behind this byte.
+    /// The state of the next index, after this byte.
     pub(crate) fn next(self, byte: u8) -> QuoteState
         ensures { (text : List ℕ) (i : ℕ) → i < length text → slice_index text i ≡ byte
             → IsStateAt text i self → IsStateAt text (i + 1) result }

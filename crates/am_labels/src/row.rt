@@ -92,7 +92,7 @@ impl Matcher {
     }
 }
 
-/// The truth on each value of a label.
+/// The truth of a matcher on each value of a label.
 fn declared_truths(
     alloc: Global,
     prepared: &mut PreparedMatcher<'_>,
@@ -113,7 +113,7 @@ fn declared_truths(
     Ok(truths)
 }
 
-/// The truth on the empty text.
+/// The truth of a matcher on the empty text.
 fn undeclared_truths(
     alloc: Global,
     prepared: &mut PreparedMatcher<'_>,
@@ -125,7 +125,7 @@ fn undeclared_truths(
     Ok(truths)
 }
 
-/// Whether a text is each value of a label.
+/// For each value of a label, whether it is the text.
 fn declared_equalities(
     alloc: Global,
     universe: &Universe,
@@ -146,7 +146,7 @@ fn declared_equalities(
     Ok(truths)
 }
 
-/// Whether a text is the empty one.
+/// Whether a text is empty.
 fn undeclared_equality(alloc: Global, text: &str) -> Result<Vec<bool>, AllocError>
     ensures { IfOk result (λ truths. truths.items
         ≡ truth_on_value (record { name = []; op = Equal; value = text.now }) None ∷ []) }

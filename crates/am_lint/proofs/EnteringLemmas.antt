@@ -1,6 +1,6 @@
--- An alert enters the route at a path exactly where it matches each route on the way there, and
--- none of the siblings before these that lack `continue`; and it ends there where, beside that, it
--- matches no child of the route.
+-- An alert enters the route at a path exactly if it matches each route on the way there, and none
+-- of the siblings before these that lack `continue`. It ends there exactly if it also matches no
+-- child of the route.
 use Rattle.std.proofs.Common.{◌≡◌, ◌↔◌, inl, inr, ℕ, zero, suc, ◌<◌, List, [], ◌∷◌, ◌++◌, take}
 use Rattle.std.proofs.Common.{append_assoc, Some, false, not, refl, sym, ap, subst, ◌∙◌, arith}
 use Rattle.std.specs.Prelude.{IsTrue, IsFalse, slice_get, option_and_then, ◌==◌}
@@ -63,8 +63,8 @@ child_last (p ∷ path) k =
 
 -- ---- Down from a route.
 
--- an alert matches the route at a path; each route on the way; none before these that lacks
--- `continue`; and no child
+-- an alert matches the route at a path; it matches each route on the way; it matches no route
+-- before these that lacks `continue`; it matches no child
 abbrev MatchesIn : LabelMap → RouteTree → List ℕ → Type 0
 MatchesIn s root q =
     (t : RouteTree) × (route_at root q ≡ Some t) × IsTrue (all_hold s (matchers_of t))
@@ -106,7 +106,7 @@ from_child : (s : LabelMap) (t child : RouteTree) (p q : ℕ) (rest : List ℕ)
     → MatchesIn s child rest → MatchesIn s t (q ∷ rest)
 from_child s t child p q rest is same h = (h.0, at_child t child p q rest is same ∙ h.1, h.2)
 
--- it is matched where it is one route
+-- an alert that matches the route at a path matches the route that stands there
 same_matched : (s : LabelMap) (t : RouteTree) (q : List ℕ) (u : RouteTree)
     → route_at t q ≡ Some u → MatchesIn s t q → IsTrue (all_hold s (matchers_of u))
 same_matched s t q u at h =
@@ -210,7 +210,7 @@ itself s t path (k ∷ below) h none =
 
 -- ---- The same of a configuration.
 
--- what an alert meets that enters the route at a path
+-- what an alert that enters the route at a path meets
 pub record MeetsWayIn (c : Configuration) (path : List ℕ) (set : LabelMap) : Type 0 where
   pub way : MatchesWay c path set
   pub before : (q : List ℕ) (t : RouteTree) → route_at c.root q ≡ Some t

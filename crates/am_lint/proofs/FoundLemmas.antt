@@ -35,8 +35,8 @@ use Rattle.am_lint.specs.Report.{IsSaid, SaysOfRoutes}
 
 -- ---- What was found.
 
--- how a route stands over label sets that occur, by a choice of other labels; it need not be known
--- where some ordinary alert ends there
+-- how a route stands over the label sets that occur, with choices of other labels; this need not be
+-- known if some ordinary alert ends there
 abbrev pub IsKnown :
     List Label → (LabelMap → Type 0) → Configuration → List ℕ → Option Standing → Type 0
 IsKnown u Occurs c path None = ⊥
@@ -50,15 +50,15 @@ IsKnownOver u Occurs c path (standing_is.HandsOn entry children) every =
 IsKnownOver u Occurs c path (standing_is.NeverEntered reason) every =
     IsKnown u Occurs c path every
 
--- it is not known over every alert where printable ASCII counts alone
+-- if only printable ASCII counts, it is not known over every alert
 abbrev pub IsFurther :
     Bool → Space → List Label → Configuration → List ℕ → Standing → Option Standing → Type 0
 IsFurther ascii s v c path ordinary every =
     ((ascii ≡ true) × (every ≡ None))
     ⊎ ((ascii ≡ false) × IsKnownOver v (IsAlertOf Unicode s) c path ordinary every)
 
--- a route was found so for the alerts of a space, by choices of some labels and, over every alert,
--- of others
+-- what was found of a route is true for the alerts of a space, with choices of some labels and,
+-- over every alert, of others
 pub record IsFoundSo (ascii : Bool) (s : Space) (u v : List Label) (c : Configuration)
     (route : List ℕ × RouteTree) (found : FoundRoute) : Type 0 where
   pub path : found.path ≡ route.0
@@ -98,7 +98,7 @@ zip_own : {X Y : Type 0} (Q : X → Y → Type 0) (f : X → Y) → ((x : X) →
 zip_own Q f each [] = tt
 zip_own Q f each (x ∷ xs) = (each x, zip_own Q f each xs)
 
--- a test that none passes fails each
+-- if no item passes a test, each item fails it
 fails : {X : Type 0} (test : X → Bool) (xs : List X) (x : X) → list_any test xs ≡ false
     → IsIn xs x → test x ≡ false
 fails test xs x none i =
@@ -154,7 +154,7 @@ module _ (u : List Label) (Occurs : LabelMap → Type 0) (c : Configuration) (pa
 -- ---- What is said of a route.
 
 module _ (ascii : Bool) (s : Space) (v : List Label) (c : Configuration) (path : List ℕ) where
-  -- the alerts that count, by what is counted
+  -- the alerts that count, for the value that `ascii` has
   counted : (b : Bool) → ascii ≡ b → (So : (LabelMap → Type 0) → Type 0) → So (Counts b s)
       → So (Counts ascii s)
   counted b e So h = subst (λ x. So (Counts x s)) (sym e) h
@@ -229,7 +229,8 @@ module _ (c : Configuration) (receiver : ℕ) where
 module _ (ascii : Bool) (s : Space) (u v : List Label) (c : Configuration)
     (routes : List FoundRoute)
     (so : AllZip (IsFoundSo ascii s u v c) (all_routes c) routes) where
-  -- a route that has a receiver is found with it, and what is found with it stands there
+  -- a route that has a receiver is found with it, and alerts that end at a route that is found with
+  -- a receiver go to it
   found_at : (receiver : ℕ) (path : List ℕ) (t : RouteTree) → route_at c.root path ≡ Some t
       → receiver_of t ≡ receiver
       → (route : List ℕ × RouteTree) × (found : FoundRoute) × (route.0 ≡ path)
@@ -283,7 +284,7 @@ module _ (ascii : Bool) (s : Space) (u v : List Label) (c : Configuration)
   ]
 
   module _ (receiver : ℕ) where
-    -- of what has the receiver, where no test finds it
+    -- if a test finds no route with the receiver, each route with the receiver fails the test
     untold : (test : FoundRoute → Bool) (found : FoundRoute)
         → list_any (λ f. f.receiver == receiver && test f) routes ≡ false → IsIn routes found
         → IsTrue (found.receiver == receiver) → test found ≡ false

@@ -1,4 +1,4 @@
--- What the code finds over spaces that stand for alerts is so of these alerts.
+-- What the code finds over spaces that stand for alerts is true of these alerts.
 use Rattle.std.proofs.Common.{◌≡◌, inl, inr, ℕ, ◌<◌, List, [], ◌∷◌, length, Bool, true, false}
 use Rattle.std.proofs.Common.{Option, Some, None, refl, sym, subst, ◌∙◌}
 use Rattle.std.specs.List.{AllByRecursion, AllZip}
@@ -23,7 +23,7 @@ use Rattle.am_lint.proofs.FoundLemmas.{IsKnownOver, IsFurther, IsFoundSo, stands
 
 -- ---- Lists, place by place.
 
--- what follows of items that stand at one place
+-- what follows for the two items at each position
 each_place : {X Y : Type 0} (R Q : X → Y → Type 0) (xs : List X) (ys : List Y)
     → ((x : X) (y : Y) → IsIn xs x → IsIn ys y → R x y → Q x y) → AllZip R xs ys → AllZip Q xs ys
 each_place R Q [] [] each h = tt
@@ -42,7 +42,7 @@ each_second R P (x ∷ xs) [] each h = absurd h
 each_second R P (x ∷ xs) (y ∷ ys) each h =
     (each x y (inl refl) h.0, each_second R P xs ys (λ v w i. each v w (inr i)) h.1)
 
--- what holds of each item, beside what holds place by place
+-- what holds position by position, together with what holds of each item
 with_each : {X Y : Type 0} (R : X → Y → Type 0) (P : Y → Type 0) (xs : List X) (ys : List Y)
     → AllZip R xs ys → AllByRecursion P ys → AllZip (λ x y. R x y × P y) xs ys
 with_each R P [] [] h k = tt
@@ -70,7 +70,7 @@ module _ (s o : Space) (c : Configuration) (stands : StandsForAlerts Ascii o c)
   ordinary_so route found is =
       standing_over_as Ascii o c stands s (sym same) route.0 found.ordinary is.2
 
-  -- where printable ASCII counts alone
+  -- if only printable ASCII counts
   pub found_over_ascii : (v : List Label) (found : List FoundRoute)
       → AllZip (IsFoundIn o c) (all_routes c) found
       → AllByRecursion (λ route. route.every ≡ None) found
@@ -86,7 +86,7 @@ module _ (s o : Space) (c : Configuration) (stands : StandsForAlerts Ascii o c)
       })
       (with_each (IsFoundIn o c) (λ y. y.every ≡ None) (all_routes c) found is once)
 
-  -- where every alert counts
+  -- if every alert counts
   module _ (e : Space) (every : StandsForAlerts Unicode e c)
       (also : e.impossible ≡ s.impossible) where
     known_so : (path : List ℕ) (ordinary : Standing) (further : Option Standing)

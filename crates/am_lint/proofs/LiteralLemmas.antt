@@ -23,13 +23,13 @@ use Rattle.am_lint.specs.declared.table.TableRoute.{TableRoute}
 use Rattle.am_lint.specs.Literals.{is_wanted, has_route, IsAbout, HasEach, AddsPart, AreLiterals}
 use Rattle.am_lint.specs.Literals.{AreTagged, path_of, named_paths}
 
--- more is so of what a call answers
+-- a property of what a call returns follows from a stronger one
 pub if_ok_more : {A E : Type 0} (r : Result A E) (P Q : A → Type 0) → ((a : A) → P a → Q a)
     → IfOk r P → IfOk r Q
 if_ok_more (Ok a) P Q more h = more a h
 if_ok_more (Err e) P Q more h = tt
 
--- what is added of the first routes of a table
+-- what is added for the first routes of a table
 pub record AddsSoFar (routes : List TableRoute) (part : Part) (path : List ℕ) (n : ℕ)
     (old new : List Candidate) : Type 0 where
   pub more : List Candidate
@@ -124,7 +124,7 @@ no_literals routes path = record {
   named = tt;
 }
 
--- of one part more
+-- the literals with those of one more part
 pub more_literals : (routes : List TableRoute) (ps : List Part) (part : Part) (path : List ℕ)
     (old new : List Candidate) → AreLiterals routes ps path old
     → AddsPart routes part path old new → AreLiterals routes (ps ++ part ∷ []) path new
@@ -206,7 +206,7 @@ tagged_behind routes ks zero are = are
 tagged_behind routes [] (suc n) are = tt
 tagged_behind routes (k ∷ ks) (suc n) are = tagged_behind routes ks n are.1
 
--- the path of one literal more
+-- one more literal that is named adds its path
 pub path_named : (routes : List TableRoute) (ks : List Candidate) (i : ℕ) (k : Candidate)
     → slice_get ks i ≡ Some k → k.named ≡ true
     → named_paths routes (take (i + 1) ks)

@@ -1,4 +1,4 @@
--- When literals are true at a choice: where its label set does as they want.
+-- When literals are true at a choice: if its label set does what they want.
 use Rattle.std.proofs.Common.{◌≡◌, ◌↔◌, ℕ, List, Bool, true, false, not, cond, Some, refl, sym, ap}
 use Rattle.std.proofs.Common.{◌∙◌, subst, slice_get, Contains, IsTrue, inl, inr}
 use Rattle.std.proofs.lemmas.Bool.{cases_Bool}
@@ -86,7 +86,7 @@ module _ (u : List Label) (c : Configuration) (routes : List TableRoute)
 
   module _ (parts : List Part) (path : List ℕ) (ks : List Candidate)
       (are : AreLiterals routes parts path ks) where
-    -- what meets them does as the parts want
+    -- a label set that meets the literals does what the parts want
     pub parts_met : ((k : Candidate) → IsIn ks k → holds_at choice k ≡ true)
         → MeetsParts c parts path set
     parts_met all part among q stands =
@@ -105,7 +105,7 @@ module _ (u : List Label) (c : Configuration) (routes : List TableRoute)
         subst (λ p. DoesAt c (is_wanted part) p set) (ap (λ r. r.path) same ∙ place.path)
         (subst (λ b. DoesAt c b about.2.0.path set) k.3 holds)
 
-    -- and what does so meets them
+    -- and a label set that does what the parts want meets the literals
     pub literals_met : MeetsParts c parts path set
         → (k : Candidate) → IsIn ks k → holds_at choice k ≡ true
     literals_met does k among =

@@ -23,7 +23,7 @@ use Rattle.am_lint.proofs.ValueText.{by_escape, quoted_trimmed, quoted_has_value
 
 -- ---- bytes that are passed without a cut
 
--- from a place that is not escaped to another, quoted or not before and behind
+-- from one position that is not escaped to another; each of the two is quoted or not
 abbrev Passes : Bool → List ℕ → Bool → Type 0
 Passes q xs r = (piece rest : List ℕ) → cut false q piece (xs ++ rest) ≡ cut false r (piece ++ xs)
     rest

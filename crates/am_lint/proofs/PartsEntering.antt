@@ -22,7 +22,7 @@ use Rattle.am_lint.specs.Reasons.{MatchesWay, IsExcludedBy, IsTakenBy, IsHandedT
 use Rattle.am_lint.proofs.EnteringLemmas.{MeetsWayIn, MeetsNoChild, enters_exactly, ends_exactly}
 use Rattle.am_lint.proofs.EnteringLemmas.{goes_on}
 
--- a route stands at each path on the way to one
+-- there is a route at each path on the way to a route
 route_before : (t u : RouteTree) (q below : List ℕ) → route_at t (q ++ below) ≡ Some u
     → (v : RouteTree) × (route_at t q ≡ Some v)
 route_before t u [] below at = (t, refl)

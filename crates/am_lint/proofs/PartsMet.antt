@@ -1,4 +1,4 @@
--- Which choices meet the literals of parts, and that none does.
+-- Which choices meet the literals of parts, and when none does.
 use Rattle.std.proofs.Common.{◌≡◌, List, ℕ, sym, refl, subst, Option, Some, None, IsTrue, IfSome}
 use Rattle.std.specs.Prelude.{IfNone}
 use Rattle.std.specs.List.{find}
@@ -22,14 +22,14 @@ use Rattle.am_lint.proofs.ReasonPaths.{holds_each, meets_each, meets_all, unmet_
 module _ (s : Space) (c : Configuration) (routes : List TableRoute)
     (known : IsTableOf s.labels c routes) (parts : List Part) (path : List ℕ)
     (ks : List Candidate) (are : AreLiterals routes parts path ks) where
-  -- where no label set does as the parts want, no choice meets all literals
+  -- if no label set does what the parts want, no choice meets all literals
   pub none_meets_all : NoneIs (IsSetOf s) (MeetsParts c parts path) → IsAnyMet s ks → ⊥
   none_meets_all none met =
       none (label_set_of s.labels met.0) (met.0, met.1, refl)
       (parts_met s.labels c routes known met.0 met.1.0 parts path ks are
       (holds_each met.0 ks met.2))
 
-  -- a choice that is found does as they want
+  -- the label set of a choice that is found does what the parts want
   pub found_does : (found : Option (List ℕ)) (choice : List ℕ)
       → found ≡ find (λ d. meets d ks) (all_choices s) → found ≡ Some choice
       → IsChoiceOf s choice → MeetsParts c parts path (label_set_of s.labels choice)
@@ -39,7 +39,7 @@ module _ (s : Space) (c : Configuration) (routes : List TableRoute)
       (λ k there. meets_each choice ks met k there
       (AllByRecursion-at (λ (l : Candidate). IsTrue l.named) ks k are.named there))
 
-  -- and where none is found no label set does
+  -- and if none is found, no label set does
   pub none_does : None ≡ find (λ d. meets d ks) (all_choices s)
       → NoneIs (IsSetOf s) (MeetsParts c parts path)
   none_does none set occurs does =
@@ -49,7 +49,8 @@ module _ (s : Space) (c : Configuration) (routes : List TableRoute)
       (meets_all choice ks (λ k there named.
       literals_met s.labels c routes known choice occurs.1.0 parts path ks are done k there))
 
-  -- so what is found, or that nothing is, says the same of what the parts mean
+  -- so the result of the search says whether some label set has the property that the parts stand
+  -- for
   pub shown_if_found : (found : Option (List ℕ)) (Is : LabelMap → Type 0)
       → found ≡ find (λ d. meets d ks) (all_choices s) → IfSome found (IsChoiceOf s)
       → ((set : LabelMap) → MeetsParts c parts path set → Is set) → IfSome found (IsShownBy s Is)

@@ -1,4 +1,4 @@
--- Where routes stand to each other, step by step.
+-- How routes stand relative to each other, step by step.
 use Rattle.std.proofs.Common.{◌≡◌, ℕ, ◌+◌, ◌<◌, ◌≤◌, List, [], ◌∷◌, length, drop, get_or}
 use Rattle.std.proofs.Common.{true, false, ◌&&◌, nat_lt, refl, ap, arith}
 use Rattle.std.specs.Prelude.{◌==◌}

@@ -1,4 +1,4 @@
--- A reason keeps alerts out: none enters, and none ends at a route that hands on.
+-- A reason keeps alerts out: none enters the route, or none ends at a route that hands on.
 use Rattle.std.proofs.Common.{ℕ, List, Contains}
 use Rattle.std.specs.Prelude.{IsTrue}
 use Rattle.std.specs.List.{AllByRecursion}

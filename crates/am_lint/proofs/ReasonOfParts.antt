@@ -46,7 +46,7 @@ front_place (z ∷ xs) ys zero x at = (at, omega arith)
 front_place (z ∷ xs) ys (suc j) x at =
     let r = front_place xs ys j x at in (r.0, omega (arith, r.1))
 
--- a literal that stays named where another is not
+-- taking the name off one literal leaves the others as they are
 still_there : (i j : ℕ) (ks : List Candidate) (k : Candidate) → slice_get ks j ≡ Some k
     → (j ≡ i → ⊥) → slice_get (without i ks) j ≡ Some k
 still_there i j [] k at other = at
@@ -64,7 +64,7 @@ module _ (s : Space) (c : Configuration) (routes : List TableRoute)
   abbrev n : ℕ
   n = length front
 
-  -- what a literal at a place is about
+  -- what a literal is about
   record IsLiteralAt (p : Part) (l : Candidate) : Type 0 where
     route : TableRoute
     at : slice_get routes l.tag ≡ Some route
@@ -92,7 +92,8 @@ module _ (s : Space) (c : Configuration) (routes : List TableRoute)
       same at in
       (r.0, ap (λ ks. slice_get ks j) (sym adds.adds) ∙ r.1, r.2)
 
-  -- one of the first is about a route of the other parts, and one behind them of this part
+  -- each of the first literals is about a route of the other parts, each later one about a route of
+  -- this part
   first_about : (j : ℕ) (l : Candidate) → slice_get named j ≡ Some l → j < n
       → (p : Part) × Contains parts p × IsLiteralAt p l
   first_about j l at lt =
@@ -114,7 +115,7 @@ module _ (s : Space) (c : Configuration) (routes : List TableRoute)
       (AllByRecursion-at (IsAbout routes part path) adds.more r.0 adds.each
       (in_rest front adds.more j r.0 r.1 le)) r.2
 
-  -- the path of a literal, and its route
+  -- the path of a literal is that of its route, which is a route of the part
   its_path : (p : Part) (l : Candidate) (about : IsLiteralAt p l)
       → path_of routes l ≡ about.route.path
   its_path p l about = ap path_if_any about.at
@@ -128,7 +129,7 @@ module _ (s : Space) (c : Configuration) (routes : List TableRoute)
         ap (stands_in p path about.route.path) (sym own.continues) ∙ about.has,
       )
 
-  -- at a choice it is true where its label set does as is wanted
+  -- a literal is true at a choice exactly if the label set of the choice does what is wanted
   does_if_holds : (choice : List ℕ) → IsChoiceOf s choice → (p : Part) (l : Candidate)
       → IsLiteralAt p l → holds_at choice l ≡ true
       → DoesAt c (is_wanted p) (path_of routes l) (label_set_of s.labels choice)
@@ -149,7 +150,7 @@ module _ (s : Space) (c : Configuration) (routes : List TableRoute)
       (literal_truth s.labels c routes known choice is.0 l about.route about.at about.cube).1
       (subst (λ b. DoesAt c b about.route.path set) (sym about.wanted) does)
 
-  -- for each route of the other parts there is one among the first
+  -- for each route of the other parts, one of the first literals is about it
   record IsFirstAt (p : Part) (q : List ℕ) : Type 0 where
     place : ℕ
     literal : Candidate
@@ -263,13 +264,13 @@ module _ (s : Space) (c : Configuration) (routes : List TableRoute)
     needed = needed;
   }
 
--- paths of literals that are named, behind the first ones, from others that are all the same
+-- the paths are those of the named literals behind the first ones, and these literals are a reason
 abbrev pub AreNamedFrom : Space → List TableRoute → ℕ → List Candidate → List (List ℕ) → Type 0
 AreNamedFrom s routes n all paths =
     (ks : List Candidate) × AreSameLiterals all ks × IsReason s n ks
     × (paths ≡ named_paths routes (drop n ks))
 
--- and so are the paths that were found
+-- and the paths that were found are a reason too
 pub reason_found : (s : Space) (c : Configuration) (routes : List TableRoute)
     (known : IsTableOf s.labels c routes) (parts : List Part) (part : Part) (path : List ℕ)
     (front all : List Candidate) → AreLiterals routes parts path front

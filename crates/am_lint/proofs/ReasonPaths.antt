@@ -63,7 +63,7 @@ holds_each choice (l ∷ ks) h k (inl same) =
 holds_each choice (l ∷ ks) h k (inr later) =
     holds_each choice ks (and_parts (holds_at choice l) (hold_all choice ks) h).1 k later
 
--- what no choice meets, and what is found
+-- what no choice meets, and what a search finds
 none_found : {X : Type 0} (test : X → Bool) (xs : List X) (x : X) → find test xs ≡ None
     → IsIn xs x → test x ≡ true → ⊥
 none_found test [] x none there passes = absurd there

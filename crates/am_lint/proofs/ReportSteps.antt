@@ -35,14 +35,14 @@ route_line_put r path kind name matchers why old a b c d e f g h i next a-is b-i
     rw (i-is, h-is, g-is, f-is, e-is, d-is, c-is, b-is, a-is) (simp append_assoc) in
     last_put r old line (codes "\n") _ i next next-is so_far (simp append_assoc)
 
--- what stands at a position, with it
+-- the item at a position, together with the position
 pub numbered : {X : Type 0} (xs : List X) (i : ℕ) (d : X) → i < length xs
     → get_or (enumerate_from 0 xs) i (i, d) ≡ (i, get_or xs i d)
 numbered xs i d within =
     let same : 0 + i ≡ i = omega arith in
     get_or-enumerate_from 0 xs i (i, d) within ∙ ap (λ n. (n, get_or xs i d)) same
 
--- what the code reads of a list, as it is seen
+-- the view of the item that the code reads from a list
 pub view_here : {X Y : Type 0} (view : X → Y) (xs : List X) (i : ℕ) (x : X) → i < length xs
     → x ≡ get_or xs i x → slice_get (map view xs) i ≡ Some (view x)
 view_here view xs i x within is =

@@ -1,4 +1,4 @@
--- Routes of a table, and the routes of the configuration.
+-- How the routes of a table correspond to the routes of the configuration.
 use Rattle.std.proofs.Common.{◌≡◌, ℕ, zero, suc, List, [], ◌∷◌, ◌++◌, Some, refl, subst, sym, ap}
 use Rattle.std.proofs.Common.{◌∙◌, slice_get, inl, inr}
 use Rattle.std.specs.List.{AllZip}
@@ -22,7 +22,7 @@ zip_push R [] (z ∷ ys) x y all last = absurd all
 zip_push R (z ∷ xs) [] x y all last = absurd all
 zip_push R (z ∷ xs) (w ∷ ys) x y all last = (all.0, zip_push R xs ys x y all.1 last)
 
--- what stands at a place of the second list, and of the first
+-- for an item of the second list, the item at the same position of the first
 pub zip_right : {A B : Type 0} (R : A → B → Type 0) (xs : List A) (ys : List B) (i : ℕ) (y : B)
     → AllZip R xs ys → slice_get ys i ≡ Some y
     → (x : A) × (slice_get xs i ≡ Some x) × R x y
@@ -66,7 +66,7 @@ listed_route c q t at =
 
 module _ (u : List Label) (c : Configuration) (routes : List TableRoute)
     (known : IsTableOf u c routes) where
-  -- the route at its path
+  -- the route of the configuration that is at the path of a route of the table
   pub record IsRouteAt (route : TableRoute) : Type 0 where
     pub tree : RouteTree
     pub at : route_at c.root route.path ≡ Some tree
@@ -85,7 +85,7 @@ module _ (u : List Label) (c : Configuration) (routes : List TableRoute)
         cube = r.2.2;
       }
 
-  -- and where a route stands in the table
+  -- and the position of each route of the configuration in the table
   pub record IsTabledAt (q : List ℕ) (t : RouteTree) : Type 0 where
     pub position : ℕ
     pub route : TableRoute

@@ -1,5 +1,5 @@
--- A matcher text read from left to right: two states, whether the next byte is escaped and whether
--- it is quoted, stand for the places and counts of what it spells.
+-- Reads a matcher text from left to right. Two states, whether the next byte is escaped and whether
+-- it is quoted, stand for the positions and counts in the definition of what the text spells.
 use Rattle.std.proofs.Common.{◌≡◌, refl, ◌∙◌, ap, inl, inr, ℕ, ◌+◌, ◌-◌, ◌<◌, ◌≤◌, List, [], ◌∷◌}
 use Rattle.std.proofs.Common.{◌++◌, length, drop, get_or, Bool, true, false, not, ◌&&◌, cond, arith}
 use Rattle.std.specs.Prelude.{◌==◌, slice_range}
@@ -18,7 +18,7 @@ first_of_rest text i c cs e =
 
 -- ---- pieces
 
--- the pieces of what is left, behind what the current piece has already
+-- the pieces of the rest of a text, after the bytes that the current piece already has
 abbrev pub cut : Bool → Bool → List ℕ → List ℕ → List (List ℕ)
 cut escaped quoted piece [] = cond (is_blank piece) [] (piece ∷ [])
 cut escaped quoted piece (c ∷ cs) =

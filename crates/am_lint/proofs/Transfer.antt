@@ -1,4 +1,4 @@
--- What is so of the label sets of a complete space is so of all its alerts.
+-- What is true of the label sets of a complete space is true of all its alerts.
 use Rattle.std.proofs.Common.{◌≡◌, ◌↔◌, ℕ, zero, suc, List, [], ◌∷◌, Contains, Some, refl, sym}
 use Rattle.std.proofs.Common.{subst, ◌∙◌}
 use Rattle.std.specs.Prelude.{IsTrue, slice_get}
@@ -64,7 +64,7 @@ own_met s t (route settings children) h =
     all_alike s t settings.matchers
     (front_met s t settings.matchers (routes_conditions children) h)
 
--- what is so of a label set is so of each that meets the same of the matchers of all routes
+-- a property of label sets depends only on which matchers of all routes they meet
 abbrev pub IsToldByRoutes : Configuration → (LabelMap → Type 0) → Type 0
 IsToldByRoutes c Is =
     (s t : LabelMap) → MeetsTheSame (route_conditions c.root) s t → Is s → Is t
@@ -101,7 +101,7 @@ module _ (c : Configuration) where
   none_told routes s t met h q there matched =
       h q there (matches_told q t s (turned s t met) matched)
 
-  -- and so they both are such, or neither is
+  -- so either both label sets have the property, or neither has it
   pub told_exactly : (Is : LabelMap → Type 0) → IsToldByRoutes c Is → (s t : LabelMap)
       → MeetsRoutes s t → Is s ↔ Is t
   told_exactly Is told s t met = (told s t met, told t s (turned s t met))
@@ -138,7 +138,7 @@ same_alerts a s t set same is =
 
 -- ---- A space that stands for its alerts.
 
--- it is complete for the routes and what is impossible, and its texts are over the alphabet
+-- the space is complete for the routes and what is impossible, and its texts are over the alphabet
 pub record StandsForAlerts (a : Alphabet) (s : Space) (c : Configuration) : Type 0 where
   pub universe : IsUniverse s.labels
   pub complete : IsSpaceComplete a s (coverage_conditions s c)
@@ -229,7 +229,7 @@ module _ (a : Alphabet) (s : Space) (c : Configuration) (h : StandsForAlerts a s
     reason_over path reason.cause reason.routes.items so.1,
   )
 
-  -- the same of the alerts of a space with other labels
+  -- the same for the alerts of a space with other labels
   pub standing_over_as : (t : Space) → t.impossible ≡ s.impossible → (path : List ℕ)
       → (standing : Standing) → IsStanding s.labels (IsSetOf s) c path standing
       → IsStanding s.labels (IsAlertOf a t) c path standing

@@ -1,4 +1,5 @@
--- What is to be said of the routes and receivers of a configuration, for every alert.
+-- What `lint` says of the routes and receivers of a configuration, and when that is true of all
+-- alerts.
 use Rattle.std.specs.Prelude.{◌≡◌, ℕ, List, Bool, false, Option, Some, None, if◌then◌else◌}
 use Rattle.am_universe.specs.Universe.{Label}
 use Rattle.am_universe.specs.LabelSet.{LabelMap, label_set_of}
@@ -14,15 +15,16 @@ use Rattle.am_lint.specs.Reaching.{EndsAt, Enters, GoesTo, SomeIs, NoneIs}
 use Rattle.am_lint.specs.Reasons.{IsHandedTo}
 use Rattle.am_lint.specs.Standing.{IsReasonFor}
 
--- What is said of a route: it is dead, for this reason; it is unusual, for this reason, with a
--- choice whose label set does enter it; or it hands on, to these children.
+-- What is said of a route. It is dead, for this reason. Or it is unusual: no ordinary alert enters
+-- it, for this reason, but the label set of this choice does. Or it hands on to these children.
 pub data Finding : Type 0 where
   Dead : Cause → List (List ℕ) → Finding
   Unusual : Cause → List (List ℕ) → List ℕ → Finding
   HandsOn : List (List ℕ) → Finding
 
--- The alerts that count: those of a space, which no impossible list matches, whatever labels they
--- have; with `--ascii` those of them whose values are printable ASCII, the ordinary ones, alone.
+-- The alerts that count are those of a space: they may have any labels, but no impossible list
+-- matches them. With `--ascii` only the ordinary ones of these count, whose values are printable
+-- ASCII.
 -- Source: own choice.
 -- Example: with `--ascii` an alert whose team is a line feed does not count. Without it the alert
 -- counts, unless an impossible list matches it.
@@ -35,13 +37,13 @@ Counts ascii s = IsAlertOf (alphabet_of ascii) s
 abbrev pub IsOrdinary : Space → LabelMap → Type 0
 IsOrdinary s = IsAlertOf Ascii s
 
--- What is said of the route at a path is so. Nothing is said where some ordinary alert ends there.
--- It is dead where no alert that counts enters it; unusual where no ordinary one does, and the one
--- that is shown does; and it hands on where ordinary alerts enter it, and none ends there.
+-- What is said of the route at a path is true. Nothing is said if some ordinary alert ends there.
+-- The route is dead if no alert that counts enters it. It is unusual if no ordinary alert enters it
+-- but the alert that is shown does. It hands on if ordinary alerts enter it but none ends there.
 -- Source: own choice.
--- Example: behind a sibling with `team=~".*"` and without `continue` a route is unusual: only
--- alerts enter it whose team has a line feed, which the pattern does not match. With `--ascii` it
--- is dead.
+-- Example: a route behind a sibling with `team=~".*"` and without `continue` is unusual. The
+-- pattern does not match a line feed, so an alert enters the route only if its team has one. With
+-- `--ascii` the route is dead.
 abbrev pub IsRouteFinding :
     Bool → Space → List Label → Configuration → List ℕ → Option Finding → Type 0
 IsRouteFinding ascii s u c path None = SomeIs (IsOrdinary s) (EndsAt c path)
@@ -55,9 +57,9 @@ IsRouteFinding ascii s u c path (Some (HandsOn children)) =
     SomeIs (IsOrdinary s) (Enters c path) × NoneIs (IsOrdinary s) (EndsAt c path)
     × IsHandedTo (IsOrdinary s) c path children
 
--- What is said of the receiver at a position is so. Nothing is said where some ordinary alert goes
--- to it. It is unmatched where no alert that counts does, and unusual where one does, and no
--- ordinary one.
+-- What is said of the receiver at a position is true. Nothing is said if some ordinary alert goes
+-- to it. The receiver is unmatched if no alert that counts goes to it. It is unusual if one does,
+-- but no ordinary one.
 -- Source: own choice.
 -- Example: a receiver that no route has is unmatched.
 abbrev pub IsReceiverFinding :

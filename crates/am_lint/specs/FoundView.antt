@@ -1,4 +1,4 @@
--- What clauses read of what was found of a route: what is to be said of it.
+-- What contracts read from what was found of a route: what is said of it.
 use Rattle.std.specs.Prelude.{◌≡◌, ◌<◌, ℕ, List, Option, Some, None, Bool, true, false, ⊤, length}
 use Rattle.std.specs.Prelude.{◌&&◌, ◌==◌, if◌then◌else◌}
 use Rattle.std.specs.List.{list_any}
@@ -18,8 +18,8 @@ use Rattle.am_lint.specs.ReportText.{Said}
 use Rattle.am_lint.specs.Reaching.{IsSetOf}
 use Rattle.am_lint.specs.Standing.{IsStanding}
 
--- What is to be said of a route where no ordinary alert enters it, by how it stands over every
--- alert, if others count; and what is to be said of it in any case.
+-- What is said of a route. `unentered` says it of a route that no ordinary alert enters, by how the
+-- route stands over every alert, if other alerts count. The others say it of any route.
 abbrev pub unentered : Reason → Option Standing → Finding
 unentered reason None = Dead reason.cause reason.routes.items
 unentered reason (Some (standing_is.Ends choice)) =
@@ -36,14 +36,14 @@ finding_by (standing_is.NeverEntered reason) every = Some (unentered reason ever
 abbrev pub finding_of : FoundRoute → Option Finding
 finding_of found = finding_by found.ordinary found.every
 
--- The same of what the code hands on, which borrows its parts.
+-- The same for the value that the code returns, which borrows its parts.
 abbrev pub finding_view : RouteFinding → Finding
 finding_view (finding_is.Dead reason) = Dead reason.now.cause reason.now.routes.items
 finding_view (finding_is.Unusual reason entry) =
     Unusual reason.now.cause reason.now.routes.items entry
 finding_view (finding_is.HandsOn children) = HandsOn children.now.items
 
--- Some label set ends there.
+-- Whether a standing says that some label set ends at the route.
 abbrev pub is_end : Standing → Bool
 is_end (standing_is.Ends choice) = true
 is_end (standing_is.HandsOn entry children) = false
@@ -53,15 +53,14 @@ abbrev pub is_end_if_any : Option Standing → Bool
 is_end_if_any None = false
 is_end_if_any (Some standing) = is_end standing
 
--- What was found of a route, by its path: its receiver, and how it stands over a space. Over
--- another one it was not looked at.
+-- What was found of a route: its path, its receiver, and how it stands over a space. Nothing is
+-- said here about another space.
 abbrev pub IsFoundIn : Space → Configuration → List ℕ × RouteTree → FoundRoute → Type 0
 IsFoundIn s c route found =
     (found.path ≡ route.0) × (found.receiver ≡ receiver_of route.1)
     × IsStanding s.labels (IsSetOf s) c route.0 found.ordinary
 
--- How a route stands over a second space: it is looked at where no label set of the first ends
--- there.
+-- How a route stands over a second space is known if no label set of the first space ends there.
 abbrev pub IsLookedAt : Space → Configuration → List ℕ → Standing → Option Standing → Type 0
 IsLookedAt s c path (standing_is.Ends choice) every = ⊤
 IsLookedAt s c path (standing_is.HandsOn entry children) None = ⊥
@@ -71,18 +70,19 @@ IsLookedAt s c path (standing_is.NeverEntered reason) None = ⊥
 IsLookedAt s c path (standing_is.NeverEntered reason) (Some standing) =
     IsStanding s.labels (IsSetOf s) c path standing
 
--- A route was found so, but for how it stands over the second space.
+-- What was found of a route is the same, except for how the route stands over the second space.
 abbrev pub IsSameButEvery : FoundRoute → FoundRoute → Type 0
 IsSameButEvery found other =
     (other.path ≡ found.path) × (other.receiver ≡ found.receiver)
     × (other.ordinary ≡ found.ordinary)
 
--- What the report says of a route that was found so.
+-- What the report says of a route, from what was found of it.
 abbrev pub said_of : FoundRoute → Said
 said_of found =
     record { path = found.path; receiver = found.receiver; finding = finding_of found }
 
--- The choice that is shown of an unusual route is whole, and the receiver is declared.
+-- The choice that is shown for an unusual route is whole, and the receiver of the route is
+-- declared.
 abbrev pub IsShownFinding : List ℕ → Option Finding → Type 0
 IsShownFinding sizes None = ⊤
 IsShownFinding sizes (Some (Dead cause routes)) = ⊤
@@ -93,9 +93,9 @@ abbrev pub IsShown : List ℕ → Configuration → FoundRoute → Type 0
 IsShown sizes c found =
     IsShownFinding sizes (finding_of found) × (found.receiver < length c.receivers)
 
--- What is to be said of the receiver at a position, by what was found of all routes: nothing where
--- an ordinary alert ends at a route that has it; that it is unusual, where another alert does; and
--- else that it is unmatched.
+-- What is said of the receiver at a position, from what was found of all routes. Nothing is said if
+-- an ordinary alert ends at a route that has the receiver. The receiver is unusual if another alert
+-- ends at such a route, and unmatched if none does.
 abbrev pub has_ordinary : ℕ → FoundRoute → Bool
 has_ordinary receiver found = found.receiver == receiver && is_end found.ordinary
 

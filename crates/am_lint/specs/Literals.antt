@@ -1,4 +1,4 @@
--- The literals that are about a route: each is about another one of the table.
+-- The literals for a route. Each of them is about a route of the table.
 use Rattle.std.specs.Prelude.{◌≡◌, ◌<◌, ℕ, List, [], ◌++◌, map, length, Bool, true, false, not}
 use Rattle.std.specs.Prelude.{◌&&◌, Option, Some, None, IsTrue, Contains, slice_get}
 use Rattle.std.specs.List.{AllByRecursion, filter}
@@ -9,8 +9,8 @@ use Rattle.am_lint.specs.declared.literals.Part.TheVariants.{Way, Before, Childr
 use Rattle.am_lint.specs.declared.table.TableRoute.{TableRoute}
 use Rattle.am_lint.specs.Places.{stands_before, is_child_of}
 
--- Whether an alert has to match the routes of a part; and whether a route is one of them, for the
--- route at a path.
+-- Whether an alert must match the routes of a part, and whether a route is one of these routes for
+-- the route at a path.
 abbrev pub is_wanted : Part → Bool
 is_wanted Way = true
 is_wanted Before = false
@@ -31,14 +31,14 @@ IsAbout routes part path k =
     × IsTrue (has_route part path route)
     × (k.cube.now ≡ route.cube) × (k.wanted ≡ is_wanted part)
 
--- Some literals have one about each route of a part.
+-- A list of literals has one about each route of a part.
 abbrev pub HasEach : List TableRoute → Part → List ℕ → List Candidate → Type 0
 HasEach routes part path ks =
     (i : ℕ) (route : TableRoute) → slice_get routes i ≡ Some route
     → IsTrue (has_route part path route)
     → (k : Candidate) × Contains ks k × (k.tag ≡ i) × (k.wanted ≡ is_wanted part)
 
--- The literals of a part are added to others, and all of them are named.
+-- The literals of a part are added behind others, and all that are added are named.
 pub record AddsPart (routes : List TableRoute) (part : Part) (path : List ℕ)
     (old new : List Candidate) : Type 0 where
   pub more : List Candidate
@@ -55,8 +55,8 @@ pub record AreLiterals (routes : List TableRoute) (parts : List Part) (path : Li
   pub every : (part : Part) → Contains parts part → HasEach routes part path ks
   pub named : AllByRecursion (λ k. IsTrue k.named) ks
 
--- The tags are positions in the table; and the paths of the routes there, for literals that are
--- named.
+-- The tags of literals are positions in the table. `named_paths` has the paths of the routes there,
+-- for the literals that are named.
 abbrev pub AreTagged : List TableRoute → List Candidate → Type 0
 AreTagged routes ks = AllByRecursion (λ k. k.tag < length routes) ks
 

@@ -1,11 +1,12 @@
--- Where routes stand to each other in the tree, by their paths. That a route is on the way to
--- another is `leads_through`.
+-- How routes stand relative to each other in the tree, by their paths. `leads_through` says whether
+-- a route is on the way to another.
 use Rattle.std.specs.Prelude.{ℕ, List, [], ◌∷◌, Bool, true, false, ◌&&◌, ◌==◌, nat_lt}
 
 -- The route at the second path is an earlier sibling of the route at the first, or of a route on
 -- the way to it.
 -- Source: own choice.
--- Example: to `/2/1` it is so of `/0`, `/1` and `/2/0`, and not of `/`, `/2`, `/2/2` and `/1/0`.
+-- Example: for `/2/1` this is true of `/0`, `/1` and `/2/0`, and false of `/`, `/2`, `/2/2` and
+-- `/1/0`.
 abbrev pub stands_before : List ℕ → List ℕ → Bool
 stands_before path [] = false
 stands_before [] (q ∷ other) = false
@@ -14,7 +15,7 @@ stands_before (p ∷ path) (q ∷ r ∷ other) = p == q && stands_before path (r
 
 -- The route at the second path is a child of the route at the first.
 -- Source: own choice.
--- Example: of `/2` it is so of `/2/0`, and not of `/2`, `/2/0/1` and `/1`.
+-- Example: for `/2` this is true of `/2/0`, and false of `/2`, `/2/0/1` and `/1`.
 abbrev pub is_child_of : List ℕ → List ℕ → Bool
 is_child_of path [] = false
 is_child_of [] (q ∷ []) = true

@@ -1,5 +1,5 @@
--- What alerts reach, where only such label sets count as occur. Which these are is handed in: those
--- of the choices of a space, or those that alerts may have.
+-- What alerts reach, if only the label sets that occur count. A parameter says which these are:
+-- those of the choices of a space, or those that alerts may have.
 use Rattle.std.specs.Prelude.{◌≡◌, ℕ, List, Contains, IsTrue}
 use Rattle.am_universe.specs.LabelSet.{LabelMap, label_set_of}
 use Rattle.am_labels.specs.Space.{Space, IsChoiceOf}
@@ -11,8 +11,7 @@ use Rattle.am_eval.specs.Routing.{ends, receivers}
 abbrev pub IsSetOf : Space → LabelMap → Type 0
 IsSetOf s set = (choice : List ℕ) × IsChoiceOf s choice × (set ≡ label_set_of s.labels choice)
 
--- An alert ends at a route; it enters a route, where it ends there or below it; and it goes to a
--- receiver.
+-- An alert ends at a route. It enters a route if it ends there or below it. It goes to a receiver.
 -- Source: Alertmanager configuration reference 0.25, "<route>".
 -- Example: an alert that ends at `/0/1` alone enters `/`, `/0` and `/0/1`.
 abbrev pub EndsAt : Configuration → List ℕ → LabelMap → Type 0
@@ -25,7 +24,7 @@ Enters c path set =
 abbrev pub GoesTo : Configuration → ℕ → LabelMap → Type 0
 GoesTo c receiver set = Contains (receivers set c) receiver
 
--- Some label set that occurs is such; and none is.
+-- Some label set that occurs has a property, and none has it.
 abbrev pub SomeIs : (LabelMap → Type 0) → (LabelMap → Type 0) → Type 0
 SomeIs Occurs Is = (set : LabelMap) × Occurs set × Is set
 

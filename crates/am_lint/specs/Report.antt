@@ -1,4 +1,4 @@
--- The lines of `lint` say of every route and every receiver what is so, for every alert.
+-- The lines of `lint` say what is true of every route and every receiver, for all alerts.
 use Rattle.std.specs.Prelude.{◌≡◌, ℕ, List, Bool, Option, length}
 use Rattle.std.specs.List.{AllZip, range_with_len}
 use Rattle.am_universe.specs.Universe.{Label}
@@ -9,19 +9,18 @@ use Rattle.am_lint.specs.declared.found.ReceiverFinding.{ReceiverFinding}
 use Rattle.am_lint.specs.Findings.{IsRouteFinding, IsReceiverFinding}
 use Rattle.am_lint.specs.ReportText.{Said, count_findings, count_notes, report_lines}
 
--- What is said of a route is so.
+-- What is said of a route is true.
 abbrev pub IsSaid :
     Bool → Space → List Label → Configuration → List ℕ × RouteTree → Said → Type 0
 IsSaid ascii s u c route said =
     (said.path ≡ route.0) × (said.receiver ≡ receiver_of route.1)
     × IsRouteFinding ascii s u c route.0 said.finding
 
--- The lines are those of a configuration, for the alerts of a space or the ordinary ones of them:
--- what they say of each route, in preorder, and of each receiver, in order, is so, and they say all
--- that is to be said. There are so many findings and so many notes.
+-- The lines are those of a configuration, for the alerts of a space or only for the ordinary ones.
+-- What they say of each route, in preorder, and of each receiver, in order, is true, and nothing is
+-- left out. The two numbers count the findings and the notes.
 -- Source: own choice.
--- Example: of a configuration whose routes all have an ordinary alert, and whose receivers too,
--- there is no line.
+-- Example: if an ordinary alert ends at each route and goes to each receiver, there are no lines.
 pub record SaysOfRoutes (ascii : Bool) (s : Space) (c : Configuration) (findings notes : ℕ)
     (lines : List ℕ) : Type 0 where
   pub labels : List Label

@@ -24,7 +24,7 @@ pub record Said : Type 0 where
 
 -- ---- Routes.
 
--- The matchers of the route at a path, and a route with them.
+-- The text of the matchers of the route at a path, and of a route with its matchers.
 abbrev pub matchers_at_text : Option RouteTree → List ℕ
 matchers_at_text None = []
 matchers_at_text (Some t) = matchers_text (matchers_of t)
@@ -35,14 +35,14 @@ matchers_at_path c path = matchers_at_text (route_at c.root path)
 abbrev pub route_text : Configuration → List ℕ → List ℕ
 route_text c path = path_text path ++ (codes " " ++ matchers_at_path c path)
 
--- Routes in a row.
+-- The text of several routes.
 -- Source: own choice.
 -- Example: `/0 {team="db"}, /1 {team="web"}`.
 abbrev pub routes_text : Configuration → List (List ℕ) → List ℕ
 routes_text c routes = texts_behind (codes "") (codes ", ") (route_text c) routes
 
--- Why no alert enters a route: which routes exclude each other, or take all. Where none is to
--- blame, no alert occurs at all.
+-- Why no alert enters a route: which routes exclude each other, or take every alert first. If no
+-- route is to blame, no alert is possible at all.
 abbrev pub cause_text : Cause → List ℕ
 cause_text cause_is.Excluded = codes "excluded by "
 cause_text cause_is.Taken = codes "taken by "
@@ -51,8 +51,8 @@ abbrev pub reason_text : Configuration → Cause → List (List ℕ) → List �
 reason_text c cause [] = codes "no alert is possible"
 reason_text c cause (route ∷ routes) = cause_text cause ++ routes_text c (route ∷ routes)
 
--- The word for what is said of a route, and what stands behind it. `u` has the labels of the label
--- set that is shown.
+-- The word for what is said of a route, and the reason that follows. `u` has the labels of the
+-- label set that is shown.
 abbrev pub kind_text : Finding → List ℕ
 kind_text (Dead cause routes) = codes "dead"
 kind_text (Unusual cause routes entry) = codes "unusual"
@@ -68,7 +68,7 @@ why_text u c (HandsOn children) = codes "taken by " ++ routes_text c children
 abbrev pub receiver_text : Configuration → ℕ → List ℕ
 receiver_text c receiver = quoted_text (unwrap_or (slice_get c.receivers receiver) [])
 
--- The line of a route; nothing where nothing is said of it.
+-- The line of a route, or nothing if nothing is said of it.
 -- Source: own choice.
 -- Example: `/3/2 dead: "web-chat" {env!="prod"}: taken by /1 {env!="prod"}`.
 abbrev pub finding_line : List Label → Configuration → List ℕ → ℕ → Option Finding → List ℕ
@@ -83,7 +83,7 @@ route_line u c said = finding_line u c said.path said.receiver said.finding
 
 -- ---- Receivers.
 
--- Of what is said of routes, that of those that have a receiver.
+-- What is said of the routes that have the given receiver.
 abbrev pub having : ℕ → List Said → List Said
 having receiver routes = filter (λ said. said.receiver == receiver) routes
 
@@ -103,7 +103,7 @@ abbrev pub receiver_kind : ReceiverFinding → List ℕ
 receiver_kind receiver_is.Unmatched = codes " unmatched: "
 receiver_kind receiver_is.Unusual = codes " unusual: "
 
--- The line of a receiver; nothing where nothing is said of it.
+-- The line of a receiver, or nothing if nothing is said of it.
 -- Source: own choice.
 -- Example: `receiver "late" unmatched: /2 {team="db"} dead`.
 abbrev pub receiver_line : Configuration → List Said → ℕ → Option ReceiverFinding → List ℕ
@@ -114,7 +114,7 @@ receiver_line c routes receiver (Some finding) =
 
 -- ---- How many there are.
 
--- What is said is a finding where a route is dead or a receiver unmatched, and else a note.
+-- What is said is a finding if a route is dead or a receiver is unmatched, and a note otherwise.
 abbrev pub is_dead : Option Finding → Bool
 is_dead None = false
 is_dead (Some (Dead cause routes)) = true
@@ -153,9 +153,9 @@ count_text findings notes =
     codes "# " ++ (decimal findings ++ (codes " finding" ++ (plural findings ++ (codes ", "
     ++ (decimal notes ++ (codes " note" ++ (plural notes ++ codes "\n")))))))
 
--- The lines of routes, and behind them those of receivers.
+-- The lines of routes, followed by those of receivers.
 -- Source: own choice.
--- Example: of a configuration with the top-level route alone there are none.
+-- Example: if nothing is said of any route or receiver, there are none.
 abbrev pub receiver_lines : Configuration → List Said → List (ℕ × Option ReceiverFinding) → List ℕ
 receiver_lines c routes receivers =
     flat_map (λ found. receiver_line c routes found.0 found.1) receivers

@@ -1,4 +1,4 @@
--- How a route stands, where only such label sets count as occur.
+-- How a route stands, if only the label sets that occur count.
 use Rattle.std.specs.Prelude.{ℕ, List}
 use Rattle.am_universe.specs.Universe.{Label, sizes}
 use Rattle.am_universe.specs.Choice.{IsWhole}
@@ -12,24 +12,25 @@ use Rattle.am_lint.specs.declared.standing.Standing.TheVariants as standing_is
 use Rattle.am_lint.specs.Reaching.{EndsAt, Enters, NoneIs}
 use Rattle.am_lint.specs.Reasons.{IsExcludedBy, IsTakenBy, IsHandedTo}
 
--- A choice of a space whose label set is such.
+-- A choice of a space, and its label set has a property.
 abbrev pub IsShownBy : Space → (LabelMap → Type 0) → List ℕ → Type 0
 IsShownBy s Is choice = IsChoiceOf s choice × Is (label_set_of s.labels choice)
 
--- The same of a choice of some labels, where its label set occurs.
+-- The same for a whole choice of some labels, if its label set occurs.
 abbrev pub IsSeenBy :
     List Label → (LabelMap → Type 0) → (LabelMap → Type 0) → List ℕ → Type 0
 IsSeenBy u Occurs Is choice =
     IsWhole (sizes u) choice × Occurs (label_set_of u choice) × Is (label_set_of u choice)
 
--- The routes are to blame that no alert enters the one at a path, in this way.
+-- These routes are to blame, with this cause, if no alert enters the route at a path.
 abbrev pub IsReasonFor :
     (LabelMap → Type 0) → Configuration → List ℕ → Cause → List (List ℕ) → Type 0
 IsReasonFor Occurs c path cause_is.Excluded routes = IsExcludedBy Occurs c path routes
 IsReasonFor Occurs c path cause_is.Taken routes = IsTakenBy Occurs c path routes
 
--- The route at a path stands so: some label set ends there; or one enters the route, none ends
--- there, and these children take all; or none enters it, and these routes are to blame.
+-- How the route at a path stands. The label set of this choice ends there. Or that of the choice
+-- `entry` enters the route, none ends there, and these children take all. Or none enters it, and
+-- these routes are to blame.
 -- Source: own choice.
 -- Example: a route whose one child has no matchers hands on to that child.
 abbrev pub IsStanding :

@@ -13,7 +13,7 @@ use Rattle.am_lint.specs.declared.table.TableRoute.{TableRoute}
 use Rattle.am_lint.specs.declared.table.Table.{Table}
 
 -- A route stands in the table with its path, whether it has `continue`, and the cube of its
--- matchers over the labels. And so all routes of a configuration do, in preorder.
+-- matchers over the labels. The table has all routes of a configuration, in preorder.
 abbrev pub IsTabled : List Label → List ℕ × RouteTree → TableRoute → Type 0
 IsTabled u found route =
     (route.path ≡ found.0) × (route.continues ≡ continues_of found.1)
@@ -22,8 +22,8 @@ IsTabled u found route =
 abbrev pub IsTableOf : List Label → Configuration → List TableRoute → Type 0
 IsTableOf u c routes = AllZip (IsTabled u) (all_routes c) routes
 
--- The space and the configuration of a table; and that it has the routes of the one over the
--- labels of the other.
+-- The space and the configuration of a table. The table has the routes of this configuration over
+-- the labels of this space.
 abbrev pub table_space : Table → Space
 table_space table = possible_space table.possible
 
@@ -33,6 +33,6 @@ table_config table = config_view table.config.now
 abbrev pub KnowsRoutes : Table → Type 0
 KnowsRoutes table = IsTableOf (table_space table).labels (table_config table) table.routes.items
 
--- A route is at the path.
+-- There is a route at the path.
 abbrev pub IsRoute : Configuration → List ℕ → Type 0
 IsRoute c path = (t : RouteTree) × (route_at c.root path ≡ Some t)

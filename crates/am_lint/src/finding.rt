@@ -4,7 +4,7 @@
 //! For the routes at which no ordinary alert ends it calls `look_further`, over a space for all
 //! alerts. Both spaces are complete for the routes and for the impossible lists. So for each alert
 //! some choice meets exactly the same literals, and each choice is an alert. By the laws of this
-//! crate, what is found over the spaces is so of all alerts.
+//! crate, what is found over the spaces holds for all alerts.
 
 ghost use Rattle.std.specs.Prelude.{◌≡◌, IfOk, OnOk, map, length, None};
 ghost use Rattle.std.specs.List.{AllByRecursion, AllZip, range_with_len};
@@ -46,8 +46,9 @@ pub fn found_routes(
     Ok(found)
 }
 
-/// Finds how routes at which no label set of the first space ends stand over another space, and
-/// sets their `every`. Fails only if memory runs out; then some of them may be set.
+/// For each route at which no label set of the first space ends, finds how the route stands over
+/// another space, and sets its `every`. Fails only if memory runs out; then some of them may be
+/// set.
 pub fn look_further(
     alloc: Global,
     space: &Space,
@@ -84,9 +85,9 @@ fn look_further_at(
     Ok(())
 }
 
-/// Finds what is wrong with each receiver of a configuration, in declared order, by what was found
-/// of its routes. It is `None` if an ordinary alert goes to the receiver. Fails only if memory runs
-/// out.
+/// Finds what is wrong with each receiver of a configuration, in declared order, from what was
+/// found of the routes. The item of a receiver is `None` if an ordinary alert goes to it. Fails
+/// only if memory runs out.
 pub fn found_receivers(
     alloc: Global,
     config: &Config,

@@ -53,7 +53,7 @@ impl FoundRoute {
         }
     }
 
-    /// What is wrong with the route if no ordinary alert enters it.
+    /// Returns what is wrong with the route, which no ordinary alert enters.
     fn finding_of_unentered<'a>(&'a self, reason: &'a Reason) -> RouteFinding<'a>
         ensures { finding_view result ≡ unentered reason.now self.now.every }
     {
@@ -65,14 +65,14 @@ impl FoundRoute {
         }
     }
 
-    /// Whether an ordinary alert ends there.
+    /// Whether an ordinary alert ends at the route.
     pub(crate) fn has_ordinary_end(&self) -> bool
         ensures { result ≡ is_end self.now.ordinary }
     {
         matches!(self.ordinary, Standing::Ends(_))
     }
 
-    /// Whether another alert was found to end there.
+    /// Whether `every` has an alert that ends at the route.
     fn has_other_end(&self) -> bool
         ensures { result ≡ is_end_if_any self.now.every }
     {
@@ -80,8 +80,8 @@ impl FoundRoute {
     }
 }
 
-/// What is wrong with the receiver at a position, by what was found of routes, or `None` if an
-/// ordinary alert goes to it.
+/// Returns what is wrong with the receiver at a position, from what was found of the routes, or
+/// `None` if an ordinary alert goes to it.
 pub(crate) fn receiver_finding(routes: &[FoundRoute], receiver: usize) -> Option<ReceiverFinding>
     ensures finding { result ≡ receiver_finding routes.now receiver }
 {

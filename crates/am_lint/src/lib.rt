@@ -8,7 +8,7 @@
 //! [`laws`] say that.
 #![tactic(auto)]
 
-// Where routes stand to each other, and what they ask of an alert.
+// How routes stand relative to each other, and what they ask of an alert.
 mod literals;
 mod places;
 mod table;
@@ -25,10 +25,10 @@ mod found;
 pub use finding::{found_receivers, found_routes, look_further};
 pub use found::{FoundRoute, ReceiverFinding, RouteFinding};
 
-// What is to be said of both, in lines.
+// The lines for both.
 mod report_text;
 
 pub use report_text::{count_findings, count_notes, lint_lines, push_count};
 
-// What holds of the definitions by themselves.
+// What follows from the definitions alone.
 pub mod laws;

@@ -9,27 +9,27 @@ use am_config::Path;
 use am_reasons::Candidate;
 use std::alloc::AllocError;
 
-/// A part of the literals about a route, by the routes that they name.
+/// A part of the literals for a route, by the routes that they name.
 #[derive(Clone, Copy)]
 pub(crate) enum Part {
-    /// Those on the way to it, itself among them. An alert must match each.
+    /// The routes on the way to the route, and the route itself. An alert must match each of them.
     Way,
-    /// Those that stand before it, or before one on the way, and lack `continue`. An alert that is
-    /// tried at the route must not match any of them.
+    /// The earlier siblings of the route, or of a route on the way, that lack `continue`. An alert
+    /// that is tried at the route must not match any of them.
     Before,
-    /// Its children. An alert that ends at the route must not match any of them.
+    /// The children of the route. An alert that ends at the route must not match any of them.
     Children,
 }
 
 impl Part {
-    /// Whether an alert must match these routes. Else it must not.
+    /// Whether an alert must match these routes. If not, it must match none of them.
     fn is_wanted(self) -> bool
         ensures { result ≡ is_wanted self }
     {
         matches!(self, Part::Way)
     }
 
-    /// Whether a route is one of them, for the route at a path.
+    /// Whether `route` is one of these routes for the route at `path`.
     fn has(self, path: &Path, route: &TableRoute) -> bool
         ensures { result ≡ stands_in self path.now route.now.path route.now.continues }
     {
@@ -41,8 +41,8 @@ impl Part {
     }
 }
 
-/// Adds the literals of a part, for the route at a path, all of them named. Each has the position
-/// of its route in the table as its tag. Fails only if memory runs out.
+/// Adds the literals of a part for the route at a path. All that are added are named, and the tag
+/// of each is the position of its route in the table. Fails only if memory runs out.
 pub(crate) fn add_part<'t>(
     table: &'t Table<'_>,
     part: Part,

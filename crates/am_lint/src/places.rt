@@ -1,4 +1,4 @@
-//! How routes stand to each other in the tree, by their paths.
+//! How routes stand relative to each other in the tree, by their paths.
 
 ghost use Rattle.std.specs.Prelude.{◌≡◌};
 ghost use Rattle.am_lint.specs.Places.{stands_before, is_child_of};

@@ -250,7 +250,7 @@ fn receiver_kind(finding: ReceiverFinding) -> &'static str
     }
 }
 
-/// The routes that have a receiver, of some routes.
+/// Returns those of some routes that have the given receiver.
 fn having(
     alloc: Global,
     routes: &[FoundRoute],
@@ -268,7 +268,7 @@ fn having(
     Ok(found)
 }
 
-/// Adds the routes that have a receiver, each with the word for its finding or note.
+/// Adds the routes of a receiver, each with the word for its finding or note.
 fn push_having(
     alloc: Global,
     text: &mut String,

@@ -84,7 +84,7 @@ pub(crate) fn standing_of(
     Ok(Standing::NeverEntered(why_never_entered(alloc, table, path)?))
 }
 
-/// A choice whose label set ends at the route at a path, if there is one.
+/// Returns a choice whose label set ends at the route at a path, if there is one.
 fn first_ending(alloc: Global, table: &Table<'_>, path: &Path) -> Result<Option<Choice>, AllocError>
     requires knows { KnowsRoutes table.now }
     requires there { IsRoute (table_config table.now) path.now }
@@ -98,7 +98,7 @@ fn first_ending(alloc: Global, table: &Table<'_>, path: &Path) -> Result<Option<
     Ok(first_meeting(&table.possible, literals.as_slice()))
 }
 
-/// A choice whose label set enters the route at a path, if there is one.
+/// Returns a choice whose label set enters the route at a path, if there is one.
 fn first_entering(
     alloc: Global,
     table: &Table<'_>,
@@ -115,7 +115,7 @@ fn first_entering(
     Ok(first_meeting(&table.possible, literals.as_slice()))
 }
 
-/// A choice whose label set matches the way to the route at a path, if there is one.
+/// Returns a choice whose label set matches the way to the route at a path, if there is one.
 fn first_on_way(alloc: Global, table: &Table<'_>, path: &Path) -> Result<Option<Choice>, AllocError>
     requires knows { KnowsRoutes table.now }
     requires there { IsRoute (table_config table.now) path.now }
@@ -128,7 +128,8 @@ fn first_on_way(alloc: Global, table: &Table<'_>, path: &Path) -> Result<Option<
     Ok(first_meeting(&table.possible, literals.as_slice()))
 }
 
-/// Which children take all label sets that enter the route at a path, where none ends there.
+/// Finds which children take all label sets that enter the route at a path. There must be no label
+/// set that ends there.
 fn why_handed_on(alloc: Global, table: &Table<'_>, path: &Path) -> Result<Vec<Path>, AllocError>
     requires knows { KnowsRoutes table.now }
     requires there { IsRoute (table_config table.now) path.now }
@@ -141,7 +142,7 @@ fn why_handed_on(alloc: Global, table: &Table<'_>, path: &Path) -> Result<Vec<Pa
     reason_of(alloc, table, path, literals, Part::Children)
 }
 
-/// Why no label set enters the route at a path, where none does.
+/// Finds why no label set enters the route at a path. There must be none that does.
 fn why_never_entered(alloc: Global, table: &Table<'_>, path: &Path) -> Result<Reason, AllocError>
     requires knows { KnowsRoutes table.now }
     requires there { IsRoute (table_config table.now) path.now }
@@ -163,8 +164,8 @@ fn why_never_entered(alloc: Global, table: &Table<'_>, path: &Path) -> Result<Re
     }
 }
 
-/// Which siblings take all label sets that match the way to the route at a path, where some do and
-/// none of them enters it.
+/// Finds which siblings take all label sets that match the way to the route at a path. Some label
+/// set must match the way, and none may enter the route.
 fn why_taken(alloc: Global, table: &Table<'_>, path: &Path) -> Result<Vec<Path>, AllocError>
     requires knows { KnowsRoutes table.now }
     requires there { IsRoute (table_config table.now) path.now }
@@ -179,8 +180,8 @@ fn why_taken(alloc: Global, table: &Table<'_>, path: &Path) -> Result<Vec<Path>,
     reason_of(alloc, table, path, literals, Part::Before)
 }
 
-/// Which routes on the way to the route at a path exclude each other, where no label set matches
-/// all of them.
+/// Finds which routes on the way to the route at a path exclude each other. There must be no label
+/// set that matches all routes on the way.
 fn why_excluded(alloc: Global, table: &Table<'_>, path: &Path) -> Result<Vec<Path>, AllocError>
     requires knows { KnowsRoutes table.now }
     requires there { IsRoute (table_config table.now) path.now }
@@ -192,8 +193,8 @@ fn why_excluded(alloc: Global, table: &Table<'_>, path: &Path) -> Result<Vec<Pat
     reason_of(alloc, table, path, Vec::new(alloc), Part::Way)
 }
 
-/// The routes of a part that are to blame, in preorder: no label set meets these literals and those
-/// of the part.
+/// Finds the routes of a part that are to blame, in preorder. There must be no label set that meets
+/// the given literals and those of the part.
 fn reason_of<'t>(
     alloc: Global,
     table: &'t Table<'_>,
@@ -217,8 +218,8 @@ fn reason_of<'t>(
     named_by_reason(alloc, table, &mut literals, fixed)
 }
 
-/// The routes that are to blame that no label set meets all literals, by their paths. The first
-/// `fixed` literals count as given.
+/// Finds which routes are to blame if no label set meets all literals, and returns their paths.
+/// There must be no such label set. The first `fixed` literals count as given.
 fn named_by_reason(
     alloc: Global,
     table: &Table<'_>,
@@ -236,7 +237,7 @@ fn named_by_reason(
     named_routes(alloc, table, &literals[fixed..])
 }
 
-/// The literals that a label set meets where it matches the way to the route at a path.
+/// Returns the literals that a label set meets if it matches the way to the route at a path.
 fn literals_of_way<'t>(
     alloc: Global,
     table: &'t Table<'_>,
@@ -250,7 +251,7 @@ fn literals_of_way<'t>(
     Ok(literals)
 }
 
-/// The literals that a label set meets where it enters the route at a path.
+/// Returns the literals that a label set meets if it enters the route at a path.
 fn literals_to_enter<'t>(
     alloc: Global,
     table: &'t Table<'_>,
@@ -264,7 +265,7 @@ fn literals_to_enter<'t>(
     Ok(literals)
 }
 
-/// The paths of the routes whose literals are named.
+/// Returns the paths of the routes whose literals are named.
 fn named_routes(
     alloc: Global,
     table: &Table<'_>,

@@ -10,7 +10,7 @@ use am_judged_lists::Cube;
 use am_labels::Space;
 use std::alloc::{AllocError, Global};
 
-/// A route, by its path, with what a search asks of it.
+/// A route by its path, with what a search needs to know about it.
 #[derive(Drop)]
 pub(crate) struct TableRoute {
     pub path: Path,
@@ -27,7 +27,7 @@ pub(crate) struct Table<'a> {
 }
 
 impl<'a> Table<'a> {
-    /// That of a configuration over a space. Fails only if memory runs out.
+    /// Returns the table of a configuration over a space. Fails only if memory runs out.
     pub(crate) fn of(
         alloc: Global,
         space: &'a Space,

@@ -14,7 +14,7 @@ use Rattle.am_list_files.specs.AlertsExample.{alert_example, alerts_example, exa
 abbrev none_there : LabelMap
 none_there = empty
 
--- a label that is not there is taken out
+-- removing a label from the empty label set changes nothing
 none_left : (name : List ℕ) → none_there ≡ remove none_there name
 none_left name =
     let missing : contains_key none_there name ≡ false =

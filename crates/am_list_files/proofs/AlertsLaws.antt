@@ -1,4 +1,4 @@
--- The form of an export of alerts is lawful, and no pattern is met in it.
+-- The form of an export of alerts is lawful, and reading an export meets no pattern.
 use Rattle.std.proofs.Common.{◌≡◌, ℕ, List, []}
 use Rattle.serde_json.specs.Data.{Data}
 use Rattle.am_universe.specs.LabelSet.{LabelMap}

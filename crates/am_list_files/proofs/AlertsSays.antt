@@ -1,4 +1,5 @@
--- A value says alerts exactly where reading it finds no fault, and then those alerts.
+-- A value says alerts exactly if reading it finds no fault, and then it says the alerts that
+-- reading gives.
 use Rattle.std.proofs.Common.{List, Ok, Some, [], ap, length, refl, sym, ℕ, ◌∙◌, ◌∷◌, ◌≡◌}
 use Rattle.std.specs.FinMap as finite
 use Rattle.std.specs.List.{AllZip, fold}
@@ -21,7 +22,7 @@ use Rattle.am_list_files.proofs.NamedTextLemmas.{named_text_decides}
 
 -- ---- The labels of an alert.
 
--- a member says a label, and the labels of these names and texts are put in
+-- a member says a label; and a label set with the labels of these names and texts added
 abbrev SaysLabel : List ℕ × Data → List ℕ × List ℕ → Type 0
 SaysLabel pair label = SaysNamedText pair label.0 label.1
 

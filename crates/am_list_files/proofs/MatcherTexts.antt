@@ -117,7 +117,7 @@ refused_here : (kind : Kind) → text_refusal [] [] kind ≡ refusal_here kind
 refused_here kinds.Limit = refl
 refused_here kind = refl
 
--- where all that is wrong with a text stands at what is looked at
+-- the same, if all faults of a text are at the value that is looked at
 pub text_refused_here : (text : List ℕ) (kind : Kind) → (kind ≢ kinds.Memory
     → TextRefusedFor text kind) → kind ≢ kinds.Memory
     → MayRefuse (matcher_text_form [] [] text) (refusal_here kind)

@@ -20,7 +20,7 @@ use Rattle.am_json.proofs.Readings.{Decides, pattern_right, bind_ok, same_read}
 
 -- ---- Patterns.
 
--- what the pattern of the first adds to the others
+-- what the pattern of the first matcher adds to the objections of the others
 first_of : (profile valid : Bool) (r : Refusal) (more : List Objection)
     → first_fault ((cond profile (a_pattern [] ∷ []) [] ++ cond valid [] (a_fault r ∷ [])) ++ more)
     ≡ cond valid (first_fault more) (Some r)
@@ -56,7 +56,7 @@ met_is m ms =
     met_of (has_profile_pattern m) (has_valid_pattern m) (refusal_here (pattern_refusal m.value))
     (pattern_objections ms)
 
--- sound values have no fault
+-- valid patterns have no fault
 pub sound_passes : (ms : List Condition) → IsTrue (have_valid_patterns ms) → fault_in ms ≡ None
 sound_passes [] h = refl
 sound_passes (m ∷ ms) h =

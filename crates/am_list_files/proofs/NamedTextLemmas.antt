@@ -1,4 +1,4 @@
--- The text of a name in an object of names and texts: a value says it exactly where reading it finds
+-- The text of a name in an object of names and texts: a value says it exactly if reading it finds
 -- no fault.
 use Rattle.std.proofs.Common.{ℕ, List, refl}
 use Rattle.serde_json.specs.Data.{Data}

@@ -1,4 +1,5 @@
--- A value says silences exactly where reading it finds no fault, and then those silences.
+-- A value says silences exactly if reading it finds no fault, and then it says the silences that
+-- reading gives.
 use Rattle.std.proofs.Common.{◌≡◌, ◌≢◌, ℕ, ◌≤◌, List, [], ◌∷◌, length, true, false}
 use Rattle.std.proofs.Common.{Some, None, refl, sym, subst}
 use Rattle.std.specs.Prelude.{codes, IsTrue}

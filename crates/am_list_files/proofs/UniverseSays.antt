@@ -1,4 +1,5 @@
--- A value says a space exactly where reading it finds no fault, and then that space.
+-- A value says a space exactly if reading it finds no fault, and then it says the space that
+-- reading gives.
 use Rattle.std.proofs.Common.{◌≡◌, ℕ, ◌<◌, ◌≤◌, List, [], ◌∷◌, ◌++◌, length, Bool, true, false}
 use Rattle.std.proofs.Common.{cond, Option, Some, None, option_and_then, Ok, nat_le, refl}
 use Rattle.std.proofs.Common.{sym, ap}
@@ -46,7 +47,7 @@ use Rattle.am_list_files.proofs.MatcherTexts.{spelled_decides}
 
 -- ---- A value.
 
--- a value may stand behind those before it
+-- a value may follow the values before it
 abbrev ValueFits : Values → Option (List ℕ) → Type 0
 ValueFits before value = value_fault before value ≡ None
 
@@ -120,7 +121,7 @@ values_decide items =
 
 -- ---- A label.
 
--- a label may stand behind those before it, but for their number
+-- a label may follow the labels before it, whatever their number
 pub record LabelFits (before : List Label) (label : Label) : Type 0 where
   pub name : name_fault before label.name ≡ None
   pub values : label_values_fault label.values ≡ None
@@ -164,7 +165,7 @@ no_label_fault : (u : List Label) (label : Label) → length u < MAX_LABELS → 
 no_label_fault u label room fits =
     rw (lt-leb MAX_LABELS (length u) room, fits.name, fits.values) refl
 
--- a label that was read has no fault, while there is room
+-- a label that was read has no fault, if there is room for it
 pub no_fault_read : (u : List Label) (d : Data) (label : Label) → length u < MAX_LABELS
     → (reading_within (to_item (length u)) (next_label_form u d)).result ≡ Ok label
     → label_fault u label ≡ None
@@ -188,7 +189,7 @@ label_fits u label h =
     (label_values_fault label.values) h in
     record { name = split.0; values = split.1 }
 
--- the labels in front are a universe too
+-- a prefix of the labels of a universe is a universe too
 universe_front : (before more : List Label) → IsUniverse (before ++ more) → IsUniverse before
 universe_front before more is = record {
   at_most = omega (arith, length-append before more, is.at_most);
@@ -210,7 +211,7 @@ universe_fits before (label ∷ more) is =
       universe_fits (before ++ label ∷ []) more whole,
     )
 
--- labels that fit go behind a universe, while there is room
+-- a universe and labels that fit after it are a universe, if there is room for them
 grown : (before more : List Label) → IsUniverse before → AllFit LabelFits before more
     → length (before ++ more) ≤ MAX_LABELS → IsUniverse (before ++ more)
 grown before [] is fits few = subst IsUniverse (sym (append-nil before)) is

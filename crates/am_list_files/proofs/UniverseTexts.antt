@@ -26,7 +26,7 @@ items_found : (key : List ℕ) (d : Data) (items : List Data) → HasItems key d
 items_found key d items (inl has) = rw (has.0, has.1) refl
 items_found key d items (inr has) = rw has refl
 
--- items that say lists are texts
+-- items that say lists of matchers are texts
 all_are_texts : (items : List Data) (lists : List (List Condition))
     → AllZip SaysImpossible items lists → map string (filter_map as_str items) ≡ items
 all_are_texts [] lists said = refl
@@ -34,7 +34,7 @@ all_are_texts (d ∷ items) [] said = absurd said
 all_are_texts (d ∷ items) (ms ∷ lists) said =
     rw (said.0.text.1) (ap (λ ds. string said.0.text.0 ∷ ds) (all_are_texts items lists said.1))
 
--- in a value that says a space the texts among the items are all items
+-- if a value says a space, all items of `impossible` are texts
 texts_found : (d : Data) (s : Space) → SaysUniverse d s
     → HasImpossibleTexts d (filter_map as_str (items_in_field (field (codes "impossible") d)))
 texts_found d s said =
@@ -43,7 +43,7 @@ texts_found d s said =
 
 -- ---- The same of a file.
 
--- what is found in the value of a file that is read
+-- the texts that are found in the value of a file without a fault are the texts of the file
 pub texts_are_found : (bytes : List ℕ) (d : Data) (s : Space) (texts : List (List ℕ))
     → (read_json bytes).result ≡ Ok d → (universe_form d).result ≡ Ok s
     → texts ≡ filter_map as_str (items_in_field (field (codes "impossible") d))
@@ -52,7 +52,7 @@ texts_are_found bytes d s texts json read is =
     let said = json_says bytes d json in
     (said.0, d, said.1, rw is (texts_found d s ((universe_decides d).says s read)))
 
--- the texts of a file say its lists
+-- the texts of a file say its impossible lists
 pub texts_say_lists : (bytes : List ℕ) (s : Space) (texts : List (List ℕ))
     → FileSaysUniverse bytes s → FileHasImpossibleTexts bytes texts
     → AreTextsOfLists texts s.impossible

@@ -5,7 +5,7 @@ use Rattle.std.specs.FinMap.{from_entries}
 use Rattle.serde_json.specs.Data.{Data, string, array, object, no_items, item, no_members, member}
 use Rattle.am_universe.specs.LabelSet.{LabelMap}
 
--- The value of the alert, whose label `region` has the empty text; and that of the file.
+-- The JSON value of the alert, whose label `region` has the empty text; and that of the file.
 abbrev pub alert_example : Data
 alert_example = object
     (member (codes "labels")

@@ -13,7 +13,7 @@ use Rattle.am_json.specs.Reading.{read_items_or_null, as_object, required_field,
 use Rattle.am_list_files.specs.declared.limits.TheConstants.{MAX_ALERTS, MAX_ALERT_LABELS}
 use Rattle.am_list_files.specs.NamedText.{named_text_form}
 
--- A label of an alert, with its name and text, behind others.
+-- The labels before this one, with its name and text added.
 unfoldable pub next_label_form : LabelMap → Form (List ℕ × Data) LabelMap
 next_label_form before pair = do
   text ← reading_within (to_field pair.0) (named_text_form pair.0 pair.1)
@@ -45,7 +45,7 @@ alerts_file_form bytes = do
 
 -- ---- The first fault.
 
--- The refusal tells of the first fault of a JSON value, and of the bytes of a file.
+-- The refusal is the first fault of a JSON value, or of the bytes of a file.
 abbrev pub IsFirstFaultOfAlerts : Data → Refusal → Type 0
 IsFirstFaultOfAlerts d r = first_fault (alerts_form d).objections ≡ Some r
 

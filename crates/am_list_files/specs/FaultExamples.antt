@@ -16,7 +16,7 @@ at kind pointer = Some (refused_at kind pointer)
 
 -- ---- Universe files.
 
--- A label with this name and these values, and a file with these labels alone.
+-- A label with this name and these values, and a file with only these labels.
 abbrev pub label : Data → List Data → Data
 label name values = object_of ((codes "name", name) ∷ (codes "values", array_of values) ∷ [])
 
@@ -26,7 +26,7 @@ labels_file labels = object_of ((codes "labels", array_of labels) ∷ [])
 abbrev pub team : Data
 team = string (codes "team")
 
--- A file with a label and with these values in `impossible`.
+-- A file with one label, and with these values in `impossible`.
 abbrev pub impossible_file : List Data → Data
 impossible_file values = object_of
     ((codes "labels", array_of (label team (null ∷ []) ∷ []))
@@ -35,17 +35,18 @@ impossible_file values = object_of
 -- Universe files with their first faults, if they have any.
 abbrev pub universe_faults : List (Data × Option Refusal)
 universe_faults =
-    -- no object, no labels, and labels that are no array
+    -- not an object, no labels, and labels that are not an array
     (one, at kinds.Shape (codes ""))
     ∷ (object_of [], at kinds.Shape (codes "/labels"))
     ∷ (object_of ((codes "labels", one) ∷ []), at kinds.Shape (codes "/labels"))
-    -- an unknown field comes before all other faults of an object, and one that is `null` is none
+    -- an unknown field comes before all other faults of an object; a field that is `null` is absent
     ∷ (
       object_of ((codes "labels", one) ∷ (codes "x", one) ∷ []),
       at kinds.UnknownField (codes "/x"),
     )
     ∷ (object_of ((codes "labels", array_of []) ∷ (codes "x", null) ∷ []), None)
-    -- a name comes before the values: absent, no text, empty, no label name, and there already
+    -- the name comes before the values: absent, not a text, empty, not a label name, and a
+    -- duplicate
     ∷ (labels_file (object_of [] ∷ []), at kinds.Shape (codes "/labels/0/name"))
     ∷ (labels_file (label one [] ∷ []), at kinds.Shape (codes "/labels/0/name"))
     ∷ (labels_file (label (string []) [] ∷ []), at kinds.Empty (codes "/labels/0/name"))
@@ -54,7 +55,7 @@ universe_faults =
       labels_file (label team (null ∷ []) ∷ label team [] ∷ []),
       at kinds.Duplicate (codes "/labels/1/name"),
     )
-    -- values: none, one that is neither a text nor `null`, an empty one, and one that stands twice
+    -- values: none, one that is neither a text nor `null`, an empty one, and one that occurs twice
     ∷ (labels_file (label team [] ∷ []), at kinds.Empty (codes "/labels/0/values"))
     ∷ (labels_file (label team (null ∷ one ∷ []) ∷ []), at kinds.Shape (codes "/labels/0/values/1"))
     ∷ (labels_file (label team (string [] ∷ []) ∷ []), at kinds.Empty (codes "/labels/0/values/0"))
@@ -62,7 +63,8 @@ universe_faults =
       labels_file (label team (null ∷ null ∷ []) ∷ []),
       at kinds.Duplicate (codes "/labels/0/values/1"),
     )
-    -- what is impossible: no text, a text that spells no list, and one of the empty list
+    -- items of `impossible`: not a text, a text that spells no list, and one that spells the empty
+    -- list
     ∷ (impossible_file (one ∷ []), at kinds.Shape (codes "/impossible/0"))
     ∷ (
       impossible_file (string (codes "team") ∷ one ∷ []),
@@ -73,7 +75,7 @@ universe_faults =
 
 -- ---- Exports of silences.
 
--- A matcher, a silence with these matchers, and an export of one silence.
+-- A matcher, and an export of one silence with these matchers.
 abbrev pub matcher : Data → Data → Data
 matcher name value = object_of ((codes "name", name) ∷ (codes "value", value) ∷ [])
 
@@ -83,15 +85,15 @@ silence_with matchers = array_of (object_of ((codes "matchers", array_of matcher
 -- Exports with their first faults, if they have any.
 abbrev pub silence_faults : List (Data × Option Refusal)
 silence_faults =
-    -- neither an array nor `null`, and a silence that is no object
+    -- neither an array nor `null`, then `null`, and a silence that is not an object
     (object_of [], at kinds.Shape (codes ""))
     ∷ (null, None)
     ∷ (array_of (one ∷ []), at kinds.Shape (codes "/0"))
-    -- the matchers of a silence come before its instants: absent, none, no object
+    -- the matchers of a silence come before its instants: absent, none, and not an object
     ∷ (array_of (object_of [] ∷ []), at kinds.Shape (codes "/0/matchers"))
     ∷ (silence_with [], at kinds.Empty (codes "/0/matchers"))
     ∷ (silence_with (one ∷ []), at kinds.Shape (codes "/0/matchers/0"))
-    -- an empty name, a value that is no text, and a flag that is no truth value
+    -- an empty name, a value that is not a text, and a flag that is not a truth value
     ∷ (silence_with (matcher (string []) one ∷ []), at kinds.Empty (codes "/0/matchers/0/name"))
     ∷ (silence_with (matcher team one ∷ []), at kinds.Shape (codes "/0/matchers/0/value"))
     ∷ (
@@ -99,7 +101,7 @@ silence_faults =
           ∷ (codes "value", team) ∷ []) ∷ []),
       at kinds.Shape (codes "/0/matchers/0/isRegex"),
     )
-    -- then the instants, in the order of `startsAt` and `endsAt`
+    -- then the instants, `startsAt` before `endsAt`
     ∷ (silence_with (matcher team team ∷ []), at kinds.Shape (codes "/0/startsAt"))
     ∷ []
 
@@ -117,7 +119,7 @@ alert_faults =
     ∷ (array_of (one ∷ []), at kinds.Shape (codes "/0"))
     ∷ (array_of (object_of [] ∷ []), at kinds.Shape (codes "/0/labels"))
     ∷ (alert_with ((codes "team", one) ∷ []), at kinds.Shape (codes "/0/labels/team"))
-    -- an empty name, though its value is no text
+    -- an empty name comes before a value that is not a text
     ∷ (alert_with ((codes "", one) ∷ []), at kinds.Empty (codes "/0/labels/"))
     -- 256 labels, and 257
     ∷ (alert_with (replicate 256 (codes "team", team)), None)

@@ -1,5 +1,5 @@
--- What is wrong with the name and the pattern of a matcher, in any file; and reading a matcher of
--- known parts. (This project's own.)
+-- What is wrong with the name and the pattern of a matcher in any file, and the reading of a
+-- matcher from its parts. (This project's own.)
 use Rattle.std.specs.Prelude.{ℕ, List, [], ◌∷◌, ◌++◌, Bool, ◌&&◌, if◌then◌else◌, Option}
 use Rattle.std.specs.Prelude.{Some, None, ⊤}
 use Rattle.std.specs.List.{flat_map}
@@ -22,9 +22,9 @@ label_name_fault (c ∷ cs) = None
 abbrev pub has_profile_pattern : Condition → Bool
 has_profile_pattern m = takes_pattern m.op && in_profile m.value
 
--- The objections to the pattern of a matcher, if it has one: a pattern of the profile, which the
--- engine may refuse; and a fault, where it is not of the profile or the engine's grammar does not
--- read it.
+-- The objections to the pattern of a matcher, if it has one, and to those of a list of matchers. A
+-- pattern of the profile is an objection, since the engine may refuse it. A pattern that is not of
+-- the profile, or that the engine's grammar does not read, is a fault.
 abbrev pub one_pattern_objections : Condition → List Objection
 one_pattern_objections m =
     (if has_profile_pattern m then a_pattern [] ∷ [] else [])

@@ -1,6 +1,5 @@
--- Texts of matchers in a file: which list one says, and the form of one.
--- (Alertmanager configuration reference 0.25, "<matcher>"; the order of the faults is this
--- project's own.)
+-- Texts of matchers in a file: which list of matchers a text says, and its form. (Alertmanager
+-- configuration reference 0.25, "<matcher>"; the order of the faults is this project's own.)
 use Rattle.std.specs.Prelude.{◌≡◌, ℕ, List, [], length}
 use Rattle.serde_json.specs.Data.{Data, string}
 use Rattle.am_universe.specs.declared.kind.Kind.{Kind}
@@ -20,9 +19,9 @@ use Rattle.am_list_files.specs.MatcherFaults.{check_patterns}
 abbrev pub SaysMatcherText : Data → List Condition → Type 0
 SaysMatcherText d matchers = (text : List ℕ) × (d ≡ string text) × Spells text matchers
 
--- The matchers of the text at this part of what is looked at. Too many of them are a fault of the
--- part that the caller names. By a law of `am_labels`, `read_list` gives the one list that a text
--- `Spells`, and none where there is none.
+-- The matchers of the text at `part` of the value that is looked at. Too many of them are a fault
+-- at `limit_part`. By a law of `am_labels`, `read_list` gives the one list that a text `Spells`, or
+-- none if it spells none.
 unfoldable pub matcher_text_form : List ℕ → List ℕ → List ℕ → Reading (List Condition)
 matcher_text_form part limit_part text = do
   ms ← reading_within part (accept_or [] (read_list text) (refusal_here kinds.BadMatcher))
@@ -30,7 +29,7 @@ matcher_text_form part limit_part text = do
   _ ← reading_within part (check_patterns ms)
   accept ms
 
--- The refusal of that text, by its kind.
+-- The refusal of that text, by its kind: `limit` is at `limit_part`, and any other kind at `part`.
 abbrev pub text_refusal : List ℕ → List ℕ → Kind → Refusal
 text_refusal part limit_part kinds.Limit = refusal_within limit_part (refusal_here kinds.Limit)
 text_refusal part limit_part kind = refusal_within part (refusal_here kind)

@@ -20,7 +20,7 @@ severity_matcher pattern = object
     (member (codes "name") (string (codes "severity"))
     (member (codes "value") (string pattern) no_members))))
 
--- The value of the silence, from 10:00 to 11:00 in universal time, and that of the file.
+-- The JSON value of the silence, from 10:00 to 11:00 in universal time, and that of the file.
 abbrev pub silence_example : List ℕ → Data
 silence_example pattern = object
     (member (codes "endsAt") (string (codes "2024-05-01T12:00:00+01:00"))

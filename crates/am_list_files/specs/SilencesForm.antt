@@ -26,7 +26,7 @@ label_name_form d = do
   _ ← reading_within (to_field (codes "name")) (refuse_for (label_name_fault name))
   accept name
 
--- The matcher of these parts; its pattern is refused at the value.
+-- A matcher of these parts. Its pattern is refused at the field `value`.
 abbrev pub flagged_matcher_form : List ℕ → Op → List ℕ → Reading Condition
 flagged_matcher_form name op value =
     reading_within (to_field (codes "value"))
@@ -42,7 +42,7 @@ silence_matcher_form d = do
   is_equal ← read_boolean_or true (codes "isEqual") d
   flagged_matcher_form name (flagged_op is_regex is_equal) value
 
--- What is wrong with so many matchers of a silence: there are none, or too many.
+-- What is wrong with the number of matchers of a silence: there are none, or too many.
 abbrev pub matcher_count_fault : ℕ → Option Kind
 matcher_count_fault zero = Some kinds.Empty
 matcher_count_fault (suc count) = limit_fault MAX_MATCHERS (suc count)
@@ -57,7 +57,7 @@ silence_matchers_form items = do
 abbrev pub instant_form : Form (List ℕ) ℤ
 instant_form text = accept_or (pos 0) (instant_of text) (refusal_here kinds.BadTime)
 
--- The instant in a field that has to be there.
+-- The instant in a required field.
 unfoldable pub required_instant_form : List ℕ → Data → Reading ℤ
 required_instant_form key d = do
   text ← required_text key d
@@ -85,13 +85,13 @@ silences_file_form bytes = do
 
 -- ---- The first fault.
 
--- The refusal tells of the first fault of a JSON value, and of the bytes of a file.
+-- The refusal is the first fault of a JSON value, or of the bytes of a file.
 abbrev pub IsFirstFaultOfSilences : Data → Refusal → Type 0
 IsFirstFaultOfSilences d r = first_fault (silences_form d).objections ≡ Some r
 
 abbrev pub IsFirstFaultOfSilencesFile : List ℕ → Refusal → Type 0
 IsFirstFaultOfSilencesFile bytes r = first_fault (silences_file_form bytes).objections ≡ Some r
 
--- What a file may be refused for: its first fault, or a pattern before any.
+-- What a file may be refused for: its first fault, or a pattern that no fault comes before.
 abbrev pub SilencesFileRefusedFor : List ℕ → Refusal → Type 0
 SilencesFileRefusedFor bytes r = IsRefusedFor (silences_file_form bytes).objections r

@@ -55,7 +55,7 @@ pub record SaysImpossible (d : Data) (ms : List Condition) : Type 0 where
 -- matchers that are impossible. If the field is absent, nothing is impossible.
 -- Source: own choice.
 -- Example: `{"labels": []}` says the space without labels, in which nothing is impossible.
--- `{"labels": [{"name": "a", "values": ["x", "x"]}]}` says none, since a value stands twice.
+-- `{"labels": [{"name": "a", "values": ["x", "x"]}]}` says none, since a value occurs twice.
 -- `{"labels": [{"name": "a", "values": ["x", "y"]}], "impossible": ["a=y"]}` says a space in which
 -- the label `a` has two values, of which the second never occurs.
 pub record SaysUniverse (d : Data) (s : Space) : Type 0 where
@@ -75,7 +75,7 @@ FileSaysUniverse bytes s = FileSays SaysUniverse bytes s
 
 -- ---- The texts of its impossible lists.
 
--- Some texts are those of some lists of matchers: as the items of `impossible`, each text says the
+-- The texts are those of these lists of matchers: as an item of `impossible`, each text says the
 -- list at its position. There are as many texts as lists, and at most `MAX_IMPOSSIBLE`.
 -- Source: own choice.
 -- Example: `a=y` is a text of the list with the one matcher `a="y"`, and so is `{a="y"}`. The lists

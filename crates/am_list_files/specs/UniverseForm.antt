@@ -21,7 +21,7 @@ use Rattle.am_list_files.specs.UniverseFile.{file_fields, label_fields}
 abbrev pub value_form : Form Data (Option (List ℕ))
 value_form d = if is_null d then accept None else as_text d >>= λ text. accept (Some text)
 
--- A value behind those of the label that were read already.
+-- A value of a label, after the values that were read before it.
 unfoldable pub next_value_form : Values → Data → Reading (Option (List ℕ))
 next_value_form before d = do
   value ← value_form d
@@ -34,7 +34,7 @@ values_form items = do
   _ ← refuse_for (count_fault (length items))
   read_items next_value_form [] items
 
--- A label behind those that were read already.
+-- A label, after the labels that were read before it.
 unfoldable pub next_label_form : List Label → Data → Reading Label
 next_label_form u d = do
   _ ← check_only_fields label_fields d
@@ -56,7 +56,7 @@ all_labels_form d = do
   items ← required_items (codes "labels") d
   reading_within (to_field (codes "labels")) (labels_form items)
 
--- A list of matchers that is impossible; all that is wrong with it stands at its text.
+-- An impossible list of matchers. All its faults are at its text.
 unfoldable pub impossible_form : Form Data (List Condition)
 impossible_form d = do
   text ← as_text d
@@ -82,13 +82,13 @@ universe_file_form bytes = do
 
 -- ---- The first fault.
 
--- The refusal tells of the first fault of a JSON value, and of the bytes of a file.
+-- The refusal is the first fault of a JSON value, or of the bytes of a file.
 abbrev pub IsFirstFaultOfUniverse : Data → Refusal → Type 0
 IsFirstFaultOfUniverse d r = first_fault (universe_form d).objections ≡ Some r
 
 abbrev pub IsFirstFaultOfUniverseFile : List ℕ → Refusal → Type 0
 IsFirstFaultOfUniverseFile bytes r = first_fault (universe_file_form bytes).objections ≡ Some r
 
--- What a file may be refused for: its first fault, or a pattern before any.
+-- What a file may be refused for: its first fault, or a pattern that no fault comes before.
 abbrev pub UniverseFileRefusedFor : List ℕ → Refusal → Type 0
 UniverseFileRefusedFor bytes r = IsRefusedFor (universe_file_form bytes).objections r

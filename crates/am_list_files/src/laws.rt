@@ -80,8 +80,8 @@ pub fn silence_files_are_read()
         → SilencesFileRefusedFor bytes r }
 {}
 
-/// The operator of a silence's matcher tells both flags: `isRegex`, whether its value is a pattern,
-/// and `isEqual`, whether the label has to match it.
+/// The operator of a silence's matcher says what both flags are: `isRegex`, whether its value is a
+/// pattern, and `isEqual`, whether the label must match it.
 pub fn flags_are_told_by_the_operator()
     ensures pattern { (is_regex is_equal : Bool)
         → takes_pattern (flagged_op is_regex is_equal) ≡ is_regex }

@@ -12,7 +12,7 @@
 //! of other files also call [`label_name_fault`], [`new_matcher`] and [`read_named_text`].
 #![tactic(auto)]
 
-// How much there may be.
+// The limits of files.
 pub mod limits;
 
 // The universe file.
@@ -20,7 +20,7 @@ mod universe_file;
 
 pub use universe_file::{read_universe, read_universe_with_texts};
 
-// A matcher, as every file has it.
+// The parts of a matcher, in any file.
 mod matcher;
 
 pub use matcher::{label_name_fault, new_matcher, read_named_text};
@@ -41,5 +41,5 @@ mod alerts_file;
 pub use alert::Alerts;
 pub use alerts_file::read_alerts;
 
-// What holds of the definitions by themselves.
+// Facts about the definitions alone.
 pub mod laws;

@@ -93,7 +93,7 @@ fn read_silence_matchers(alloc: Global, items: &[Value]) -> Result<Matchers, Rea
     read_each_silence_matcher(alloc, items)
 }
 
-/// Why a silence may not have so many matchers: it has none, or too many.
+/// Why a silence may not have this number of matchers: it has none, or too many.
 fn matcher_count_fault(count: usize) -> Option<Kind>
     ensures { result ≡ matcher_count_fault count }
 {
@@ -138,8 +138,8 @@ fn read_label_name(alloc: Global, value: &Value) -> Result<&str, ReadError>
     Ok(name)
 }
 
-/// The operator of a matcher, by whether its value is a pattern (`isRegex`), and whether the label
-/// has to match it or must not (`isEqual`).
+/// The operator of a matcher: `is_regex` says whether its value is a pattern, and `is_equal`
+/// whether the label must match it or must not.
 fn flagged_op(is_regex: bool, is_equal: bool) -> Op
     ensures { result ≡ flagged_op is_regex is_equal }
 {
@@ -151,7 +151,7 @@ fn flagged_op(is_regex: bool, is_equal: bool) -> Op
     }
 }
 
-/// Makes the matcher of these parts, whose name is not empty. A pattern is refused at the value.
+/// Makes a matcher of these parts; the name must not be empty. A pattern is refused at the value.
 fn read_flagged_matcher(
     alloc: Global,
     name: &str,

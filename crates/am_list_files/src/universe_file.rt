@@ -185,7 +185,7 @@ fn read_each_value(alloc: Global, items: &[Value]) -> Result<Vec<Option<String>>
     Ok(values)
 }
 
-/// Reads a value that follows those before it.
+/// Reads a value of a label; `before` are the values before it.
 #[tactic(auto, unfolding(crate::specs::UniverseForm::next_value_form))]
 fn read_next_value(
     alloc: Global,
@@ -247,7 +247,8 @@ fn read_matcher_text(alloc: Global, text: &str) -> Result<Matchers, ReadError>
     or_refused(alloc, parse_matchers(alloc, text))
 }
 
-/// The texts among the items of `impossible`. In a value that says a space each item is a text.
+/// Returns the texts among the items of `impossible`. If the value says a space, each item is a
+/// text.
 fn texts_of_lists(alloc: Global, value: &Value) -> Result<Vec<String>, AllocError>
     ensures { IfOk result (λ texts. map string_bytes texts.items
         ≡ filter_map as_str (items_in_field (field (codes "impossible") (view value.now)))) }

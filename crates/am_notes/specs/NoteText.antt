@@ -2,7 +2,7 @@
 use Rattle.std.specs.Prelude.{ℕ, List, ◌++◌, ◌≡◌, codes}
 use Rattle.std.specs.List.{flat_map}
 
--- The line of a note; and a text that is lines of notes, of which there may be none.
+-- The line of a note; and a text that consists of such lines, of which there may be none.
 -- Source: own choice.
 -- Example: `without --silences nothing is silenced` is written as the line
 -- `note: without --silences nothing is silenced`.

@@ -38,7 +38,7 @@ pub fn notes_of_answer(alloc: Global, call: &Call<'_>) -> Result<String, AllocEr
     notes.text(alloc)
 }
 
-/// Adds a note where what the alerts file holds is groups of alerts.
+/// Adds a note if the alerts file has groups of alerts.
 fn add_groups(alloc: Global, notes: &mut Notes, call: &Call<'_>) -> Result<(), AllocError> {
     let Some(bytes) = call.files.alerts else {
         return Ok(());
@@ -52,7 +52,7 @@ fn add_groups(alloc: Global, notes: &mut Notes, call: &Call<'_>) -> Result<(), A
     Ok(())
 }
 
-/// Adds a note where a file was compared with itself.
+/// Adds a note if the old and the new file have the same bytes.
 fn add_compare(alloc: Global, notes: &mut Notes, call: &Call<'_>) -> Result<(), AllocError> {
     if call.old == call.new {
         notes.add_str(alloc, "--old and --new are the same file, byte for byte")?;
@@ -60,7 +60,8 @@ fn add_compare(alloc: Global, notes: &mut Notes, call: &Call<'_>) -> Result<(), 
     Ok(())
 }
 
-// The inputs of a call that is done have been read before, so that only memory can fail below.
+// A call that is done has read its inputs before, so reading them again fails only if memory runs
+// out.
 
 fn add_ask(
     alloc: Global,
@@ -121,7 +122,7 @@ fn add_alerts(
 
 fn add_explain(alloc: Global, notes: &mut Notes, words: &[&str]) -> Result<(), AllocError> {
     for word in words {
-        // A word that is one of several may be no list by itself, as `note=a,b`.
+        // One of several words need not be a list by itself, as `note=a,b`.
         if let Ok(matchers) = parse_matchers(alloc, word) {
             add_set_matchers(alloc, notes, &matchers, word)?;
         }

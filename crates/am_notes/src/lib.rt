@@ -2,17 +2,17 @@
 //! to type after a refusal.
 //!
 //! A note is one line that begins with `note: `. [`notes_of_answer`] gives the notes of a [`Call`]
-//! that is done, and [`notes_of_refusal`] those of one that was refused. Both are functions of the
-//! inputs alone, and read these again, as the commands do. Nothing depends on notes: no contract
-//! says which there are, and cases test it.
+//! that is done, and [`notes_of_refusal`] those of one that was refused. Both depend on the inputs
+//! alone, and read them again, as the commands do. Nothing depends on notes: no contract says which
+//! notes there are, and cases test them.
 #![tactic(auto)]
 
-// What notes are about.
+// The call that notes are about.
 mod call;
 
 pub use call::Call;
 
-// The lines, and the sentences that stand in them.
+// The lines of notes, and the sentences in them.
 mod notes;
 mod sentences;
 

@@ -25,7 +25,7 @@ impl Likeness {
         }
     }
 
-    /// What a list looks like that begins with this record.
+    /// What a list looks like if it begins with this record.
     fn of_record(first: &Value) -> Option<Likeness> {
         if has_field(first, "alerts") {
             Some(Likeness::Groups)
@@ -50,7 +50,7 @@ impl Likeness {
         }
     }
 
-    /// Whether a file at this place should look so.
+    /// Whether a file that looks like this belongs at this place.
     pub(crate) fn belongs_at(self, place: Place) -> bool {
         match self {
             Likeness::Universe => place == Place::Universe,
@@ -61,7 +61,7 @@ impl Likeness {
         }
     }
 
-    /// How a note calls it.
+    /// The words for it in a note.
     pub(crate) fn text(self) -> &'static str {
         match self {
             Likeness::Universe => "a universe",

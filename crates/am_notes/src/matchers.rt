@@ -40,8 +40,8 @@ pub(crate) fn add_question_matchers(
     Ok(())
 }
 
-/// The note on a matcher of a question, if there is one: that there seem to be two matchers in it,
-/// or else that the universe, if there is one, does not declare what it asks for.
+/// The note on a matcher of a question, if there is one: that it looks like two matchers, or else
+/// that the universe, if there is one, does not declare its label or its value.
 fn question_note(
     alloc: Global,
     matcher: &Matcher,
@@ -64,7 +64,7 @@ fn question_note(
     Ok(None)
 }
 
-/// Whether the label at `label` may have a text; the empty one is absence.
+/// Whether the label at `label` may have a text; the empty text stands for absence.
 fn has_value(universe: &Universe, label: usize, text: &str) -> bool
     requires { label < length universe.now }
 {
@@ -76,8 +76,8 @@ fn has_value(universe: &Universe, label: usize, text: &str) -> bool
     false
 }
 
-/// Whether a matcher that was read from a text seems to be two: in its value, without quotes, a
-/// blank stands and an `=` behind it.
+/// Whether a matcher that was read from a text looks like two: its value has a blank and an `=`
+/// after it, and is in the text without quotes.
 fn is_run_together(alloc: Global, matcher: &Matcher, text: &str) -> Result<bool, AllocError> {
     match matcher.value().split_once(' ') {
         Some((_, behind)) if behind.contains('=') => is_unquoted(alloc, text, matcher.value()),
@@ -85,8 +85,8 @@ fn is_run_together(alloc: Global, matcher: &Matcher, text: &str) -> Result<bool,
     }
 }
 
-/// Whether a value stands in a text without quotes. Where it stands there with quotes too, or with
-/// escapes, it counts as quoted: who quotes means one value.
+/// Whether a value is in a text without quotes. If it is there with quotes as well, or with
+/// escapes, it counts as quoted: a person who quotes means one value.
 fn is_unquoted(alloc: Global, text: &str, value: &str) -> Result<bool, AllocError> {
     let quoted = format!(in alloc; "\"{value}\"")?;
     Ok(text.contains(value) && !text.contains(quoted.as_str()))

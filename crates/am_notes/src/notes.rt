@@ -1,4 +1,4 @@
-//! Notes, as they are gathered.
+//! The list of the notes of a call.
 
 ghost use Rattle.std.specs.Prelude.{◌≡◌, ◌++◌, string_bytes, IfOk, OnOk};
 ghost use Rattle.std.specs.List.{flat_map};
@@ -6,7 +6,7 @@ ghost use Rattle.am_notes.specs.NoteText.{note_text, AreNoteLines};
 
 use std::alloc::{AllocError, Global};
 
-/// Notes, each without the words that it begins with. None stands twice.
+/// Notes, each without the `note: ` that its line begins with. No note occurs twice.
 #[derive(Drop)]
 pub(crate) struct Notes {
     notes: Vec<String>,
@@ -27,7 +27,7 @@ impl Notes {
         Ok(())
     }
 
-    /// Adds a note that is one text whatever the inputs say.
+    /// Adds a note whose text is the same for all inputs.
     pub(crate) fn add_str(&mut self, alloc: Global, note: &str) -> Result<(), AllocError> {
         self.add(String::from_str(alloc, note)?)
     }
@@ -36,7 +36,7 @@ impl Notes {
         self.notes.iter().any(|other| other.as_str() == note)
     }
 
-    /// The lines of the notes.
+    /// Returns the lines of the notes.
     pub(crate) fn text(&self, alloc: Global) -> Result<String, AllocError>
         ensures lines { IfOk result (λ text. AreNoteLines (string_bytes text)) }
     {
@@ -44,7 +44,7 @@ impl Notes {
     }
 }
 
-/// The lines of notes.
+/// Returns the lines of these notes.
 fn text_of(alloc: Global, notes: &[String]) -> Result<String, AllocError>
     ensures { IfOk result (λ text. string_bytes text
         ≡ flat_map (λ note. note_text (string_bytes note)) notes.now) }

@@ -10,8 +10,8 @@ const NO_SILENCES: &str = "without --silences nothing is silenced";
 
 const NO_ALERTS: &str = "without --alerts nothing is inhibited";
 
-/// Adds the notes on each part of a question with this text, from left to right. Without a universe
-/// no label is undeclared.
+/// Adds the notes on each part of a question, from left to right. `text` is the text of the whole
+/// question. Without a universe, no label counts as undeclared.
 pub(crate) fn add_question(
     alloc: Global,
     notes: &mut Notes,
@@ -46,7 +46,7 @@ fn add_unless(
     notes.add_str(alloc, note)
 }
 
-/// Whether a question asks about routes, and so about all that these ask about.
+/// Whether a question asks about routes, and so about every label that routes ask about.
 pub(crate) fn asks_of_routes(question: &Question) -> bool {
     match question {
         Question::Receiver(_) | Question::Route(_, _) => true,

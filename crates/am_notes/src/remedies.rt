@@ -17,7 +17,7 @@ pub(crate) fn add_remedy(
     call: Option<&Call<'_>>,
     fault: &Fault,
 ) -> Result<(), AllocError> {
-    // Where a file could not be read there is no call.
+    // If a file could not be read, there is no call.
     let Some(call) = call else {
         return match fault.kind {
             Kind::Read => notes.add_str(alloc, "standard input is the file /dev/stdin"),
@@ -57,7 +57,7 @@ fn file_at<'a>(call: &Call<'a>, place: Place) -> Option<&'a [u8]> {
     }
 }
 
-/// Where a file is not JSON.
+/// The remedy for a file that is not JSON.
 fn not_json_remedy(call: &Call<'_>, place: Place) -> Option<&'static str> {
     if file_at(call, place)?.trim_ascii().is_empty() {
         return Some("the file is empty: did the command that wrote it fail?");
@@ -74,7 +74,7 @@ fn not_json_remedy(call: &Call<'_>, place: Place) -> Option<&'static str> {
     }
 }
 
-/// Adds what a file looks like, where that is not what belongs at its place.
+/// Adds a note on what a file looks like, if that does not belong at its place.
 fn add_likeness(
     alloc: Global,
     notes: &mut Notes,
@@ -95,7 +95,7 @@ fn add_likeness(
     }
 }
 
-/// Adds how matchers are written, where a text spells none.
+/// Adds a note on how matchers are written, if a text spells none.
 fn add_bad_matcher(
     alloc: Global,
     notes: &mut Notes,
@@ -119,7 +119,7 @@ fn bad_matcher_remedy(place: Place) -> Option<&'static str> {
     }
 }
 
-/// Whether a label name stands in quotes in the text that is at fault.
+/// Whether a label name is in quotes in the text that is at fault.
 fn has_quoted_name_at(alloc: Global, call: &Call<'_>, fault: &Fault) -> Result<bool, AllocError> {
     match call.request {
         Request::Ask { question: text, .. }
@@ -137,7 +137,7 @@ fn has_quoted_name_at(alloc: Global, call: &Call<'_>, fault: &Fault) -> Result<b
     }
 }
 
-/// The same, where the text stands in a file.
+/// The same for a text in a file.
 fn has_quoted_name_in_file(
     alloc: Global,
     call: &Call<'_>,
@@ -155,8 +155,8 @@ fn has_quoted_name_in_file(
     }
 }
 
-/// Whether a quote stands where a name would begin: at the beginning, behind a brace, or behind a
-/// comma and at most one blank.
+/// Whether there is a quote where a name would begin: at the start, or after a brace or a comma and
+/// at most one blank.
 fn has_quoted_name(text: &str) -> bool {
     text.starts_with('"')
         || text.contains("{\"")
@@ -178,7 +178,7 @@ fn remedy(call: &Call<'_>, kind: Kind, place: Place) -> Option<&'static str> {
         Kind::UnknownRoute => {
             Some("positions count from 0: / is the top-level route, /0 its first child")
         }
-        // A text of the command line, not of a file.
+        // Only for the text on the command line, not for one in a file.
         Kind::BadTime if place == Place::Instant => Some(
             "a time is written as 2024-05-01T10:00:00Z; now is --at \"$(date -u +%FT%TZ)\"",
         ),
@@ -193,7 +193,7 @@ fn remedy(call: &Call<'_>, kind: Kind, place: Place) -> Option<&'static str> {
     }
 }
 
-/// Where a question is not of the grammar.
+/// The remedy for a question that does not fit the grammar.
 fn question_remedy(request: &Request<'_>) -> &'static str {
     let is_without_braces = match request {
         Request::Ask { question: text, .. }
@@ -212,13 +212,13 @@ fn question_remedy(request: &Request<'_>) -> &'static str {
     receiver \"on call\""
 }
 
-/// Whether a question looks as if its matchers stand without braces.
+/// Whether a question looks as if its matchers are not in braces.
 fn is_without_braces(question: &str) -> bool {
     question.contains('=') && !question.contains('{')
 }
 
-/// Where a universe file lacks a value. What one lacks for two configurations together no command
-/// adds.
+/// The remedy for a universe file that lacks a value. If it lacks one for two configurations
+/// together, no command adds it.
 fn incomplete_remedy(request: &Request<'_>) -> &'static str {
     match request {
         Request::Compare { .. } => {
@@ -231,8 +231,8 @@ fn incomplete_remedy(request: &Request<'_>) -> &'static str {
     }
 }
 
-/// Where the routes tell too many alerts apart. A limit that the universe file itself passes is
-/// none of these: it is at a part of the file, or the file is too long.
+/// The remedy if the routes tell too many alerts apart. If the universe file itself exceeds a
+/// limit, that is another fault: it has a pointer to a part of the file, or the file is too long.
 fn limit_remedy(call: &Call<'_>, fault: &Fault) -> Option<&'static str> {
     let is_of_file = !fault.pointer.is_empty() || call.universe.len() > MAX_FILE_BYTES;
     if fault.place != Place::Universe || is_of_file {
@@ -256,8 +256,8 @@ fn too_many_remedy(ascii: bool) -> &'static str {
     }
 }
 
-/// Where it is not proved that a universe stands for every alert. The patterns that are not read
-/// over all texts may be read over those of printable ASCII.
+/// The remedy if it is not proved that a universe stands for every alert. Patterns that cannot be
+/// read over all texts may still be read over those of printable ASCII.
 fn unproved_remedy(request: &Request<'_>) -> &'static str {
     match request {
         Request::Lint { ascii: false, .. }

@@ -1,9 +1,9 @@
-//! The sentences of notes that name a label, a value or a file, each in one place.
+//! The sentences of notes that name a label, a value or a file, each written only here.
 
 use am_report_texts::push_quoted;
 use std::alloc::{AllocError, Global};
 
-/// How a person sees what a universe leaves out.
+/// The command that shows what a universe leaves out.
 const CHECK: &str = "see amcover universe --routes --check UNIVERSE --config FILE";
 
 /// A question asks about a label that no label set of the universe has.
@@ -29,7 +29,7 @@ pub(crate) fn undeclared_value(
     format!(in alloc; "the universe does not declare {name}={value}: no label set has it")
 }
 
-/// What looks like several matchers is one.
+/// What looks like several matchers is one matcher.
 pub(crate) fn run_together(alloc: Global, name: &str, value: &str) -> Result<String, AllocError> {
     let value = quoted(alloc, value)?;
     format!(in alloc; "the value of {name} is {value}: a comma separates matchers")
@@ -51,7 +51,7 @@ pub(crate) fn undeclarable(alloc: Global, name: &str) -> Result<String, AllocErr
     format!(in alloc; "no universe can declare {name}: alerts that have it are left out; {CHECK}")
 }
 
-/// Whether the universe stands for all alerts with this label is open.
+/// It is not proved whether the universe stands for all alerts with this label.
 pub(crate) fn unproved(alloc: Global, name: &str) -> Result<String, AllocError> {
     format!(in alloc; "whether the universe leaves out values of {name} is not proved; {CHECK}")
 }

@@ -9,8 +9,9 @@ use am_config::Config;
 use am_labels::Space;
 use std::alloc::{AllocError, Global};
 
-/// Adds a note on the first label at which a universe does not stand for every alert whose values
-/// are printable ASCII, as far as the routes of a configuration ask.
+/// Adds a note on the first label for which it is not proved that a universe stands for every
+/// alert. Only labels that the routes of a configuration or the impossible lists ask about count,
+/// and only alerts whose values are printable ASCII.
 pub(crate) fn add_incomplete(
     alloc: Global,
     notes: &mut Notes,
@@ -25,7 +26,8 @@ pub(crate) fn add_incomplete(
     Ok(())
 }
 
-/// How a universe stands at each label that routes ask about.
+/// The state of each label that the universe declares, or that the routes or the impossible lists
+/// ask about.
 fn states_by_routes(
     alloc: Global,
     space: &Space,
@@ -35,7 +37,7 @@ fn states_by_routes(
     label_states(alloc, Alphabet::Ascii, space, asked.as_slice(), None)
 }
 
-/// What a universe leaves out at a label, if it does.
+/// The note on a label, unless the universe is complete for it, or no matcher asks about it.
 fn incompleteness(alloc: Global, state: &LabelState) -> Result<Option<String>, AllocError> {
     let name = state.name.as_str();
     let note = match &state.completeness {

@@ -1,4 +1,4 @@
--- Routes of which the same is seen, child by child.
+-- Routes that have the same state at each prefix, child by child.
 use Rattle.std.proofs.Common.{◌≡◌, ℕ, ◌+◌, ◌<◌, ◌≤◌, Bool, true, false, not, cond, List}
 use Rattle.std.proofs.Common.{[], ◌∷◌, ◌++◌, length, take, get_or, refl, ap, sym, ◌∙◌, subst, arith}
 use Rattle.std.proofs.Common.{append-nil, append_assoc, length-append}
@@ -47,7 +47,7 @@ children_alike u prefix (next_route t ts) no_routes (r ∷ rs) (q ∷ qs) alike 
 children_alike u prefix (next_route t ts) (next_route s us) (r ∷ rs) (q ∷ qs) alike are also =
     grind (arith, common_steps, children_alike u prefix ts us rs qs)
 
--- one child more
+-- one more child
 pub alike_more : (rs qs : List RouteCubes) (i : ℕ) (r q : RouteCubes) → i < length rs
     → length rs ≡ length qs → r ≡ get_or rs i r → q ≡ get_or qs i q
     → AllZip AreAlike (take i rs) (take i qs) → AreAlike r q
@@ -60,7 +60,7 @@ alike_more rs qs i r q within long r-is q-is so_far one =
     (subst (AllZip AreAlike (take i rs ++ r ∷ [])) (sym qs-more)
     (both_lists AreAlike (take i rs) (r ∷ []) (take i qs) (q ∷ []) so_far (one, tt)))
 
--- all of them
+-- all children
 pub alike_routes : (one other : RouteCubes) (rs qs : List RouteCubes) (i : ℕ)
     → rs ≡ (out-RouteCubes one).routes.items → qs ≡ (out-RouteCubes other).routes.items
     → length rs ≡ length qs → length rs ≤ i
@@ -112,7 +112,7 @@ two_alike u (c ∷ d ∷ e ∷ cs) (x ∷ y ∷ z ∷ rs) know two r q r-is q-is
 
 -- ---- What is seen of the first, twice.
 
--- the cubes of both are there
+-- the cubes of both configurations are there
 pub both_there : (u : List Label) (cs : List Configuration) (rs : List RouteCubes)
     → KnowsConfigs u cs rs → length cs ≡ 2 → length rs ≡ 2
 both_there u [] rs know two = absurd (omega (arith, two))
@@ -123,7 +123,7 @@ both_there u (c ∷ d ∷ []) (x ∷ y ∷ []) know two = refl
 both_there u (c ∷ d ∷ []) (x ∷ y ∷ z ∷ rs) know two = absurd know.1.1
 both_there u (c ∷ d ∷ e ∷ cs) (x ∷ y ∷ rs) know two = absurd (omega (arith, two))
 
--- the first of them has routes
+-- the first cubes are those of some route
 pub first_root : (s : Space) (cs : List Configuration) (rs : List RouteCubes) (prefix : List ℕ)
     (r : RouteCubes) → KnowsConfigs s.labels cs rs → length cs ≡ 2
     → admits (sizes s.labels) prefix ≡ true → r ≡ get_or rs 0 r
@@ -133,7 +133,7 @@ first_root s (c ∷ cs) [] prefix r know two admitted is = absurd know
 first_root s (c ∷ cs) (x ∷ rs) prefix r know two admitted is =
     (c.root, subst (AreCubesOf s.labels prefix c.root) (sym is) (know.0 prefix admitted))
 
--- so that what is seen of it stands behind what was there
+-- so the state of the first is added behind what was there
 pub grown : (now more after : List Verdict) → after ≡ now ++ more → length now ≤ length after
 grown now more after adds =
     let long = ap length adds ∙ length-append now more in omega (arith, long)
@@ -142,7 +142,7 @@ part_added : (now more : List Verdict)
     → slice_range (now ++ more) (length now) (length (now ++ more)) ≡ more
 part_added now more = grind (arith, common_steps, length-append, drop-append_seam, take_all)
 
--- and it is what is seen of the second
+-- and it is the state of the second too
 pub seen_twice : (s : Space) (cs : List Configuration) (rs : List RouteCubes) (prefix : List ℕ)
     (r : RouteCubes) (now one after : List Verdict) → KnowsConfigs s.labels cs rs
     → AreTwoAlike s.labels cs → admits (sizes s.labels) prefix ≡ true → r ≡ get_or rs 0 r

@@ -1,5 +1,5 @@
--- The first thing with each key: it is one of the things, each of them has its key among the first,
--- and no two of these have the same.
+-- The first item with each key: it is one of the items, each item has its key among the first, and
+-- no two of the first have the same key.
 use Rattle.std.proofs.Common.{◌≡◌, ◌⊎◌, Bool, true, false, List, [], ◌∷◌, ◌++◌, map, fold, refl, arith}
 use Rattle.std.proofs.Common.{sym, ap, ◌∙◌, inl, inr}
 use Rattle.std.specs.Prelude.{if◌then◌else◌}
@@ -24,7 +24,7 @@ module _ {K A : Type 0} (same : K → K → Bool) where
   abbrev has_key : List (K × A) → K → Bool
   has_key found key = list_any (λ e. same key e.0) found
 
-  -- the things with one more, unless its key is there
+  -- the items with one more, unless its key is there
   abbrev more_if : Bool → List (K × A) → K × A → List (K × A)
   more_if b found one = if b then found else found ++ one ∷ []
 

@@ -62,7 +62,7 @@ seen_alike entries one =
     ∙ ap (λ b. cond b (map entry_view entries) (map entry_view entries ++ entry_view one ∷ []))
     (there_alike entries one.0)
 
--- one that is there adds nothing
+-- an outcome that is there adds nothing
 pub there_already : (entries : List Entry) (one : Entry)
     → list_any (λ e. same_fates one.0 e.0) entries ≡ true
     → entries ≡ with_first same_fates entries one

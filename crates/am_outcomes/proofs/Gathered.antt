@@ -1,4 +1,4 @@
--- What is found behind prefixes, and which of them may be left out.
+-- What is found for the completions of prefixes, and which prefixes may be left out.
 use Rattle.std.proofs.Common.{◌≡◌, ℕ, zero, suc, ◌+◌, ◌<◌, ◌≤◌, Bool, true, false, not, cond, ◌||◌}
 use Rattle.std.proofs.Common.{List, [], ◌∷◌, ◌++◌, map, fold, length, slice_index, refl, ap, sym}
 use Rattle.std.proofs.Common.{◌∙◌, subst, inl, inr, arith}
@@ -53,7 +53,7 @@ module _ {K A : Type 0} (same : K → K → Bool) where
   still_there [] found key h = h
   still_there (x ∷ xs) found key h = grind (arith, common_steps, still_there xs, there_or_not)
 
-  -- and what comes is there
+  -- and what is added is there
   now_there : ((k : K) → same k k ≡ true) → (found : List (K × A)) (x : K × A)
       → is_there (with_first same found x) x.0 ≡ true
   now_there itself found x = grind (arith, common_steps, cases_Bool, list_any-append, or_right)
@@ -182,7 +182,7 @@ module _ (s : Space) (cs : List Configuration) where
       (AllByRecursion-each (λ c. is_possible_choice s c ≡ false) (completions (sizes s.labels) p)
       (λ c i. ap not (none_possible c s.impossible p certain i))))
 
-  -- a prefix each of whose possible completions has the fate of one behind an earlier prefix
+  -- a prefix whose possible completions each have the fate of one after an earlier prefix
   pub without_known : (prefixes : List (List ℕ)) (p q : List ℕ) → IsIn prefixes q
       → ((c : List ℕ) → IsIn (possible_completions s p) c
       → (d : List ℕ) × IsIn (possible_completions s q) d
@@ -219,11 +219,11 @@ module _ (s : Space) (cs : List Configuration) where
 
   -- ---- The ends.
 
-  -- behind the empty prefix stands everything
+  -- the outcomes for the empty prefix are all outcomes of the space
   pub from_the_start : gathered s cs [] ([] ∷ []) ≡ outcomes_of s cs
   from_the_start = grind (arith, common_steps, append-nil, completions_are_below)
 
-  -- and behind a whole choice that is possible, itself
+  -- and the only possible completion of a possible whole choice is the choice itself
   itself_alone : (choice : List ℕ) → IsWhole (sizes s.labels) choice
       → is_possible_choice s choice ≡ true → possible_completions s choice ≡ choice ∷ []
   itself_alone choice whole possible = grind (arith, common_steps, completions_of_whole)

@@ -1,4 +1,4 @@
--- What is seen of lists and of configurations, one by one.
+-- What is known about lists and configurations, one by one.
 use Rattle.std.proofs.Common.{◌≡◌, ℕ, zero, suc, ◌+◌, ◌<◌, ◌≤◌, true, false, cond, List, []}
 use Rattle.std.proofs.Common.{◌∷◌, ◌++◌, map, length, take, drop, get_or, drop-cons, add-one}
 use Rattle.std.proofs.Common.{append_assoc, append-nil, Bor, Some, None, refl, ap, sym, ◌∙◌, subst}
@@ -117,7 +117,7 @@ no_config_left u cs rs i past left =
     by [] know = refl
     by (c ∷ later) know = absurd know
 
--- the state is being made: these configurations are left
+-- the state so far, and the configurations that are left
 abbrev pub IsStateSoFar : Space → List Configuration → List ℕ → List RouteCubes → ℕ → List Verdict
     → Type 0
 IsStateSoFar s cs prefix rs i now =
@@ -146,7 +146,7 @@ pub state_complete : (s : Space) (cs : List Configuration) (prefix : List ℕ) (
 state_complete s cs prefix rs i now past so_far =
     grind (arith, common_steps, append-nil, routes_state, no_config_left)
 
--- the fate is being made
+-- the fate so far, and the configurations that are left
 abbrev pub IsFateSoFar : Space → List Configuration → LabelMap → List RouteCubes → ℕ
     → List (List ℕ) → Type 0
 IsFateSoFar s cs set rs i now =

@@ -33,19 +33,19 @@ use Rattle.am_outcomes.specs.LayerView.{gathered}
 use Rattle.am_outcomes.proofs.SameFates.{routes_state, alike_behind}
 use Rattle.am_outcomes.proofs.Gathered.{stand_for_both, without_impossible, without_known, by_next}
 
--- What is kept: states, as they stand in memory, each with its prefix.
+-- What is kept: states, in the form that they have in memory, each with its prefix.
 abbrev Entry : Type 0
 Entry = Vec Verdict × List ℕ
 
 -- ---- States that are the same.
 
--- a test of states that tells whether they are the same verdicts
+-- a test that says whether two states are the same verdicts
 abbrev pub TellsSame : (Vec Verdict → Vec Verdict → Bool) → Type 0
 TellsSame same = (a b : Vec Verdict) → (same a b ≡ true → a.items ≡ b.items)
     × (a.items ≡ b.items → same a b ≡ true)
 
 module _ (same : Vec Verdict → Vec Verdict → Bool) (tells : TellsSame same) where
-  -- a state that is there is that of a prefix
+  -- a state that is there is the state of a prefix that is kept
   known_entry : (entries : List Entry) (state : Vec Verdict)
       → list_any (λ e. same state e.0) entries ≡ true
       → (q : List ℕ) × (kept : Vec Verdict) × IsIn entries (kept, q) × (kept.items ≡ state.items)
@@ -58,7 +58,7 @@ module _ (same : Vec Verdict → Vec Verdict → Bool) (tells : TellsSame same) 
         (r.0, r.1, inr r.2, r.3)
   ]
 
-  -- one that is not there differs from all
+  -- a state that is not there differs from all
   all_differ : (entries : List Entry) (state : Vec Verdict)
       → list_any (λ e. same state e.0) entries ≡ false
       → AllByRecursion (λ other. other.1 ≢ state.items) (map state_view entries)
@@ -94,7 +94,7 @@ module _ (judged : Judged) where
   skipped prefix entries none =
       grind (arith, common_steps, stand_for_both, without_impossible, append-nil, routes_state)
 
-  -- its state is there
+  -- the state of the prefix is there
   pub known : (same : Vec Verdict → Vec Verdict → Bool) → TellsSame same
       → (prefix : List ℕ) (entries : List Entry) (state : Vec Verdict)
       → admits (sizes s.labels) prefix ≡ true → IsLayer s cs (length prefix) entries
@@ -111,7 +111,7 @@ module _ (judged : Judged) where
       judged.knows_lists judged.knows_configs prefix kept.0 state.items (sym has.1) admitted has.0
       (sym is) (has.2 ∙ ap Some kept.3))
 
-  -- it is new, and is added
+  -- the state is new, and is added
   pub layer_pushed : (same : Vec Verdict → Vec Verdict → Bool) → TellsSame same
       → (prefix : List ℕ) (entries more : List Entry) (state : Vec Verdict)
       → admits (sizes s.labels) prefix ≡ true → IsLayer s cs (length prefix) entries
@@ -123,7 +123,7 @@ module _ (judged : Judged) where
   layer_pushed same tells prefix entries more state admitted layer is new adds =
       grind (arith, common_steps, map-append, all_push, apart_pushed, all_differ)
 
-  -- there is no room for it
+  -- there is no room for the state
   pub many_states : (same : Vec Verdict → Vec Verdict → Bool) → TellsSame same
       → (prefix : List ℕ) (entries : List Entry) (state : Vec Verdict)
       → admits (sizes s.labels) prefix ≡ true → IsLayer s cs (length prefix) entries
@@ -190,7 +190,7 @@ extended_more s cs entries i size entry now after at admitted short is so_far lo
         ∙ ap (λ e. take i entries ++ e ∷ []) (get_or_from_slice_get entries i entry entry at))
         ∙ map-append (λ (e : Entry). e.1) (take i entries) (entry ∷ [])
 
--- the entry at a position has what all have
+-- the entry at a position has a state, as all entries have
 pub entry_at : (s : Space) (cs : List Configuration) (len : ℕ) (entries : List Entry) (i : ℕ)
     (entry : Entry) → slice_get entries i ≡ Some entry → IsLayer s cs len entries
     → HasState s cs len (state_view entry)

@@ -1,4 +1,4 @@
--- Two prefixes at which a cube has the same verdict, and what comes behind them.
+-- Two prefixes at which a cube has the same verdict, and what follows them.
 use Rattle.std.proofs.Common.{◌≡◌, ℕ, ◌+◌, ◌<◌, true, List}
 use Rattle.std.proofs.Common.{[], ◌∷◌, ◌++◌, length, refl, ap, sym, ◌∙◌, arith}
 use Rattle.std.specs.List.{list_all}
@@ -14,7 +14,7 @@ module _ (p q : List ℕ) (long : length p ≡ length q) (r : List ℕ) where
   as_long : length (p ++ r) ≡ length (q ++ r)
   as_long = length-append p r ∙ ap (λ n. n + length r) long ∙ sym (length-append q r)
 
-  -- a mask of a label of the prefix, which fits both, fits what is longer
+  -- a mask of a label of a prefix, if it fits the prefix, fits what is longer
   fits_longer : (s : List ℕ) (m : LabelMask) → m.label < length s → fits s m ≡ true
       → fits (s ++ r) m ≡ true
   fits_longer s m within fit = grind (arith, common_steps, fits_from, get_or_append_left, fits_at)
@@ -30,7 +30,7 @@ module _ (p q : List ℕ) (long : length p ≡ length q) (r : List ℕ) where
   same_fits [] ps qs = refl
   same_fits (m ∷ masks) ps qs = grind (arith, common_steps, and_parts, fits, same_fit, same_fits masks)
 
-  -- where a cube is not excluded at either prefix, it says the same behind both
+  -- if a cube is not excluded at either prefix, it has the same verdict after both
   pub same_behind : (cube : MaskedLabels) → may_at cube p ≡ true → may_at cube q ≡ true
       → verdict_at cube (p ++ r) ≡ verdict_at cube (q ++ r)
   same_behind cube p-may q-may = grind (arith, common_steps, and_parts, fits, same_fits, as_long)

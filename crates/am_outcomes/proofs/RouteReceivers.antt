@@ -1,4 +1,4 @@
--- The receivers route by route are those of the ends.
+-- The receivers that are found route by route are those of the ends.
 use Rattle.std.proofs.Common.{◌≡◌, ℕ, ◌+◌, Bool, true, false, not, cond, ◌&&◌, List, [], ◌∷◌, ◌++◌, map, arith}
 use Rattle.std.proofs.Common.{Option, Some, None, option_map, option_and_then, slice_get, drop, zero, suc}
 use Rattle.std.proofs.Common.{add-one, refl, ap, ◌∙◌}
@@ -13,8 +13,8 @@ use Rattle.am_eval.specs.Routing.{ends, ends_at, children_seen, ends_tried, or_o
 use Rattle.am_eval.specs.Routing.{receiver_at, receivers, Child, tried}
 use Rattle.am_outcomes.specs.Receivers.{receivers_at, child_receivers, or_own_receiver}
 
--- A path leads from a route to one with a receiver; and so it does from one of some children, at
--- whose position it begins.
+-- A path leads from a route to one with a receiver. Or it does so from one of some children, and
+-- begins with the position of that child.
 abbrev Has : RouteTree → List ℕ → ℕ → Type 0
 Has t path receiver = option_map receiver_of (route_at t path) ≡ Some receiver
 
@@ -55,7 +55,7 @@ mapped f [] (u ∷ us) all = absurd all
 mapped f (x ∷ xs) [] all = absurd all
 mapped f (x ∷ xs) (u ∷ us) all = rw (all.0, mapped f xs us all.1) refl
 
--- what stands at a position
+-- the item at a position
 standing : {X : Type 0} (all : List X) (i : ℕ) (x : X) (rest : List X) → drop i all ≡ x ∷ rest
     → (slice_get all i ≡ Some x) × (drop (suc i) all ≡ rest)
 standing [] zero x rest e = absurd cc

@@ -1,4 +1,4 @@
--- Prefixes with the same state have the same fates behind them.
+-- After prefixes with the same state, the same positions lead to the same fates.
 use Rattle.std.proofs.Common.{◌≡◌, ℕ, ◌+◌, Bool, true, false, not, List, [], ◌∷◌, ◌++◌, map}
 use Rattle.std.proofs.Common.{length, nat_eq, Some, append_assoc, refl, ap, sym, ◌∙◌}
 use Rattle.std.proofs.Common.{subst, inl, inr, arith}
@@ -39,7 +39,7 @@ into_filter test [] x i e = absurd i
 into_filter test (y ∷ xs) x (inl same) e = grind (arith, common_steps)
 into_filter test (y ∷ xs) x (inr i) e = grind (arith, common_steps, into_filter test xs x i e)
 
--- the same list in two parts, whose first parts are as long
+-- the same list in two parts, whose first parts are equally long
 same_parts : {X : Type 0} (xs us ys vs : List X) → length xs ≡ length us → xs ++ ys ≡ us ++ vs
     → (xs ≡ us) × (ys ≡ vs)
 same_parts [] [] ys vs long e = (refl, e)
@@ -63,7 +63,7 @@ pub state_parts : (s : Space) (cs : List Configuration) (p : List ℕ) (state : 
     × (lists_state s p ++ routes_state s cs p ≡ state)
 state_parts s cs p state is = grind (arith, common_steps)
 
--- a whole choice is possible where no impossible list is certain
+-- a whole choice is possible exactly if no impossible list is certain
 pub possible_by_state : (s : Space) (c : List ℕ) → IsWhole (sizes s.labels) c
     → is_possible_choice s c ≡ not (list_any is_yes (lists_state s c))
 possible_by_state s c whole = grind (arith, common_steps, list_any-map, certain_where)
@@ -117,7 +117,8 @@ module _ (s : Space) (is : IsUniverse s.labels) (cs : List Configuration) (cubes
         let later = same_configs ds these know.1 x y one.1 in
         (later.0, λ i. one.2 i ∷ later.1 i)
 
-    -- what comes behind both is possible alike, and has the same fate
+    -- with the same positions after both, either both or neither are possible, and the fates are
+    -- the same
     pub same_behind : (state : List Verdict) → state_of s cs p ≡ Some state
         → state_of s cs q ≡ Some state
         → (is_possible_choice s (p ++ r) ≡ is_possible_choice s (q ++ r))

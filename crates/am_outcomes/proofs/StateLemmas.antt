@@ -1,4 +1,4 @@
--- Prefixes with the same state: what stands behind them has the same fate.
+-- Prefixes with the same state: the same positions after them lead to the same fate.
 use Rattle.std.proofs.Common.{◌≡◌, ℕ, Bool, true, false, not, cond, ◌&&◌, List, [], ◌∷◌, ◌++◌, arith}
 use Rattle.std.proofs.Common.{length, append_assoc, refl, ap, sym, ◌∙◌, inl, inr}
 use Rattle.std.proofs.lemmas.Bool.{cases_Bool, and_parts}
@@ -27,7 +27,7 @@ use Rattle.am_outcomes.specs.Receivers.{receivers_at, child_receivers, or_own_re
 use Rattle.am_outcomes.specs.States.{route_state, children_state, is_certain}
 use Rattle.am_outcomes.proofs.OpenCubes.{same_behind, may_open}
 
--- a list that is decided stays so
+-- the verdict of a list that is decided stays the same
 stays_yes : (u : List Label) (ms : List Condition) (prefix more : List ℕ)
     → verdict_of_list u ms prefix ≡ Yes → verdict_of_list u ms (prefix ++ more) ≡ Yes
 stays_yes u ms prefix more certain =
@@ -47,7 +47,7 @@ stays_no u ms prefix more is admitted excluded =
     (each_completion (λ d. test d ≡ false) (sizes u) prefix more
     ((no_exactly test (completions (sizes u) prefix) some.0 some_short).0 excluded))
 
--- behind a child that is matched, and has no `continue`, none is tried
+-- after a child that is matched and lacks `continue`, no child is tried
 both_last : (s s′ : LabelMap) (t : RouteTree) (ts : Routes)
     → all_hold s (matchers_of t) ≡ true → all_hold s′ (matchers_of t) ≡ true
     → not (continues_of t) ≡ true
@@ -55,7 +55,7 @@ both_last : (s s′ : LabelMap) (t : RouteTree) (ts : Routes)
     ≡ cond (all_hold s′ (matchers_of t) && not (continues_of t)) [] (child_receivers s′ ts)
 both_last s s′ t ts here there ends = rw (here, there, ends) refl
 
--- the verdict is `Yes`, and it is `No`
+-- a verdict that is certain is `Yes`, and one that is excluded is `No`
 yes_is : (v : Verdict) → is_yes v ≡ true → v ≡ Yes
 yes_is Yes e = refl
 yes_is No e = absurd cc
@@ -66,7 +66,7 @@ no_is Yes e = absurd cc
 no_is No e = refl
 no_is Open e = absurd cc
 
--- what stands behind something that is left out in both, or in neither
+-- what follows something that is left out of both lists, or of neither
 without_front : {X : Type 0} (a b : Bool) (us vs x y : List X) → a ≡ b → a ≡ true
     → cond a [] us ++ x ≡ cond b [] vs ++ y → x ≡ y
 without_front true true us vs x y same is e = e
@@ -123,7 +123,7 @@ module _ (u : List Label) (is : IsUniverse u) (p q r : List ℕ) (long : length 
 
   -- ---- Routes.
 
-  -- its own verdict is the same, so is what stands behind its state, and so are its receivers
+  -- the route's own verdict is the same, so is what follows its state, and so are its receivers
   abbrev IsSame : RouteTree → List Verdict → List Verdict → Type 0
   IsSame t x y =
       (v (matchers_of t) p ≡ v (matchers_of t) q) × (x ≡ y)

@@ -1,4 +1,4 @@
--- What is written of outcomes.
+-- The text of outcomes.
 use Rattle.std.proofs.Common.{◌≡◌, ℕ, ◌+◌, ◌<◌, Bool, true, false, cond, List, [], ◌∷◌, ◌++◌, map}
 use Rattle.std.proofs.Common.{length, take, get_or, slice_get, unwrap_or, Some}
 use Rattle.std.proofs.Common.{drop, append-nil, refl, ap, sym, ◌∙◌, subst, arith}
@@ -68,7 +68,7 @@ module _ (s : Space) (cs : List Configuration) (outcomes : List (List (List ℕ)
       (subst (AllByRecursion (IsOfChoice s cs)) (sym are) (each_of_choice s cs))
       (in_at outcomes i outcome at)
 
--- as many fates as configurations; and the receivers under each are declared
+-- there are as many fates as configurations, and the receivers under each are declared
 pub as_many : (s : Space) (cs : List Configuration) (outcome : List (List ℕ) × List ℕ)
     (fates : List (Vec ℕ)) → IsOfChoice s cs outcome → outcome.0 ≡ fates_view fates
     → length fates ≡ length cs
@@ -106,7 +106,7 @@ SameFrom old new before after i =
 
 -- ---- Changes.
 
--- what passes a test, with one thing more
+-- the items that pass a test, with one more item
 kept_more : {X : Type 0} (test : X → Bool) (xs : List X) (i : ℕ) (x : X) → slice_get xs i ≡ Some x
     → filter test (take (i + 1) xs) ≡ filter test (take i xs) ++ cond (test x) (x ∷ []) []
 kept_more test xs i x at =

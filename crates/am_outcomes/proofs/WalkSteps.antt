@@ -56,7 +56,7 @@ pub own_receiver : (u : List Label) (prefix : List ℕ) (t : RouteTree) (r : Rou
     → AreCubesOf u prefix t r → (out-RouteCubes r).receiver ≡ receiver_of t
 own_receiver u prefix (route settings children) r are = are.2
 
--- what is left of children, and what stands behind the next of them
+-- the children that are left, and those behind the next of them
 abbrev pub AreLeft : List Label → List ℕ → Routes → List RouteCubes → ℕ → Type 0
 AreLeft u prefix ts rs i = AreCubesOfEach u prefix ts (drop i rs)
 
@@ -96,7 +96,7 @@ none_left u prefix ts rs i past left =
 
 -- ---- The state of a route.
 
--- the state of a route is being made: these children are left
+-- the state of a route so far, and the children that are left
 abbrev pub IsBeingSeen : List Label → List ℕ → RouteTree → List RouteCubes → ℕ → List Verdict
     → List Verdict → Type 0
 IsBeingSeen u prefix t rs i old now =
@@ -153,7 +153,7 @@ state_closed u prefix t rs i old now past seen = grind (arith, common_steps, app
 
 -- ---- The receivers of a whole choice.
 
--- whether a cube is matched there
+-- whether the label set matches the route, by its cube
 pub matched_by : (u : List Label) (choice : List ℕ) (t : RouteTree) (r : RouteCubes) (b : Bool)
     → IsWhole (sizes u) choice → AreCubesOf u choice t r
     → b ≡ not (is_no (verdict_at (out-RouteCubes r).cube choice))

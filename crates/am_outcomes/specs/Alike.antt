@@ -1,4 +1,4 @@
--- Routes of two configurations of which the same is seen.
+-- Routes of two configurations that have the same state at every prefix.
 use Rattle.std.specs.Prelude.{◌≡◌, ℕ, List}
 use Rattle.am_universe.specs.Universe.{Label}
 use Rattle.am_config.specs.ConfigFile.{RouteTree, matchers_of, continues_of}
@@ -7,8 +7,8 @@ use Rattle.am_first_sets.specs.RouteCubes.{AreCubesOf}
 use Rattle.am_first_sets.specs.declared.route_cubes.RouteCubes.{RouteCubes}
 use Rattle.am_outcomes.specs.States.{route_state}
 
--- Whichever routes the cubes are of, at each prefix their states are the same, and so are their own
--- verdicts and whether they have `continue`.
+-- Whatever routes the cubes are of, at each prefix both routes have the same state, the same
+-- verdict, and the same `continue`.
 abbrev pub AreAlike : RouteCubes → RouteCubes → Type 0
 AreAlike one other =
     (u : List Label) (prefix : List ℕ) (t t′ : RouteTree)

@@ -1,4 +1,4 @@
--- The parts of what is judged.
+-- The parts of `Judged`.
 use Rattle.std.specs.Prelude.{List}
 use Rattle.am_labels.specs.Space.{Space}
 use Rattle.am_config.specs.ConfigFile.{Configuration}

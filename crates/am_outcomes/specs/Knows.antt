@@ -15,8 +15,8 @@ use Rattle.am_first_sets.specs.RouteCubes.{AreCubesOf, AreCubesOf-prop}
 use Rattle.am_first_sets.specs.declared.route_cubes.RouteCubes.{RouteCubes}
 use Rattle.am_outcomes.specs.States.{route_state}
 
--- The cubes are those of the impossible lists of a space; and those of the routes of a
--- configuration: each has the verdict of its list at each prefix.
+-- The cubes are those of the impossible lists of a space, or those of the routes of a
+-- configuration: each cube has the verdict of its list at each prefix.
 abbrev pub KnowsLists : Space → List MaskedLabels → Type 0
 KnowsLists s cubes =
     (prefix : List ℕ) → IsTrue (admits (sizes s.labels) prefix)
@@ -27,14 +27,14 @@ abbrev pub KnowsConfig : List Label → Configuration → RouteCubes → Type 0
 KnowsConfig u c routes =
     (prefix : List ℕ) → IsTrue (admits (sizes u) prefix) → AreCubesOf u prefix c.root routes
 
--- The same of some configurations, one by one.
+-- The same for some configurations, one by one.
 abbrev pub configs_view : List (Bor Config) → List Configuration
 configs_view configs = map (λ c. config_view c.now) configs
 
 abbrev pub KnowsConfigs : List Label → List Configuration → List RouteCubes → Type 0
 KnowsConfigs u cs routes = AllZip (KnowsConfig u) cs routes
 
--- There is at most one proof of it.
+-- There is at most one proof of this.
 pub KnowsConfigs-prop : (u : List Label) (cs : List Configuration) (routes : List RouteCubes)
     → IsProp (KnowsConfigs u cs routes)
 KnowsConfigs-prop u [] [] = hlevel props
@@ -43,7 +43,7 @@ KnowsConfigs-prop u (c ∷ cs) [] = hlevel props
 KnowsConfigs-prop u (c ∷ cs) (r ∷ routes) =
     hlevel (props, AreCubesOf-prop, KnowsConfigs-prop u cs routes)
 
--- These are two configurations, and at each prefix the same is seen of their routes.
+-- These are two configurations, and their routes have the same state at each prefix.
 abbrev pub AreTwoAlike : List Label → List Configuration → Type 0
 AreTwoAlike u cs =
     (length cs ≡ 2)

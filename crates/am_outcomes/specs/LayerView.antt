@@ -10,8 +10,8 @@ use Rattle.am_config.specs.ConfigFile.{Configuration}
 use Rattle.am_outcomes.specs.Outcomes.{same_fate, with_first, with_fate}
 use Rattle.am_outcomes.specs.States.{HasState, HaveDistinctStates}
 
--- What is kept of prefixes: each behind its state. The states are those of the prefixes, no two of
--- which have the same, and the prefixes are of one length.
+-- Prefixes are kept behind their states. In a layer, the states are those of the prefixes, no two
+-- prefixes have the same state, and all prefixes have the same length.
 abbrev pub state_view : Vec Verdict × List ℕ → List ℕ × List Verdict
 state_view entry = (entry.1, entry.0.items)
 
@@ -23,7 +23,7 @@ pub record IsLayer (s : Space) (cs : List Configuration) (len : ℕ)
   pub each : AllByRecursion (HasState s cs len) (map state_view entries)
   pub apart : HaveDistinctStates (map state_view entries)
 
--- The outcomes so far, and then those of the possible completions of some prefixes.
+-- The outcomes so far, and then those that the possible completions of some prefixes add.
 abbrev pub possible_completions : Space → List ℕ → List (List ℕ)
 possible_completions s prefix =
     filter (is_possible_choice s) (completions (sizes s.labels) prefix)
@@ -34,13 +34,13 @@ gathered s cs found prefixes =
     fold (with_first same_fate) found
     (map (with_fate s cs) (flat_map (possible_completions s) prefixes))
 
--- Some prefixes stand for others: whatever outcomes were found so far, their completions add the
--- same to them as the completions of the others do.
+-- Some prefixes stand for others: whatever outcomes were found so far, the completions of both add
+-- the same to them.
 abbrev pub StandFor : Space → List Configuration → List (List ℕ) → List (List ℕ) → Type 0
 StandFor s cs others prefixes =
     (found : List (List (List ℕ) × List ℕ))
     → gathered s cs found others ≡ gathered s cs found prefixes
 
--- A prefix, longer by one position of a label of some size.
+-- The prefixes that are one position longer than a prefix, for each of some positions.
 abbrev pub longer_by : List ℕ → List ℕ → List (List ℕ)
 longer_by prefix positions = map (λ p. prefix ++ p ∷ []) positions

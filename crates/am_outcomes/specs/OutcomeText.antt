@@ -1,5 +1,4 @@
--- What is written of outcomes, and of those that differ between two configurations. (This project's
--- own.)
+-- The text of outcomes, and of those that differ between two configurations. (This project's own.)
 use Rattle.std.specs.Prelude.{ℕ, ◌<◌, List, [], ◌++◌, map, length, Bool, not, codes, decimal}
 use Rattle.std.specs.Prelude.{slice_get, unwrap_or, ◌==◌, if◌then◌else◌}
 use Rattle.std.specs.List.{filter, flat_map, AllByRecursion}
@@ -21,7 +20,7 @@ name_of c receiver = unwrap_or (slice_get c.receivers receiver) []
 abbrev pub names_of : Configuration → List ℕ → List (List ℕ)
 names_of c receivers = map (name_of c) receivers
 
--- The names in quotes.
+-- The names in quotes, with commas between them.
 -- Source: own choice.
 -- Example: `"db-pager","incident-log"`.
 abbrev pub names_text : List (List ℕ) → List ℕ
@@ -31,12 +30,12 @@ names_text names = texts_behind (codes "") (codes ",") quoted_text names
 abbrev pub AreDeclared : Configuration → List ℕ → Type 0
 AreDeclared c receivers = AllByRecursion (λ r. r < length c.receivers) receivers
 
--- The label set of the first choice, which closes a line.
+-- The label set of the first choice, which ends a line.
 abbrev pub first_text : List Label → List ℕ → List ℕ
 first_text u first = codes " " ++ (set_text u first ++ codes "\n")
 
 -- The line of an outcome under one configuration: the names of its receivers, and the label set of
--- its first choice; and all lines, with what closes them.
+-- its first choice. The text has all lines, and then `# end`.
 -- Source: own choice.
 -- Example: `"db-mail" {team="db"}`.
 abbrev pub outcome_line : List Label → Configuration → List (List ℕ) × List ℕ → List ℕ
@@ -45,7 +44,7 @@ outcome_line u c outcome = names_text (names_of c (under 0 outcome.0)) ++ first_
 abbrev pub outcomes_text : List Label → Configuration → List (List (List ℕ) × List ℕ) → List ℕ
 outcomes_text u c outcomes = flat_map (outcome_line u c) outcomes ++ codes "# end\n"
 
--- An outcome under two configurations is a change where the names of the receivers differ.
+-- An outcome under two configurations is a change if the names of the receivers differ.
 abbrev pub same_names : List (List ℕ) → List (List ℕ) → Bool
 same_names names others = pointwise same_text names others
 
@@ -57,7 +56,7 @@ abbrev pub changes_of : Configuration → Configuration → List (List (List ℕ
     → List (List (List ℕ) × List ℕ)
 changes_of old new outcomes = filter (is_change old new) outcomes
 
--- The line of a change, and all lines, with how many there are.
+-- The line of a change, and the text of all lines, followed by the number of changes.
 -- Source: own choice.
 -- Example: `"db-mail" -> "web-pager" {team="web"}`, and `# 1 change`.
 abbrev pub change_text : List (List ℕ) → List (List ℕ) → List ℕ

@@ -11,7 +11,7 @@ use Rattle.am_eval.specs.Routing.{receivers}
 
 -- What becomes of an alert: its receivers under each of some configurations, by their positions.
 -- Source: Alertmanager configuration reference 0.25, "<route>": `receiver`.
--- Example: under one configuration, of an alert that ends at two routes, both of which have the
+-- Example: if an alert ends at two routes under one configuration, and both routes have the
 -- receiver at position 2, it is the one list of 2 and 2.
 abbrev pub fate : List Configuration → LabelMap → List (List ℕ)
 fate cs set = map (λ c. receivers set c) cs
@@ -20,10 +20,10 @@ fate cs set = map (λ c. receivers set c) cs
 abbrev pub same_fate : List (List ℕ) → List (List ℕ) → Bool
 same_fate fates others = pointwise same_text fates others
 
--- A list of things, each behind a key: with one more at its end, unless its key is there already;
--- and what is left of a list where only the first with each key is kept, in the same order.
+-- A list of items, each behind a key. `with_first` adds one more at the end, unless its key is
+-- there already. `firsts` keeps only the first item with each key, in the same order.
 -- Source: own choice.
--- Example: of a thing with the key 1, one with 2 and another with 1 the first two are left.
+-- Example: of an item with the key 1, one with 2 and another with 1 the first two are kept.
 module _ {K A : Type 0} (same : K → K → Bool) where
   abbrev pub with_first : List (K × A) → K × A → List (K × A)
   with_first firsts one =
@@ -32,12 +32,12 @@ module _ {K A : Type 0} (same : K → K → Bool) where
   abbrev pub firsts : List (K × A) → List (K × A)
   firsts all = fold with_first [] all
 
--- The outcomes that there are in a space: each that some choice has, with the first choice that has
--- it, in declared order of these.
+-- The outcomes of a space: each outcome that some choice has, with the first choice that has it, in
+-- the declared order of these choices.
 -- Source: own choice.
 -- Example: let `team` be `db` or absent, and let alerts of the team `db` go to the receiver at
--- position 1, and others to that at 0. Then the outcomes are 1 with the choice 0, and 0 with the
--- choice 1.
+-- position 1, and others to the one at position 0. Then the outcomes are 1 with the choice 0, and 0
+-- with the choice 1.
 abbrev pub with_fate : Space → List Configuration → List ℕ → List (List ℕ) × List ℕ
 with_fate s cs choice = (fate cs (label_set_of s.labels choice), choice)
 

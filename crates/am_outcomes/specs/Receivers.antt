@@ -1,13 +1,14 @@
--- The receivers of an alert, route by route. Those at the top-level route and below it are the
--- `receivers` of routing, which is proved.
+-- The receivers of an alert, route by route. Those at the top-level route and below it are proved
+-- to be the `receivers` of routing.
 use Rattle.std.specs.Prelude.{ℕ, List, [], ◌∷◌, ◌++◌, not, ◌&&◌, if◌then◌else◌}
 use Rattle.am_universe.specs.LabelSet.{LabelMap}
 use Rattle.am_labels.specs.Matcher.{all_hold}
 use Rattle.am_config.specs.ConfigFile.{RouteTree, Routes, route, no_routes, next_route}
 use Rattle.am_config.specs.ConfigFile.{matchers_of, continues_of}
 
--- The receivers of an alert at a route and below it: none where the alert does not match the route;
--- where it does, those at the children that are tried, or the route's own where these have none.
+-- The receivers of an alert at a route and below it. There are none if the alert does not match the
+-- route. If it does, they are those at the children that are tried, or the route's own receiver if
+-- these have none.
 abbrev pub or_own_receiver : ℕ → List ℕ → List ℕ
 or_own_receiver receiver [] = receiver ∷ []
 or_own_receiver receiver (r ∷ rs) = r ∷ rs
@@ -19,7 +20,7 @@ abbrev mutual
       then or_own_receiver settings.receiver (child_receivers s children)
       else []
 
-  -- of children, in order
+  -- the receivers at children, in order
   pub child_receivers : LabelMap → Routes → List ℕ
   child_receivers s no_routes = []
   child_receivers s (next_route t ts) =

@@ -1,4 +1,4 @@
--- The state at a prefix of a choice: what is known there of the routes and the impossible lists.
+-- The state at a prefix of a choice: what is known there about the routes and the impossible lists.
 use Rattle.std.specs.Prelude.{◌≡◌, ◌≢◌, ◌<◌, ℕ, List, [], ◌∷◌, ◌++◌, map, length, Bool, not, ◌&&◌}
 use Rattle.std.specs.Prelude.{Option, Some, None, IsTrue, ⊤, if◌then◌else◌}
 use Rattle.std.specs.List.{list_any, flat_map, AllByRecursion}
@@ -12,14 +12,14 @@ use Rattle.am_judged_lists.specs.Verdicts.{verdict_of_list}
 use Rattle.am_search.specs.Judge.{is_yes, is_no}
 use Rattle.am_outcomes.specs.declared.limits.TheConstants.{MAX_STATES}
 
--- The verdicts of a route and of those below it that matter at a prefix, in preorder. Below a route
--- that no completion matches none matters; and none behind a sibling that each completion matches
--- and that has no `continue`.
+-- The verdicts of a route, and of the routes below it that matter at a prefix, in preorder. No
+-- route matters below a route that no completion matches, or behind a sibling without `continue`
+-- that each completion matches.
 -- Source: Alertmanager configuration reference 0.25, "<route>": which routes are tried.
--- Example: let `/0` have `team="db"` and `/1` `severity="critical"`, without `continue`; let the
--- label `team` come first, and let `severity` be `critical` or `info`. At the prefix of the team
--- `db` the verdicts are `Yes` and `Yes`, of `/` and `/0`, and at that of another team `Yes`, `No`
--- and `Open`.
+-- Example: let `/0` have `team="db"` and `/1` have `severity="critical"`, both without `continue`.
+-- Let the label `team` come first, and let `severity` be `critical` or `info`. At the prefix with
+-- the team `db` the verdicts are `Yes` and `Yes`, for `/` and `/0`. At that with another team they
+-- are `Yes`, `No` and `Open`.
 abbrev pub is_certain : List Label → List ℕ → RouteTree → Bool
 is_certain u prefix t = is_yes (verdict_of_list u (matchers_of t) prefix) && not (continues_of t)
 
@@ -29,16 +29,16 @@ abbrev mutual
       let verdict = verdict_of_list u settings.matchers prefix in
       verdict ∷ (if is_no verdict then [] else children_state u prefix children)
 
-  -- of children, in order
+  -- the verdicts of children, in order
   pub children_state : List Label → List ℕ → Routes → List Verdict
   children_state u prefix no_routes = []
   children_state u prefix (next_route t ts) =
       route_state u prefix t
       ++ (if is_certain u prefix t then [] else children_state u prefix ts)
 
--- The state at a prefix: the verdicts of the impossible lists, and those of the routes that matter
--- of each of some configurations. Where each completion matches one and the same impossible list,
--- no completion is possible, and there is no state.
+-- The state at a prefix: the verdicts of the impossible lists, and then those of the routes that
+-- matter in each of some configurations. If each completion matches the same impossible list, no
+-- completion is possible, and there is no state.
 abbrev pub lists_state : Space → List ℕ → List Verdict
 lists_state s prefix = map (λ ms. verdict_of_list s.labels ms prefix) s.impossible
 
@@ -47,12 +47,12 @@ state_of s cs prefix =
     if list_any is_yes (lists_state s prefix) then None
     else Some (lists_state s prefix ++ flat_map (λ c. route_state s.labels prefix c.root) cs)
 
--- Prefixes of one length, each with its state; they are apart where no two have the same. There
--- are many states where more prefixes of one length are apart than `MAX_STATES`.
+-- Prefixes of one length, each with its state. States are distinct if no two are the same. There
+-- are many states if more than `MAX_STATES` prefixes of one length have distinct states.
 -- Source: own choice.
--- Example: let children of the top-level route have `continue`, and let each of them ask with `=`
--- of a label of its own, which may have that value or be absent. Where there are 21 of them it is
--- so: the whole choices have 2,097,152 states. Where there are 20 it is not.
+-- Example: let the children of the top-level route have `continue`, and let each of them ask with
+-- `=` about a label of its own, which may have that value or be absent. With 21 of them there are
+-- many states: the whole choices have 2,097,152. With 20 there are not.
 abbrev pub HasState : Space → List Configuration → ℕ → List ℕ × List Verdict → Type 0
 HasState s cs len found =
     IsTrue (admits (sizes s.labels) found.0) × (length found.0 ≡ len)

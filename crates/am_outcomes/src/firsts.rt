@@ -25,7 +25,7 @@ impl<K: Eq + Hash> Model for Firsts<K> {
 }
 
 impl<K: Eq + Hash + Drop> Firsts<K> {
-    /// No key yet.
+    /// Returns a list with no key yet.
     pub(crate) fn empty(alloc: Global) -> Firsts<K>
         ensures { result ≡ [] }
     {
@@ -34,7 +34,7 @@ impl<K: Eq + Hash + Drop> Firsts<K> {
         }
     }
 
-    /// How many keys there are.
+    /// Returns the number of keys.
     pub(crate) fn len(&self) -> usize
         ensures { result ≡ length self.now }
     {
@@ -48,7 +48,7 @@ impl<K: Eq + Hash + Drop> Firsts<K> {
         self.entries.contains_key(key)
     }
 
-    /// Adds a key that is not there, with its choice, behind the others.
+    /// Adds a key that is not there yet, with its choice, at the end.
     pub(crate) fn add(&mut self, key: K, choice: Choice) -> Result<(), AllocError>
         requires { list_any (λ e. K.eq key e.0) self.old ≡ false }
         ensures { OnOk result (self.new ≡ with_first K.eq self.old (key, choice)) }
@@ -57,7 +57,7 @@ impl<K: Eq + Hash + Drop> Firsts<K> {
         Ok(())
     }
 
-    /// The key and the choice at a position.
+    /// Returns the key and the choice at a position.
     pub(crate) fn get(&self, i: usize) -> (&K, &Choice)
         requires { i < length self.now }
         ensures { slice_get self.now i ≡ Some (result.0.now, result.1.now) }

@@ -78,7 +78,7 @@ pub fn find_outcomes(
     }
 }
 
-/// The outcomes of the choices of the last layer.
+/// Returns the outcomes of the choices of the last layer.
 fn outcomes_in(alloc: Global, judged: &Judged<'_>, last: &Layer) -> Result<Outcomes, AllocError>
     requires { IsLayer (judged_space judged.now) (judged_configs judged.now)
         (length (judged_space judged.now).labels) last.now.states }

@@ -1,4 +1,4 @@
-//! What is known of configurations and impossible lists at a prefix, and at a whole choice.
+//! What is known about configurations and impossible lists at a prefix, and at a whole choice.
 
 ghost use Rattle.std.specs.Prelude.{◌≡◌, List, IfOk, IsTrue, option_map};
 ghost use Rattle.std.proofs.Props.{props};
@@ -30,7 +30,8 @@ pub(crate) struct Judged<'a> {
     pub(crate) configs: &'a [&'a Config],
     impossible: Vec<Cube>,
     routes: Vec<RouteCubes>,
-    // Whether these are two, of which the same is seen, so that one is enough to look at.
+    // Whether there are two configurations with the same state at each prefix, so that it is enough
+    // to look at one.
     alike: bool,
     ghost is_universe: { IsUniverse space.now.labels } by { Prim.hlevel props },
     ghost knows_lists: { KnowsLists space.now impossible.items } by { Prim.hlevel props },
@@ -43,7 +44,7 @@ pub(crate) struct Judged<'a> {
 impl<'a> Judged<'a> {
     ghost use Rattle.am_outcomes.specs.JudgedView.{judged_space, judged_configs};
 
-    /// The cubes of a space and of configurations. Fails only if memory runs out.
+    /// Makes the cubes of a space and of configurations. Fails only if memory runs out.
     pub(crate) fn of(
         alloc: Global,
         space: &'a Space,
@@ -53,7 +54,7 @@ impl<'a> Judged<'a> {
         ensures configs { IfOk result (λ judged. judged_configs judged
             ≡ configs_view configs.now) }
     {
-        // What `len` promises tells the proof that the labels are those of a universe.
+        // The contract of `len` tells the proof that the labels are those of a universe.
         prove!(space.universe().len() <= MAX_LABELS);
         let impossible = impossible_cubes(alloc, space)?;
         let routes = cubes_of_configs(alloc, space, configs)?;
@@ -67,8 +68,8 @@ impl<'a> Judged<'a> {
         })
     }
 
-    /// The state at a prefix: the verdict of each impossible list, and that of each route that
-    /// matters. `None` where each completion matches one and the same impossible list. Fails only
+    /// Returns the state at a prefix: the verdict of each impossible list, and that of each route
+    /// that matters. Returns `None` if each completion matches the same impossible list. Fails only
     /// if memory runs out.
     pub(crate) fn state(
         &self,
@@ -102,7 +103,8 @@ impl<'a> Judged<'a> {
         Ok(Some(state))
     }
 
-    /// The receivers of a whole choice under each configuration. Fails only if memory runs out.
+    /// Returns the receivers of a whole choice under each configuration. Fails only if memory runs
+    /// out.
     pub(crate) fn fate(&self, alloc: Global, choice: &Choice) -> Result<Vec<Vec<usize>>, AllocError>
         requires { IsWhole (sizes (judged_space self.now).labels) choice.now }
         ensures { IfOk result (λ fates. fates_view fates.items ≡ fate (judged_configs self.now)
@@ -118,7 +120,7 @@ impl<'a> Judged<'a> {
     }
 }
 
-/// The cubes of the routes of each configuration.
+/// Returns the cubes of the routes of each configuration.
 fn cubes_of_configs(
     alloc: Global,
     space: &Space,
@@ -134,7 +136,8 @@ fn cubes_of_configs(
     Ok(cubes)
 }
 
-/// Whether these are the routes of two configurations, of which the same is seen at every prefix.
+/// Whether these are the routes of two configurations, and are known to have the same state at
+/// every prefix.
 fn are_two_alike(routes: &[RouteCubes]) -> bool
     ensures { (u : List Label) (cs : List Configuration) → KnowsConfigs u cs routes.now
         → IsTrue result → AreTwoAlike u cs }

@@ -1,4 +1,5 @@
-//! From label to label: of all prefixes of one length with one state, the first.
+//! The search from label to label. Of all prefixes of one length with the same state, it keeps the
+//! first.
 //!
 //! A space may have far too many label sets to look at each. So the search goes from label to
 //! label. At each length of a prefix it has a *layer*: prefixes of this length, each with its
@@ -36,8 +37,8 @@ use am_search::Verdict;
 use am_universe::{Choice, Position};
 use std::alloc::{AllocError, Global};
 
-/// Of the whole choices that are possible, the first with each state. `None` where there are too
-/// many states at some length. Fails only if memory runs out.
+/// Returns the last layer: of the whole choices that are possible, the first with each state.
+/// Returns `None` if there are too many states at some length. Fails only if memory runs out.
 pub(crate) fn last_layer(alloc: Global, judged: &Judged<'_>) -> Result<Option<Layer>, AllocError>
     ensures layer { IfOk result (λ found. IfSome found (λ layer.
         IsLayer (judged_space judged.now) (judged_configs judged.now)
@@ -77,7 +78,8 @@ impl Layer {
         }
     }
 
-    /// The layer of the prefixes that are longer by one position of a label, which has this size.
+    /// Returns the layer of the prefixes that are longer by one position of a label, which has this
+    /// size. Returns `None` if there are too many states.
     fn next(
         &self,
         alloc: Global,
@@ -109,7 +111,7 @@ impl Layer {
     }
 
     /// Adds the prefixes that are longer than a prefix by one position of the next label, which has
-    /// this size. `false` where there are too many states.
+    /// this size. Returns `false` if there are too many states.
     fn extend(
         &mut self,
         alloc: Global,
@@ -144,8 +146,8 @@ impl Layer {
         Ok(true)
     }
 
-    /// Adds a prefix, unless it has no state, or its state is there. `false` where there are too
-    /// many states.
+    /// Adds a prefix, unless it has no state, or its state is there already. Returns `false` if
+    /// there are too many states.
     fn add(
         &mut self,
         alloc: Global,

@@ -8,20 +8,20 @@
 //! for each outcome, or for each one that differs between two configurations.
 #![tactic(auto)]
 
-// How much there may be.
+// The limit of the search.
 pub mod limits;
 
 // The first choice of each key.
 mod firsts;
 
-// What is seen of configurations and of impossible lists at a prefix.
+// What is known about configurations and impossible lists at a prefix.
 mod judged;
 mod route_walk;
 
-// From label to label.
+// The search from label to label.
 mod layers;
 
-// What was found, and its text.
+// The outcomes that are found, and their text.
 mod found;
 mod outcome_text;
 

@@ -130,7 +130,7 @@ fn push_names(text: &mut String, config: &Config, receivers: &[usize]) -> Result
     Ok(())
 }
 
-/// Adds the label set of the first choice, which closes a line.
+/// Adds the label set of the first choice, which ends a line.
 fn push_first(text: &mut String, universe: &Universe, first: &Choice) -> Result<(), AllocError>
     requires { IsWhole (sizes universe.now) first.now }
     ensures { OnOk result (string_bytes text.new

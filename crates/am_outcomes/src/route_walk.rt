@@ -18,9 +18,9 @@ use am_search::Verdict;
 use am_universe::Choice;
 use std::alloc::AllocError;
 
-/// Adds the verdicts of a route and of those below it that matter at a prefix, and answers that of
-/// the route. No route below an excluded one matters, and none behind a sibling that is certain and
-/// has no `continue`. Fails only if memory runs out.
+/// Adds the verdicts of a route, and of the routes below it that matter at a prefix. Returns the
+/// verdict of the route. No route below an excluded one matters, and none behind a sibling that is
+/// certain and lacks `continue`. Fails only if memory runs out.
 pub(crate) fn push_state(
     route: &RouteCubes,
     prefix: &Choice,
@@ -45,8 +45,9 @@ pub(crate) fn push_state(
     Ok(verdict)
 }
 
-/// Adds the receivers of a whole choice at a route and below it: that of each route where its label
-/// set ends, in order. The answer is whether it matches the route. Fails only if memory runs out.
+/// Adds the receivers of a whole choice at a route and below it: the receiver of each route at
+/// which its label set ends, in order. Returns whether the label set matches the route. Fails only
+/// if memory runs out.
 pub(crate) fn push_receivers(
     route: &RouteCubes,
     choice: &Choice,
@@ -73,9 +74,9 @@ pub(crate) fn push_receivers(
     Ok(true)
 }
 
-/// Whether what is seen of the routes of two configurations is known to be the same at every
-/// prefix: the routes stand in the same tree, with the same matchers and with `continue` at the
-/// same places, whatever their receivers are.
+/// Whether the routes of two configurations are known to have the same state at every prefix: the
+/// trees have the same shape, and the same cube and the same `continue` at each route, whatever the
+/// receivers are.
 pub(crate) fn are_alike(one: &RouteCubes, other: &RouteCubes) -> bool
     ensures { IsTrue result → AreAlike one.now other.now }
 {

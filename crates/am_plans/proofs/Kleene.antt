@@ -1,4 +1,4 @@
--- The logic of three values seen by its two truths: each of them is that of two values.
+-- The logic of three values, seen by its two truths: each of them has the logic of two values.
 use Rattle.std.proofs.Common.{◌≡◌, ℕ, not, ◌&&◌, ◌||◌, List, [], ◌∷◌, map, cond, refl, ap}
 use Rattle.std.proofs.Common.{◌∙◌}
 use Rattle.std.specs.List.{list_all}
@@ -36,7 +36,7 @@ passes_or m v w = refl
 
 -- ---- The joins of lists.
 
--- of the verdicts of some things
+-- over the verdicts of some items
 pub passes_each : {X : Type 0} (m : Certainty) (verdict : X → Verdict) (xs : List X)
     → passes m (all_of (map verdict xs)) ≡ list_all (λ x. passes m (verdict x)) xs
 passes_each May verdict [] = refl
@@ -56,7 +56,7 @@ passes_some_way m verdict (way ∷ ways) =
     ∙ ap (λ b. b || passes m rest) (passes_each m verdict way)
     ∙ ap (λ b. list_all (λ l. passes m (verdict l)) way || b) (passes_some_way m verdict ways)
 
--- a simple part may be true, or must be, where its condition says so of the literals
+-- a simple part may be true, or must be, exactly if its condition says so of the literals
 pub passes_simple : (m : Certainty) (u : List Label) (w : World) (simple : Simple) (prefix : List ℕ)
     → passes m (verdict_of_simple u w simple prefix)
     ≡ some_way_holds (λ l. passes m (verdict_of_literal u prefix l)) (conditions_of w simple)

@@ -24,7 +24,7 @@ or_turned a b = refl
 
 -- ---- Tests over lists.
 
--- some that is kept passes where some is to be kept and passes
+-- some kept member passes exactly if some member is to be kept and passes
 pub any_kept : {X : Type 0} (test keep : X → Bool) (xs : List X)
     → list_any test (filter keep xs) ≡ list_any (λ x. keep x && test x) xs
 any_kept test keep [] = refl
@@ -33,7 +33,7 @@ any_kept test keep (x ∷ xs) = elim (cases_Bool (keep x)) [
   | inr e ↦ rw e (any_kept test keep xs)
 ]
 
--- where each test asks for the same too
+-- a condition that each test also requires is required once
 pub any_and : {X : Type 0} (a : Bool) (test : X → Bool) (xs : List X)
     → list_any (λ x. a && test x) xs ≡ (a && list_any test xs)
 any_and true test xs = refl

@@ -1,4 +1,4 @@
--- The judge of a question that is one list of matchers is exact, where nothing is impossible.
+-- The judge of a question that is one list of matchers is exact, if nothing is impossible.
 use Rattle.std.proofs.Common.{◌≡◌, ℕ, List, [], map, not, ◌&&◌, ap}
 use Rattle.std.proofs.Common.{sym, ◌∙◌, refl}
 use Rattle.std.specs.Prelude.{IsTrue}
@@ -24,13 +24,13 @@ use Rattle.am_plans.specs.Verdicts.{verdict_of_question, verdict_of}
 use Rattle.am_judged_lists.proofs.ListLemmas.{and_true}
 use Rattle.am_plans.proofs.Soundness.{judges}
 
--- the or of one way, which is the and of one literal; and that it is possible
+-- the `or` of one way, which is the `and` of one literal, and `Yes` for being possible
 one_way : (v : Verdict) → kleene_and (kleene_or (kleene_and v Yes) No) Yes ≡ v
 one_way Yes = refl
 one_way No = refl
 one_way Open = refl
 
--- with verdicts that are those of the question at each prefix that the space admits
+-- with the verdicts of the question at each prefix that the space admits
 module _ (s : Space) (w : World) (ms : List Condition) (none : s.impossible ≡ [])
     (verdict : List ℕ → Verdict)
     (same : (prefix : List ℕ) → IsTrue (admits (sizes s.labels) prefix)

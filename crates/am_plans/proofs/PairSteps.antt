@@ -79,7 +79,7 @@ target_at u targets rules i rows rule same at_rows at_rule =
     (sym (ap (option_map items) at_rows)
     ∙ same_at items (λ (rule : Rule). map (row_of u) rule.target) targets rules i rule same at_rule)
 
--- and with the rows of the alert's values
+-- the rows of a target side, and those of the alert's values
 pub rows_of_pair : (u : List Label) (targets : List (Vec TruthRow Global)) (rules : List Rule)
     (i : ℕ) (rows : Vec TruthRow Global) (rule : Rule) (firing : LabelMap)
     (front values : List TruthRow) (names : List (List ℕ)) → AreTargets u targets rules
@@ -146,7 +146,7 @@ pair_truth u w verdict prefix m sources list pair rule firing are at_rule at_ale
 
 -- ---- All pairs.
 
--- by the lists of pairs and by what they ask of their source sides
+-- pairs by their lists, and by what they require of their source sides
 pub some_of_pairs : {L : Type 0} (verdict : L → List ℕ → Verdict) (prefix : List ℕ) (m : Certainty)
     (sources : List L) (pairs : List (PairList L))
     → some_pair (passes m) (side_fails verdict prefix m sources)
@@ -181,7 +181,7 @@ pairs_truth u w verdict prefix m lists pairs of_lists of_sides same =
 
 -- ---- One pair after the other.
 
--- no pair inhibits; one does
+-- two cases: no pair inhibits, or one does
 pub no_pair : (test : Verdict → Bool) (fails : PairSide → Bool) (vs : List Verdict)
     (sides : List PairSide)
     → ((j : ℕ) (v : Verdict) (side : PairSide) → slice_get vs j ≡ Some v
@@ -206,14 +206,14 @@ this_pair test fails (v ∷ vs) (other ∷ sides) (suc i) side h found at e =
     or_right (test v && fails other) (some_pair test fails vs sides)
     (this_pair test fails vs sides i side (omega arith) found at e)
 
--- none of the pairs before a place inhibits
+-- no pair before the index `i` inhibits
 abbrev pub NoPairBefore : (Verdict → Bool) → (PairSide → Bool) → List Verdict → List PairSide → ℕ
     → Type 0
 NoPairBefore test fails vs sides i =
     (j : ℕ) (v : Verdict) (side : PairSide) → j < i → slice_get vs j ≡ Some v
     → slice_get sides j ≡ Some side → (test v && fails side) ≡ false
 
--- none from a place on: there the verdicts pass nowhere, or the pairs end
+-- nor does one from `from` on: up to `to` no verdict passes, and there the pairs end
 pub no_pair_to_end : (test : Verdict → Bool) (fails : PairSide → Bool) (vs : List Verdict)
     (sides : List PairSide) (from to : ℕ) → NoPairBefore test fails vs sides from
     → NoneBetween test vs from to → (length vs ≤ to) ⊎ (length sides ≤ to)

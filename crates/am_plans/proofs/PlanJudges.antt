@@ -1,5 +1,5 @@
--- A question with cubes, over a space, is a judge, where its truths are those of the verdict of being
--- an answer.
+-- A question with cubes is a judge over a space, if its truths are those of the verdict that a
+-- choice is an answer.
 use Rattle.std.proofs.Common.{◌≡◌, ℕ, List, not, ◌&&◌, map, ap, sym, ◌∙◌}
 use Rattle.std.specs.Prelude.{IsTrue}
 use Rattle.std.specs.List.{list_all, list_any}

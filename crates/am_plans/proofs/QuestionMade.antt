@@ -1,5 +1,5 @@
--- A question with its lists is true as the question is, where what is seen of the world is what it
--- has.
+-- A question with its lists has the truth of the question, if what is seen of the world is what the
+-- world has.
 use Rattle.std.proofs.Common.{◌≡◌, ℕ, List, Bool, ◌&&◌, refl, sym, ap, ◌∙◌}
 use Rattle.std.specs.List.{list_any}
 use Rattle.am_universe.specs.Universe.{Label}
@@ -31,7 +31,7 @@ module _ (u : List Label) (w : World) (prefix : List ℕ) (m : Certainty) where
   abbrev top : Literal
   top = matching (matchers_of w.config.root)
 
-  -- what an alert comes to
+  -- a route or a receiver that an alert comes to
   pub comes_to_route : (reach : Reach) (path : List ℕ)
       → comes_from (route_seen u prefix w.config.root) m (Route reach path)
       ≡ passes m (verdict_of_simple u w (questions.Route reach path) prefix)
@@ -51,7 +51,7 @@ module _ (u : List Label) (w : World) (prefix : List ℕ) (m : Certainty) where
       ∙ any_and (says top) (λ path. some_way_holds says (ways path)) paths
       ∙ ap (λ b. says top && b) (sym (some_way-joined says ways paths)))
 
-  -- the property that a question asks of
+  -- the property that a question asks about
   pub has_served : (seen : WorldSeen) (property : Property)
       → Serves u w prefix seen (Part (questions.Is property))
       → has_seen seen m property ≡ passes m (verdict_of_simple u w (questions.Is property) prefix)

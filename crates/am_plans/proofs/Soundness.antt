@@ -1,5 +1,5 @@
--- The verdict of a question agrees with its truth at each completion, and says it at a whole choice;
--- and so does the verdict of being an answer, which makes a judge of it.
+-- The verdict of a question agrees with its truth at each completion, and decides it at a whole
+-- choice. So does the verdict that the choice is an answer, which makes it a judge.
 use Rattle.std.proofs.Common.{◌≡◌, ℕ, Bool, true, false, not, ◌&&◌, ◌||◌, List, [], ◌∷◌, map}
 use Rattle.std.proofs.Common.{cond, inl, inr, refl, ap, sym, ◌∙◌, subst}
 use Rattle.std.proofs.lemmas.Bool.{cases_Bool, and_left, and_right, or_left, or_right}
@@ -35,7 +35,7 @@ Agrees May_be Yes b = b ≡ true
 Agrees May_be No b = b ≡ false
 Agrees May_be Open b = May_be
 
--- what none of some lists may match is possible where each of them is not matched
+-- each list is not matched exactly if no list is matched
 pub none_matches : {X : Type 0} (matches : X → Bool) (xs : List X)
     → list_all (λ x. not (matches x)) xs ≡ not (list_any matches xs)
 none_matches matches [] = refl
@@ -66,7 +66,7 @@ module _ (May_be : Type 0) where
   or_agrees Open No a b h k = h
   or_agrees Open Open a b h k = h
 
-  -- the and of a list of things, and the or of such ands
+  -- the `and` of a list of items, and the `or` of such a list
   module _ {X : Type 0} (verdict : X → Verdict) (truth : X → Bool)
       (each : (x : X) → Agrees May_be (verdict x) (truth x)) where
     all_agrees : (xs : List X) → Agrees May_be (all_of (map verdict xs)) (list_all truth xs)
@@ -81,7 +81,7 @@ module _ (May_be : Type 0) where
         or_agrees (verdict x) (any_of (map verdict xs)) (truth x) (list_any truth xs) (each x)
         (any_agrees xs)
 
-  -- where the verdict of each list at a prefix agrees with whether a choice matches the list
+  -- if the verdict of each list at a prefix agrees with whether a choice matches the list
   module _ (u : List Label) (w : World) (prefix c : List ℕ)
       (lists : (ms : List Condition)
       → Agrees May_be (verdict_of_list u ms prefix) (matches_at u ms c)) where
@@ -178,7 +178,7 @@ module _ (s : Space) (w : World) (q : Question) where
   verdict_says_truth c whole =
       says_truth (verdict_of s w q c) (is_answer s w q c) (at_whole c whole)
 
-  -- with truths and verdicts that are those of the question
+  -- with the truths and verdicts of the question
   module _ (truth : List ℕ → Bool) (verdict : List ℕ → Verdict)
       (truths : (c : List ℕ) → IsWhole (sizes s.labels) c → truth c ≡ is_answer s w q c)
       (verdicts : (prefix : List ℕ) → IsTrue (admits (sizes s.labels) prefix)

@@ -1,4 +1,4 @@
--- The worked example of verdicts in a space: its lists by their rows, which compute.
+-- The worked example of verdicts in a space. Its list is replaced by its rows, which compute.
 use Rattle.std.proofs.Common.{◌≡◌, ℕ, List, [], ◌∷◌, refl, ap}
 use Rattle.am_universe.specs.Universe.{Label, IsUniverse, sizes}
 use Rattle.am_universe.specs.Completions.{completions}

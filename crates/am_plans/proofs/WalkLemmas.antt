@@ -33,7 +33,8 @@ use Rattle.am_eval.proofs.SomeWay.{some_way-literal, some_way-front, some_way-jo
 
 -- ---- The parts of a walk over siblings, for any truth of literals.
 
--- a route is matched; is not; and does not end the walk, where it is not or its siblings are tried
+-- a route is matched; it is not matched; it does not end the walk: it is not matched, or has
+-- `continue`
 abbrev is_matched : (Literal → Bool) → RouteTree → Bool
 is_matched holds t = holds (matching (matchers_of t))
 
@@ -43,7 +44,7 @@ is_passed_by holds t = holds (not_matching (matchers_of t))
 abbrev goes_on : (Literal → Bool) → RouteTree → Bool
 goes_on holds t = is_passed_by holds t || continues_of t
 
--- the target is reached by the child at a position
+-- the target is reached through the child at a position
 abbrev comes_by_child : (Literal → Bool) → Target → ℕ → RouteTree → Bool
 comes_by_child holds target i t =
     is_matched holds t && some_way_holds holds (ways_to (target_below target i) t)
@@ -53,8 +54,8 @@ abbrev some_reached : (ℕ → RouteTree → Bool) → (RouteTree → Bool) → 
 some_reached test goes i [] = false
 some_reached test goes i (t ∷ ts) = test i t || (goes t && some_reached test goes (i + 1) ts)
 
--- What a walk of children says: the target is reached by one of them; or the route itself is the
--- end that is looked for, none was matched before, and none of these is.
+-- What a walk over children says. The target is reached through one of them; or the route itself is
+-- the end that is looked for, no child was matched before, and none of these is matched.
 step : (below end none passed continues later last : Bool)
     → (below || cond passed (later || (none && (end && last)))
     (continues && (later || (false && (end && last)))))
@@ -92,7 +93,7 @@ walk_parts u prefix m receiver target none i (t ∷ ts) =
 
 -- ---- A target at a path: only the child on the way is looked at.
 
--- a test of the child at a position, where there is one
+-- a test of the child at a position, if there is one
 abbrev at_child : (RouteTree → Bool) → Option RouteTree → Bool
 at_child test None = false
 at_child test (Some t) = test t
@@ -126,7 +127,7 @@ one_reached test goes p i (suc k) (t ∷ ts) at other =
     ∙ ap (λ b. goes t && b) (one_reached test goes p (i + 1) k ts (omega (arith, at)) other)
     ∙ and_in (goes t) (list_all goes (take k ts)) (at_child (test p) (slice_get ts k))
 
--- siblings are passed where each of them goes on
+-- siblings are passed exactly if each of them goes on
 passed_where : (holds : Literal → Bool) (ts : List RouteTree)
     → list_all holds (stopped_by_none ts) ≡ list_all (goes_on holds) ts
 passed_where holds [] = refl
@@ -165,7 +166,7 @@ at_child_same : (f g : RouteTree → Bool) → ((t : RouteTree) → f t ≡ g t)
 at_child_same f g same None = refl
 at_child_same f g same (Some t) = same t
 
--- what leads elsewhere is reached by no other child
+-- a target below one child is not reached through another child
 elsewhere : (holds : Literal → Bool) (reach : Reach) (p j : ℕ) (path : List ℕ) (t : RouteTree)
     → (p ≡ j → ⊥) → comes_by_child holds (Route reach (p ∷ path)) j t ≡ false
 elsewhere holds reach p j path t differs =
@@ -176,7 +177,7 @@ there : (holds : Literal → Bool) (reach : Reach) (p : ℕ) (path : List ℕ) (
     ≡ (is_matched holds t && some_way_holds holds (ways_below reach t path))
 there holds reach p path t = rw (eq-eqb p p refl) refl
 
--- a walk to where the target's path leads, which is below a child
+-- a walk to a target whose path leads below a child
 to_path : (holds : Literal → Bool) (reach : Reach) (settings : RouteSettings) (children : Routes)
     (p : ℕ) (path : List ℕ)
     → some_reached (comes_by_child holds (Route reach (p ∷ path))) (goes_on holds) 0
@@ -202,7 +203,7 @@ never_reached holds i (t ∷ ts) =
 
 -- ---- A receiver: each path below is one of a child.
 
--- an alert that matches a route ends at a path below it, and there is the receiver
+-- an alert that matches a route ends at a path below it, and the route there has the receiver
 abbrev ends_there : (Literal → Bool) → ℕ → RouteTree → List ℕ → Bool
 ends_there holds receiver t path =
     is_receiver receiver (route_at t path) && some_way_holds holds (ways_below Ends t path)
@@ -221,7 +222,7 @@ join_children : (passed matched below goes later : Bool)
 join_children true matched below true later = refl
 join_children passed matched below goes later = refl
 
--- the paths below one child, which stands behind the siblings in front
+-- the paths below one child, which comes after the siblings in `front`
 by_child : (holds : Literal → Bool) (receiver : ℕ) (settings : RouteSettings) (children : Routes)
     (front : List RouteTree) (t : RouteTree) (path : List ℕ)
     → slice_get (list_of children) (length front) ≡ Some t

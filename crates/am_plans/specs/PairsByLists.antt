@@ -1,4 +1,4 @@
--- Whether a pair of a rule and a firing alert inhibits, by lists that have verdicts, and by the
+-- Whether a pair of a rule and a firing alert inhibits: by lists that have verdicts, and by the
 -- definitions.
 use Rattle.std.specs.Prelude.{◌≡◌, ℕ, List, [], ◌∷◌, map, slice_get, Bool, true, false, not, ◌&&◌}
 use Rattle.std.specs.Prelude.{◌||◌, Option, Some, None}
@@ -21,8 +21,9 @@ use Rattle.am_judged_lists.specs.GroupView.{verdicts_in}
 use Rattle.am_judged_lists.specs.Certainty.{passes, other}
 use Rattle.am_plans.specs.Verdicts.{verdict_of_literal}
 
--- The source side is not matched; where there is no list for it, nothing is asked. What a pair asks
--- of the source side, if it does. And whether a pair inhibits, by its lists.
+-- `source_fails`: the source side does not match; without a list for it, this is true.
+-- `side_fails`: if the pair requires that its source side does not match, it does not. `pair_by`:
+-- the pair inhibits, by its lists.
 abbrev pub source_fails : {L : Type 0} → (L → List ℕ → Verdict) → List ℕ → Certainty → Option L
     → Bool
 source_fails verdict prefix m None = true
@@ -38,7 +39,8 @@ abbrev pub pair_by : {L : Type 0} → (L → List ℕ → Verdict) → List ℕ 
 pair_by verdict prefix m sources pair =
     passes m (verdict pair.list prefix) && side_fails verdict prefix m sources pair.side
 
--- Of some pairs one inhibits: the verdict of its list passes, and its source side is not matched.
+-- One of some pairs inhibits: the verdict of its list passes, and what it requires of its source
+-- side is true.
 abbrev pub some_pair : (Verdict → Bool) → (PairSide → Bool) → List Verdict → List PairSide → Bool
 some_pair test fails [] sides = false
 some_pair test fails (v ∷ vs) [] = false
@@ -51,7 +53,8 @@ inhibited_by verdict prefix lists m =
     some_pair (passes m) (side_fails verdict prefix m lists.sources.items)
     (verdicts_in verdict prefix lists.lists) lists.sides.items
 
--- These are the lists of the source sides of rules, in order; and the rows of their target sides.
+-- `AreSources`: the lists have the verdicts of the source sides of the rules, in order.
+-- `AreTargets`: these are the rows of the target sides of the rules, in order.
 abbrev pub AreSources : {L : Type 0} → List Label → (L → List ℕ → Verdict) → List ℕ → List L
     → List Rule → Type 0
 AreSources u verdict prefix sources rules =

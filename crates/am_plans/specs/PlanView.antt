@@ -1,4 +1,4 @@
--- What a clause reads of a plan: when choices are answers by its cubes, and its verdicts.
+-- What clauses read of a plan: whether choices are answers by its cubes, and its verdicts.
 use Rattle.std.specs.Prelude.{ℕ, List, Bool, not, ◌&&◌, if◌then◌else◌}
 use Rattle.std.specs.List.{list_any}
 use Rattle.am_universe.specs.Universe.{Label, sizes}
@@ -14,8 +14,8 @@ use Rattle.am_judged_lists.specs.declared.certainty.Certainty.TheVariants.{May, 
 use Rattle.am_judged_lists.specs.Certainty.{passes, other}
 use Rattle.am_plans.specs.QuestionByLists.{truth_by}
 
--- Whether a label set is possible, by the cubes of the impossible lists: it is certain where no
--- cube may match, and not excluded where none must.
+-- Whether a label set is possible, by the cubes of the impossible lists: this is certain if no cube
+-- may match, and not excluded if no cube must match.
 abbrev pub possible_by : Group MaskedLabels → List ℕ → Certainty → Bool
 possible_by impossible prefix m =
     not (list_any (passes (other m)) (verdicts_in verdict_at prefix impossible))
@@ -26,7 +26,8 @@ abbrev pub is_answer_by : JudgedQuestion MaskedLabels → Group MaskedLabels →
 is_answer_by judged impossible prefix m =
     truth_by verdict_at prefix judged m && possible_by impossible prefix m
 
--- The verdict, where it is known whether something is not excluded and whether it is certain.
+-- `verdict_of_truths`: the verdict, if it is known whether something is not excluded, and whether
+-- it is certain. `judged_verdict`: the verdict that a choice is an answer, by cubes.
 abbrev pub verdict_of_truths : Bool → Bool → Verdict
 verdict_of_truths may must = if not may then No else if must then Yes else Open
 
@@ -35,11 +36,11 @@ judged_verdict judged impossible prefix =
     verdict_of_truths (is_answer_by judged impossible prefix May)
     (is_answer_by judged impossible prefix Must)
 
--- A whole choice is true where the verdict is `Yes`.
+-- A whole choice is true if its verdict is `Yes`.
 abbrev pub judged_truth : JudgedQuestion MaskedLabels → Group MaskedLabels → List ℕ → Bool
 judged_truth judged impossible c = is_yes (judged_verdict judged impossible c)
 
--- With these truths and verdicts it meets the laws of a judge, over these labels.
+-- These truths and verdicts meet the laws of a judge, over these labels.
 abbrev pub IsJudgeOver : List Label → JudgedQuestion MaskedLabels → Group MaskedLabels → Type 0
 IsJudgeOver u judged impossible =
     IsJudge (sizes u) (judged_truth judged impossible) (judged_verdict judged impossible)

@@ -7,8 +7,8 @@ use Rattle.am_search.specs.Judge.{IsJudge}
 use Rattle.am_plans.specs.declared.plan.Plan.{Plan}
 use Rattle.am_plans.specs.PlanView.{judged_verdict, judged_truth}
 
--- The space of a plan, its labels and their sizes, its verdicts, which choices are
--- true, and that it meets the laws of a judge.
+-- The space of a plan, its labels and their sizes, its verdicts, which choices are true, and that
+-- it meets the laws of a judge.
 abbrev pub plan_space : Plan → Space
 plan_space plan = plan.space.now
 

@@ -10,7 +10,8 @@ use Rattle.am_judged_lists.specs.Certainty.{passes, other}
 use Rattle.am_plans.specs.Target.{target_view}
 use Rattle.am_plans.specs.WorldByLists.{WorldSeen, has_seen, world_seen}
 
--- One level of a question, with the truth of its parts already known; and the whole question.
+-- `question_step`: one level of a question, if the truth of its parts is known. `question_by`: the
+-- whole question.
 abbrev pub question_step : {L : Type 0} → (L → List ℕ → Verdict) → List ℕ → WorldSeen
     → QuestionLists-F L (Certainty → Bool) → Certainty → Bool
 question_step verdict prefix seen (QuestionLists-F.Is property) m = has_seen seen m property
@@ -26,7 +27,7 @@ abbrev pub question_by : {L : Type 0} → (L → List ℕ → Verdict) → List 
 question_by {L = L} verdict prefix seen =
     fold-QuestionLists L (Certainty → Bool) (question_step verdict prefix seen)
 
--- The same, where the lists of the world and those of the question stand together.
+-- The same, with the lists of the world and those of the question together.
 abbrev pub truth_by : {L : Type 0} → (L → List ℕ → Verdict) → List ℕ → JudgedQuestion L → Certainty
     → Bool
 truth_by verdict prefix judged =

@@ -11,9 +11,9 @@ use Rattle.am_plans.specs.Verdicts.{kleene_not, verdict_of_literal}
 use Rattle.am_plans.specs.Target.{Target, target_below, is_end_here, is_entered, is_nothing}
 use Rattle.am_plans.specs.Target.{ways_to}
 
--- The verdict of its list; whether it has `continue`; and whether an alert that matches it comes
--- from there to a target. `Must`: every completion that matches it does. `May`: the verdicts do not
--- exclude it, though it may be that no completion does.
+-- The verdict of the route's list, whether the route has `continue`, and whether an alert that
+-- matches it comes from there to a target. `Must`: every completion that matches it does. `May`:
+-- the verdicts do not exclude it, but possibly no completion does.
 pub record RouteSeen : Type 0 where
   pub verdict : Verdict
   pub continues : Bool
@@ -28,10 +28,11 @@ route_seen u prefix t = record {
       some_way_holds (λ l. passes m (verdict_of_literal u prefix l)) (ways_to target t);
 }
 
--- The same, child by child. An alert comes to the target through this child, if it matches it; or
--- through a later one, if it does not match this child or this child has `continue`. If it matches
--- no child, the route itself is the end. `i` is the position of the first child in the list, and
--- `none` says that no child before it was matched.
+-- The same, child by child. An alert comes to the target through the first child if it matches that
+-- child and comes to the target from there. It can come through a later child if it does not match
+-- the first one, or if the first one has `continue`. If it matches no child, the route itself is
+-- the end. `i` is the position of the first child in the list, and `none` says that no child before
+-- it was matched.
 abbrev pub comes_by : Certainty → ℕ → Target → Bool → ℕ → List RouteSeen → Bool
 comes_by m receiver target none i [] = none && is_end_here target receiver
 comes_by m receiver target none i (r ∷ rs) =

@@ -8,7 +8,7 @@ use Rattle.am_eval.specs.Conditions.{Literal, ways_below, paths_to}
 use Rattle.am_plans.specs.declared.target.Target as kept
 use Rattle.am_plans.specs.declared.target.Target.TheVariants as kept_is
 
--- No route; an end that has this receiver; the route at this path, reached so.
+-- No route, an end that has this receiver, or the route at this path, reached in this way.
 pub data Target : Type 0 where
   Nothing : Target
   Receiver : ℕ → Target
@@ -20,15 +20,15 @@ target_view kept_is.Nothing = Nothing
 target_view (kept_is.Receiver receiver) = Receiver receiver
 target_view (kept_is.Route reach path) = Route reach path.now
 
--- What is left of a target at the child at position `i`. A path that leads to another child, or no
--- further, leaves nothing.
+-- The target as seen from the child at position `i`. A path that leads to another child, or ends at
+-- this route, leaves nothing.
 abbrev pub target_below : Target → ℕ → Target
 target_below (Route reach []) i = Nothing
 target_below (Route reach (p ∷ path)) i = if p == i then Route reach path else Nothing
 target_below target i = target
 
--- This route, with this receiver, is an end that is looked for; it is the one that is to be
--- entered; and nothing is looked for.
+-- `is_end_here`: this route, which has this receiver, is an end that is looked for. `is_entered`:
+-- this route is the one that is to be entered. `is_nothing`: nothing is looked for.
 abbrev pub is_end_here : Target → ℕ → Bool
 is_end_here (Receiver other) receiver = receiver == other
 is_end_here (Route reach (p ∷ path)) receiver = false

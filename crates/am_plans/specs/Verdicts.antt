@@ -1,5 +1,5 @@
--- The verdict of a question at a prefix of a choice. That of each list of matchers is exact, and
--- the logic of three values joins them as the question and its conditions join the lists.
+-- The verdict of a question at a prefix of a choice. The verdict of each list of matchers is exact.
+-- The logic of three values joins them as the question and its conditions join the lists.
 use Rattle.std.specs.Prelude.{ℕ, List, [], ◌∷◌, map, if◌then◌else◌}
 use Rattle.am_universe.specs.Universe.{Label}
 use Rattle.am_labels.specs.Space.{Space}
@@ -11,9 +11,9 @@ use Rattle.am_eval.specs.Question.{Simple, Question}
 use Rattle.am_eval.specs.World.{World}
 use Rattle.am_eval.specs.Conditions.{Literal, not_matching, conditions_of}
 
--- The logic of three values: `not` exchanges `Yes` and `No`; `and` is `No` where one of its parts
--- is, else `Open` where one is, else `Yes`; `or` is `Yes` where one of its parts is, else `Open`
--- where one is, else `No`.
+-- The logic of three values. `not` exchanges `Yes` and `No`. `and` is `No` if one of its parts is,
+-- otherwise `Open` if one is, and otherwise `Yes`. `or` is `Yes` if one of its parts is, otherwise
+-- `Open` if one is, and otherwise `No`.
 -- Source: S. C. Kleene, Introduction to Metamathematics, 1952, section 64, the strong tables.
 -- Example: `kleene_and Open No` is `No`, `kleene_or Open No` is `Open`, and `kleene_not Open` is
 -- `Open`.
@@ -58,17 +58,17 @@ verdict_of_literal u prefix l =
 -- ways of its condition.
 -- Source: own choice.
 -- Example: `severity` may be `critical` or `warning`; `/0` has the matcher `severity="critical"`
--- and lacks `continue`, and `/1` has `team="db"`. At a prefix that chooses the team `db` and no
--- severity `ends /1` is `Open`; at one that chooses the team `web` and no severity it is `No`.
+-- and no `continue`, and `/1` has `team="db"`. At a prefix that chooses the team `db` and no
+-- severity, `ends /1` is `Open`. At one that chooses the team `web` and no severity, it is `No`.
 abbrev pub verdict_of_simple : List Label → World → Simple → List ℕ → Verdict
 verdict_of_simple u w simple prefix =
     any_of (map (λ way. all_of (map (verdict_of_literal u prefix) way)) (conditions_of w simple))
 
 -- The verdict of a question on the label sets of a prefix: its `not`, `and` and `or` are those of
--- three values. Which label sets are possible is not asked.
+-- three values. It does not say which label sets are possible.
 -- Source: own choice.
--- Example: where `team="db"` is `Open`, `{team="db"} or not {team="db"}` is `Open` too, though it
--- is true of every label set.
+-- Example: if `team="db"` is `Open`, `{team="db"} or not {team="db"}` is `Open` too, although it is
+-- true of every label set.
 abbrev pub verdict_of_question : List Label → World → Question → List ℕ → Verdict
 verdict_of_question u w (Part simple) prefix = verdict_of_simple u w simple prefix
 verdict_of_question u w (Not q) prefix = kleene_not (verdict_of_question u w q prefix)
@@ -77,19 +77,19 @@ verdict_of_question u w (And q r) prefix =
 verdict_of_question u w (Or q r) prefix =
     kleene_or (verdict_of_question u w q prefix) (verdict_of_question u w r prefix)
 
--- The verdict of being possible: no impossible list may match.
+-- The verdict that the label set is possible: it matches no impossible list.
 -- Source: own choice.
 -- Example: `severity` may be `critical` or `warning`, and `team="web",severity="critical"` is
--- impossible. At a prefix that chooses the team `web` and no severity the verdict is `Open`; at one
--- that chooses the team `db` it is `Yes`.
+-- impossible. At a prefix that chooses the team `web` and no severity, the verdict is `Open`. At
+-- one that chooses the team `db`, it is `Yes`.
 abbrev pub verdict_of_space : Space → List ℕ → Verdict
 verdict_of_space s prefix =
     all_of (map (λ ms. verdict_of_literal s.labels prefix (not_matching ms)) s.impossible)
 
--- The verdict of being an answer: that the question is true, and that the label set is possible.
+-- The verdict that the choice is an answer: the question is true, and the label set is possible.
 -- Source: own choice.
--- Example: `team` may be `db`, `web` or absent, `severity` `critical` or `warning`, and
--- `team="web",severity="critical"` is impossible. Of `any` the verdict is `Open` at the empty
+-- Example: `team` may be `db`, `web` or absent, `severity` may be `critical` or `warning`, and
+-- `team="web",severity="critical"` is impossible. The verdict of `any` is `Open` at the empty
 -- prefix, `Yes` at `0`, `Open` at `1`, `No` at `1.0`, and `Yes` at `1.1` and at `2`.
 abbrev pub verdict_of : Space → World → Question → List ℕ → Verdict
 verdict_of s w q prefix =

@@ -1,5 +1,5 @@
--- What the lists of a world tell of it at a prefix; and when that is what the world has, as far as
--- a question asks of it.
+-- What the lists of a world say of it at a prefix, and when this is what holds in the world, as far
+-- as a question asks about it.
 use Rattle.std.specs.Prelude.{◌≡◌, ℕ, List, Bool, true, false, ◌&&◌, ◌||◌, Option, Some, None}
 use Rattle.std.specs.Prelude.{IsTrue}
 use Rattle.std.specs.List.{list_any}
@@ -29,13 +29,13 @@ pub record WorldSeen : Type 0 where
   pub silenced : Certainty → Bool
   pub inhibited : Certainty → Bool
 
--- The same of each property.
+-- The same for each property.
 abbrev pub has_seen : WorldSeen → Certainty → Property → Bool
 has_seen seen m Any = true
 has_seen seen m Silenced = seen.silenced m
 has_seen seen m Inhibited = seen.inhibited m
 
--- By the lists. Where they are not there nothing is so.
+-- The same, by the lists. If the lists are not there, the result is `false`.
 abbrev pub if_there : {A : Type 0} → (A → Bool) → Option A → Bool
 if_there test None = false
 if_there test (Some lists) = test lists
@@ -51,8 +51,8 @@ world_seen verdict prefix lists = record {
   inhibited = λ m. if_there (λ pairs. inhibited_by verdict prefix pairs m) lists.pairs;
 }
 
--- A simple part asks of the routes, of the silences, or of the pairs. And a question does, where
--- some simple part of it does.
+-- `asks`: a simple part asks about the routes, the silences, or the pairs. `needs_of`: a question
+-- does, if one of its simple parts does.
 abbrev pub asks : Need → Simple → Bool
 asks needs.Routes (Receiver receiver) = true
 asks needs.Routes (Route reach path) = true
@@ -66,8 +66,8 @@ needs_of need (Not q) = needs_of need q
 needs_of need (And q r) = needs_of need q || needs_of need r
 needs_of need (Or q r) = needs_of need q || needs_of need r
 
--- At a prefix, what is seen of the routes is what they are; and what is seen of a property is what
--- the verdict says.
+-- At a prefix, what is seen of the routes is what the configuration says, and what is seen of a
+-- property is what its verdict says.
 abbrev pub AreRoutes : List Label → World → List ℕ → (Certainty → Target → Bool) → Type 0
 AreRoutes u w prefix comes =
     (m : Certainty) (target : Target)
@@ -77,7 +77,8 @@ abbrev pub IsProperty : List Label → World → List ℕ → Property → (Cert
 IsProperty u w prefix property has =
     (m : Certainty) → has m ≡ passes m (verdict_of_simple u w (Is property) prefix)
 
--- So is what serves a need; and so is all that a question asks of.
+-- `IsServed`: the same, for what one need asks about. `Serves`: the same, for all that a question
+-- asks about.
 abbrev pub IsServed : List Label → World → List ℕ → WorldSeen → Need → Type 0
 IsServed u w prefix seen needs.Routes = AreRoutes u w prefix seen.comes
 IsServed u w prefix seen needs.Silences = IsProperty u w prefix Silenced seen.silenced

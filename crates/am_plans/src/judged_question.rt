@@ -48,7 +48,7 @@ impl<'a, L: JudgedList> JudgedQuestion<'a, L> {
         })
     }
 
-    /// Whether at a prefix the question is not excluded (`May`), or is certain (`Must`). Takes no
+    /// Whether, at a prefix, the question is not excluded (`May`) or is certain (`Must`). Takes no
     /// memory.
     pub fn holds(&self, certainty: Certainty, prefix: &Choice) -> bool
         ensures truth { result ≡ truth_by L.verdict prefix.now self.now certainty }

@@ -7,7 +7,7 @@
 //! Judging takes no memory.
 #![tactic(auto)]
 
-// What is looked for among routes.
+// What is looked for among the routes.
 mod target;
 
 // The lists of a world.
@@ -26,5 +26,5 @@ mod plan;
 
 pub use plan::Plan;
 
-// What holds of the definitions by themselves.
+// Facts about the definitions alone.
 pub mod laws;

@@ -27,13 +27,13 @@ use std::alloc::{AllocError, Global};
 /// What a pair of a rule and a firing alert requires of the rule's source side.
 #[derive(Clone, Copy, Drop)]
 struct PairSide {
-    /// The rule, by its position.
+    /// The index of the rule.
     rule: usize,
     /// Whether the rule's target side matches the alert too: then its source side must not match.
     both: bool,
 }
 
-/// A pair of a rule and a firing alert that its source side matches.
+/// A pair of a rule and a firing alert that the rule's source side matches.
 #[derive(Drop)]
 struct PairList<L> {
     /// The target side, with the alert's values for the labels in `equal`.
@@ -46,14 +46,14 @@ struct PairList<L> {
 pub(crate) struct PairLists<L> {
     /// The target side of each pair, with the alert's values for the labels in `equal`.
     lists: Group<L>,
-    /// What each pair asks of its source side.
+    /// What each pair requires of its source side.
     sides: Vec<PairSide>,
     /// The source side of each rule.
     sources: Vec<L>,
 }
 
 impl<L: JudgedList> PairLists<L> {
-    /// Those of a world. Fails only if memory runs out.
+    /// Makes the lists of the pairs of a world. Fails only if memory runs out.
     pub(crate) fn of(
         alloc: Global,
         universe: &Universe,
@@ -75,8 +75,8 @@ impl<L: JudgedList> PairLists<L> {
         })
     }
 
-    /// Whether at a prefix it is not excluded, or is certain, that a firing alert inhibits a label
-    /// set.
+    /// Whether, at a prefix, it is not excluded (`May`) or is certain (`Must`) that a firing alert
+    /// inhibits the label set.
     pub(crate) fn inhibit(&self, certainty: Certainty, prefix: &Choice) -> bool
         ensures inhibited { result ≡ inhibited_by L.verdict prefix.now self.now certainty }
     {
@@ -88,14 +88,15 @@ impl<L: JudgedList> PairLists<L> {
             if side_fails(&self.sources, self.sides[i], certainty, prefix) {
                 return true;
             }
-            // The next pairs ask the same of the same source side.
+            // The next pairs require the same of the same source side.
             from = behind_same(&self.sides, i);
         }
         false
     }
 }
 
-/// Whether the source side of a pair does not match, where the pair asks of it.
+/// Whether the source side of a pair does not match. If the pair does not require this, or there is
+/// no such side, the result is `true`.
 fn side_fails<L: JudgedList>(
     sources: &[L],
     side: PairSide,
@@ -113,7 +114,8 @@ fn side_fails<L: JudgedList>(
     }
 }
 
-/// The first place behind one at which another source side is asked of, or nothing.
+/// The first index after `place` whose pair requires something else, or the number of pairs if
+/// there is none.
 fn behind_same(sides: &[PairSide], place: usize) -> usize
     requires { place < length sides.now }
     ensures behind { place < result }
@@ -129,7 +131,7 @@ fn behind_same(sides: &[PairSide], place: usize) -> usize
     sides.len()
 }
 
-/// The lists of some pairs, and what they ask of their source sides.
+/// The lists of some pairs, and what the pairs require of their source sides.
 fn parts_of_pairs<L: JudgedList>(
     alloc: Global,
     pairs: Vec<PairList<L>>,
@@ -180,8 +182,8 @@ fn rows_of_targets(
     Ok(targets)
 }
 
-/// The lists of the pairs of a world. A pair whose list is never matched is left out, and so is one
-/// that says the same as another of its rule: an or does not change by them.
+/// The lists of the pairs of a world. A pair is left out if its list never matches, or if it says
+/// the same as another pair of its rule: it does not change an `or`.
 fn lists_of_pairs<L: JudgedList>(
     alloc: Global,
     universe: &Universe,
@@ -204,7 +206,7 @@ fn lists_of_pairs<L: JudgedList>(
     Ok(lists)
 }
 
-/// Adds a pair, unless it adds nothing.
+/// Adds a pair, unless it makes no difference.
 fn add_pair<L: JudgedList>(
     lists: &mut Vec<PairList<L>>,
     pair: PairList<L>,
@@ -220,7 +222,7 @@ fn add_pair<L: JudgedList>(
     Ok(())
 }
 
-/// Whether a pair adds nothing to some pairs: its list is never matched, or one of the last of
+/// Whether a pair makes no difference to some pairs: its list never matches, or one of the last of
 /// them, which are of the same rule, says the same.
 fn is_idle<L: JudgedList>(lists: &[PairList<L>], pair: &PairList<L>) -> bool
     ensures { IsTrue result → (prefix : List ℕ) (m : Certainty) (sources : List L)
@@ -242,7 +244,7 @@ fn is_idle<L: JudgedList>(lists: &[PairList<L>], pair: &PairList<L>) -> bool
     false
 }
 
-/// The list of a pair: of the target side, and of the alert's values for the labels in `equal`.
+/// Makes the list of a pair: the target side, and the alert's values for the labels in `equal`.
 fn list_of_pair<L: JudgedList>(
     alloc: Global,
     universe: &Universe,
@@ -276,7 +278,7 @@ fn list_of_pair<L: JudgedList>(
     })
 }
 
-/// The rows of the matchers that want an alert's values of these labels, in the order of their
+/// The rows of the matchers that require an alert's values of these labels, in the order of the
 /// names. Fails only if memory runs out.
 fn rows_of_values(
     alloc: Global,

@@ -15,12 +15,13 @@
 //! `any` is `Open` until it is known whether the label set is possible.
 //!
 //! Only definitions have conditions. The code walks the tree of routes, child by child, and a lemma
-//! says that it comes to the same. The walk never computes a verdict of three values. It answers
+//! says that the result is the same. The walk never computes a verdict of three values. It answers
 //! one of two questions about it: `May`, whether it is not `No`, and `Must`, whether it is `Yes`.
 //! `judge` asks both.
 //!
-//! What the commands promise rests on the clause `truth` of `new`; which prefixes are judged rests
-//! on `verdict`. A law says what a verdict means (`a_verdict_says_what_holds_of_all_completions`).
+//! The promises of the commands rest on the clause `truth` of `new`. Which prefixes are judged
+//! rests on `verdict`. A law says what a verdict means
+//! (`a_verdict_says_what_holds_of_all_completions`).
 
 ghost use Rattle.std.specs.Prelude.{◌≡◌, ℕ, List, map, IfOk, IsTrue};
 ghost use Rattle.std.proofs.Props.{props};
@@ -45,9 +46,9 @@ use std::alloc::{AllocError, Global};
 
 /// The judge of a question about a world, over the choices of a space.
 ///
-/// At a prefix its verdict is that the question is true and the label set possible, in the logic of
-/// three values: `Yes`, each completion is an answer; `No`, none is; `Open`, neither is known.
-/// Judging looks at positions alone, and takes no memory.
+/// Its verdict at a prefix says whether the question is true and the label set is possible, in the
+/// logic of three values. `Yes`: each completion is an answer. `No`: none is. `Open`: neither is
+/// known. Judging looks at positions alone, and takes no memory.
 #[derive(Drop)]
 pub struct Plan<'a> {
     space: &'a Space,
@@ -79,7 +80,7 @@ impl<'a> Plan<'a> {
             ≡ is_answer space.now world.now (question_view question.now) c) }
     {
         let universe = space.universe();
-        // What `len` promises tells the proof that the sizes are such as a judge may have.
+        // The contract of `len` tells the proof that the sizes are sizes that a judge may have.
         prove!(universe.len() <= MAX_LABELS);
         let judged = JudgedQuestion::of(alloc, universe, world, question)?;
         let impossible = impossible_group(alloc, space)?;
@@ -90,7 +91,8 @@ impl<'a> Plan<'a> {
         })
     }
 
-    /// Whether at a prefix it is not excluded, or is certain, that the choice is an answer.
+    /// Whether, at a prefix, it is not excluded (`May`) or is certain (`Must`) that the choice is
+    /// an answer.
     fn is_answer(&self, certainty: Certainty, prefix: &Choice) -> bool
         ensures { result ≡ is_answer_by self.now.judged self.now.impossible prefix.now certainty }
     {
@@ -129,7 +131,7 @@ impl<'a> Judge for Plan<'a> {
     }
 }
 
-/// A group of the cubes of a space's impossible lists. Fails only if memory runs out.
+/// Makes the group of the cubes of a space's impossible lists. Fails only if memory runs out.
 fn impossible_group(alloc: Global, space: &Space) -> Result<Group<Cube>, AllocError>
     ensures verdicts { IfOk result (λ group. (prefix : List ℕ)
         → IsTrue (admits (sizes space.now.labels) prefix) → verdicts_in verdict_at prefix group

@@ -22,9 +22,9 @@ use std::alloc::{AllocError, Global};
 pub(crate) enum QuestionLists<'q, L> {
     /// The label set has this property.
     Is(Property),
-    /// It comes to a target among the routes.
+    /// The label set comes to a target among the routes.
     Comes(Target<'q>),
-    /// It matches the list.
+    /// The label set matches the list.
     Braces(L),
     /// The question is false.
     Not(Box<QuestionLists<'q, L>>),
@@ -35,7 +35,7 @@ pub(crate) enum QuestionLists<'q, L> {
 }
 
 impl<'q, L: JudgedList> QuestionLists<'q, L> {
-    /// A question with the lists of its matchers. Fails only if memory runs out.
+    /// Makes the lists of the matchers of a question. Fails only if memory runs out.
     pub(crate) fn of(
         alloc: Global,
         universe: &Universe,
@@ -75,7 +75,7 @@ impl<'q, L: JudgedList> QuestionLists<'q, L> {
         }
     }
 
-    /// Whether at a prefix the question is not excluded, or is certain.
+    /// Whether, at a prefix, the question is not excluded (`May`) or is certain (`Must`).
     pub(crate) fn holds(&self, world: &WorldLists<L>, certainty: Certainty, prefix: &Choice) -> bool
         ensures truth { result ≡ question_by L.verdict prefix.now
             (world_seen L.verdict prefix.now world.now) self.now certainty }

@@ -24,7 +24,7 @@ pub(crate) struct RouteLists<L> {
 }
 
 impl<L: JudgedList> RouteLists<L> {
-    /// A route with its list, and all routes below it. Fails only if memory runs out.
+    /// Makes the lists of a route and of all routes below it. Fails only if memory runs out.
     #[cycle(lists)]
     pub(crate) fn of(
         alloc: Global,
@@ -46,8 +46,8 @@ impl<L: JudgedList> RouteLists<L> {
         })
     }
 
-    /// Whether at a prefix it is not excluded, or is certain, that a label set matches the route
-    /// and comes to a target from there.
+    /// Whether, at a prefix, it is not excluded (`May`) or is certain (`Must`) that a label set
+    /// matches the route and comes to a target from there.
     pub(crate) fn comes(&self, certainty: Certainty, target: Target<'_>, prefix: &Choice) -> bool
         ensures comes { result ≡ (passes certainty (seen_by L.verdict prefix.now self.now).verdict
             && (seen_by L.verdict prefix.now self.now).comes certainty (target_view target.entry)) }
@@ -55,7 +55,7 @@ impl<L: JudgedList> RouteLists<L> {
         certainty.holds(&self.list, prefix) && self.comes_below(certainty, target, prefix)
     }
 
-    /// The same, where the route is matched.
+    /// The same for a label set that matches the route.
     fn comes_below(&self, certainty: Certainty, target: Target<'_>, prefix: &Choice) -> bool
         ensures { result ≡ (seen_by L.verdict prefix.now self.now).comes certainty
             (target_view target.entry) }
@@ -85,7 +85,7 @@ impl<L: JudgedList> RouteLists<L> {
     }
 }
 
-/// The same for each of the routes.
+/// Makes the lists of each of the routes, and of all routes below them.
 #[cycle(lists)]
 fn lists_of_routes<L: JudgedList>(
     alloc: Global,

@@ -6,20 +6,20 @@ ghost use Rattle.am_plans.specs.Target.{is_nothing};
 
 use am_eval::Reach;
 
-/// Which routes are looked for, seen from a route: those to which a way leads from there, or those
-/// that have a receiver.
+/// Which routes are looked for, as seen from one route: the route at a path from there, those that
+/// have a receiver, or none.
 #[derive(Clone, Copy)]
 pub(crate) enum Target<'q> {
     /// No route.
     Nothing,
     /// The ends whose receiver is at this position.
     Receiver(usize),
-    /// The route at this path, reached so.
+    /// The route at this path, reached in this way.
     Route(Reach, &'q [u16]),
 }
 
 impl<'q> Target<'q> {
-    /// The same, seen from the child at a position.
+    /// The same target, as seen from the child at a position.
     pub(crate) fn below(self, position: usize) -> Target<'q>
         ensures below { target_view result ≡ target_below (target_view self.entry) position }
     {
@@ -32,8 +32,8 @@ impl<'q> Target<'q> {
         }
     }
 
-    /// Whether the route from which this is seen is an end that is looked for, where it has this
-    /// receiver.
+    /// Whether the route from which this is seen, which has this receiver, is an end that is looked
+    /// for.
     pub(crate) fn is_end_here(self, receiver: usize) -> bool
         ensures here { result ≡ is_end_here (target_view self.entry) receiver }
     {
@@ -62,7 +62,7 @@ impl<'q> Target<'q> {
     }
 }
 
-/// What is left of a path behind its first position, if it begins with this one.
+/// Returns the rest of a path after its first position, if that is this position.
 fn path_below(path: &[u16], position: usize) -> Option<&[u16]>
     ensures below { IfSome result (λ rest. path.now ≡ position ∷ rest.now) }
     ensures elsewhere { IfNone result ((rest : List ℕ) → path.now ≢ position ∷ rest) }

@@ -24,7 +24,7 @@ use am_judged_lists::{Certainty, Group, JudgedList, rows_of};
 use am_universe::{Choice, Universe};
 use std::alloc::{AllocError, Global};
 
-/// What a question may ask of.
+/// What a question may ask about.
 #[derive(Clone, Copy)]
 enum Need {
     /// The routes of the configuration.
@@ -35,7 +35,7 @@ enum Need {
     Pairs,
 }
 
-/// Whether a question asks about something.
+/// Whether a question asks about what `need` says.
 fn needs(question: &Question, need: Need) -> bool
     ensures { result ≡ needs_of need (question_view question.now) }
 {
@@ -52,7 +52,7 @@ fn needs(question: &Question, need: Need) -> bool
 }
 
 /// The lists of the routes, the active silences, and the pairs of a world, as far as a question
-/// asks of them.
+/// asks about them.
 #[derive(Drop)]
 pub(crate) struct WorldLists<L> {
     routes: Option<RouteLists<L>>,
@@ -61,7 +61,7 @@ pub(crate) struct WorldLists<L> {
 }
 
 impl<L: JudgedList> WorldLists<L> {
-    /// The lists of a world that a question asks of. Fails only if memory runs out.
+    /// Makes the lists of a world that a question asks about. Fails only if memory runs out.
     pub(crate) fn of(
         alloc: Global,
         universe: &Universe,
@@ -79,7 +79,8 @@ impl<L: JudgedList> WorldLists<L> {
         })
     }
 
-    /// Whether at a prefix it is not excluded, or is certain, that a label set comes to a target.
+    /// Whether, at a prefix, it is not excluded (`May`) or is certain (`Must`) that a label set
+    /// comes to a target.
     pub(crate) fn comes(&self, certainty: Certainty, target: Target<'_>, prefix: &Choice) -> bool
         ensures comes { result ≡ (world_seen L.verdict prefix.now self.now).comes certainty
             (target_view target.entry) }
@@ -164,7 +165,7 @@ fn pairs_if<L: JudgedList>(
     Ok(Some(PairLists::of(alloc, universe, world)?))
 }
 
-/// The list of each active silence. One that is never matched is left out, because it does not
+/// The list of each active silence. A list that never matches is left out, because it does not
 /// change an `or`.
 fn lists_of_silences<L: JudgedList>(
     alloc: Global,
@@ -189,7 +190,7 @@ fn lists_of_silences<L: JudgedList>(
     Ok(lists)
 }
 
-/// Adds a list, unless it is never matched.
+/// Adds a list, unless it never matches.
 fn add_list<L: JudgedList>(lists: &mut Vec<L>, list: L) -> Result<(), AllocError>
     ensures { OnOk result ((prefix : List ℕ) (m : Certainty)
         → list_any (λ list. passes m (L.verdict list prefix)) lists.new.items

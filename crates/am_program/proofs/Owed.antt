@@ -1,4 +1,4 @@
--- What is owed for a request, by what it was read as, and what is kept of it by a command.
+-- What is owed for a request, and how the result of a command keeps it.
 use Rattle.std.proofs.Common.{◌≡◌, ℕ, List, Bool, false, Option, Result, Ok, Err, MatchResult}
 use Rattle.std.proofs.Common.{refl, sym, subst}
 use Rattle.std.specs.Prelude.{nat_lt}
@@ -11,21 +11,21 @@ use Rattle.am_notes.specs.declared.call.Call.{Call}
 use Rattle.am_program.specs.Requests.{finds_nothing, finds, owed}
 
 module _ {S : Type 0} {taken : S → List ℕ} {failures : S → ℕ} {old new : S} where
-  -- what is owed for a thing is owed for one that is the same
+  -- What is owed for a thing is owed for an equal thing.
   pub owed_as : {X A : Type 0} {result : Result A Fault} (promise : X → Promise A) {x other : X}
       → x ≡ other → IsKept (promise x) taken failures old new result
       → IsKept (promise other) taken failures old new result
   owed_as {result = result} promise same kept =
       subst (λ x. IsKept (promise x) taken failures old new result) same kept
 
-  -- so for a request
+  -- The same for a request.
   pub owed_for : {result : Result Bool Fault} (call : Call) {request other : Request}
       → request ≡ other → IsKept (owed other call) taken failures old new result
       → IsKept (owed request call) taken failures old new result
   owed_for call same = owed_as (λ r. owed r call) (sym same)
 
-  -- a call kept what is owed where another answer is given for its own: each text that may be
-  -- written beside the one may be written beside the other
+  -- A call still keeps what is owed if another answer replaces its own, and each text that may be
+  -- written with its own answer may be written with the other.
   answered_as : {A B : Type 0} (promise : Promise A) (May : B → List ℕ → Type 0) (answer : A → B)
       → ((a : A) (text : List ℕ) → promise.May a text → May (answer a) text)
       → (result : Result A Fault) (other : Result B Fault)
@@ -53,7 +53,7 @@ module _ {S : Type 0} {taken : S → List ℕ} {failures : S → ℕ} {old new :
             (answer told.0, (told.1.0, may told.0 told.1.0 told.1.1, told.1.2));
       })
 
-  -- so where nothing is found
+  -- So it does if the other answer is that nothing was found.
   pub nothing_found : {A : Type 0} (promise : Promise A) (result : Result A Fault)
       (other : Result Bool Fault)
       → MatchResult result (λ _. other ≡ Ok false) (λ fault. other ≡ Err fault)
@@ -63,7 +63,7 @@ module _ {S : Type 0} {taken : S → List ℕ} {failures : S → ℕ} {old new :
       answered_as promise (finds_nothing promise).May (λ a. false) (λ a text may. (refl, (a, may)))
       result other is kept
 
-  -- and where there are so many findings
+  -- And if the other answer is whether a count is above 0.
   pub so_many_found : (promise : Promise ℕ) (result : Result ℕ Fault) (other : Result Bool Fault)
       → MatchResult result (λ count. other ≡ Ok (nat_lt 0 count)) (λ fault. other ≡ Err fault)
       → IsKept promise taken failures old new result
@@ -72,7 +72,7 @@ module _ {S : Type 0} {taken : S → List ℕ} {failures : S → ℕ} {old new :
       answered_as promise (finds promise).May (nat_lt 0) (λ count text may. (count, refl, may))
       result other is kept
 
-  -- and for a page under a limit and a budget
+  -- What is owed for a page is owed under an equal limit and an equal budget.
   pub owed_under : {result : Result Bool Fault} (inputs : Inputs)
       {limit limit' steps steps' : Option ℕ} → limit ≡ limit' → steps ≡ steps'
       → IsKept (finds_nothing (ask_promise inputs limit steps)) taken failures old new result

@@ -22,8 +22,8 @@ use Rattle.am_reports.specs.Linting.{lint_promise}
 use Rattle.am_reports.specs.Comparing.{compare_promise}
 use Rattle.am_reports.specs.OutcomesReport.{outcomes_promise}
 
--- The bytes of a file that may be left out; those of one of which there are none without it; and
--- the files beside the universe, with the instant.
+-- The bytes of an optional file; its bytes, or none if the file is not given; and the files other
+-- than the universe, with the instant.
 abbrev pub bytes_if_any : Option (Vec ℕ) → Option (List ℕ)
 bytes_if_any file = option_map (λ bytes. bytes.items) file
 
@@ -38,15 +38,15 @@ files_of files = record {
   at = option_copied files.at;
 }
 
--- Which texts the labels of alerts may have: with `--ascii` those of printable ASCII alone.
+-- The texts that the labels of alerts may have: with `--ascii`, only those of printable ASCII.
 abbrev pub alphabet_of : Bool → Alphabet
 alphabet_of ascii = if ascii then Ascii else Unicode
 
--- The bytes of the universe that is kept, if one is, as with `--from`.
+-- The bytes of the universe file, if one is given, as with `--from`.
 abbrev pub kept_universe : Bool → List ℕ → Option (List ℕ)
 kept_universe from universe = if from then Some universe else None
 
--- What `outcomes` looks at: the universe that is kept, and the configuration.
+-- The inputs of `outcomes`, with the universe file if one is given.
 abbrev pub report_inputs : Bool → Bool → Call → ReportInputs
 report_inputs from ascii call = record {
   universe = kept_universe from call.universe.now;
@@ -54,8 +54,8 @@ report_inputs from ascii call = record {
   ascii = ascii;
 }
 
--- What is owed where the answer is whether something was found: by a command that looks for
--- nothing, and so finds nothing; and by one that answers how many changes there are.
+-- What is owed if the answer is whether something was found: by a command that looks for nothing
+-- wrong, and so finds nothing; and by a command that returns how many changes there are.
 abbrev pub finds_nothing : {A : Type 0} → Promise A → Promise Bool
 finds_nothing {A = A} promise = record {
   stages = promise.stages;
@@ -68,12 +68,13 @@ finds promise = record {
   May = λ found text. (count : ℕ) × (found ≡ nat_lt 0 count) × promise.May count text;
 }
 
--- What is owed for a request, over the bytes of the files of a call: for `lint` the report on a
--- configuration; for `compare` what changes between two; for `outcomes` to which receivers alerts
--- go; for `ask` the page of the answers to that question, from that token on and under that limit
--- and that budget; for `dead` the report of routes; for `receivers` that of receivers; for
--- `explain` the explanation of that set; for `alerts` the alerts that the question is true of; for
--- `universe` a universe in that form, or how the one that is to be checked stands.
+-- What is owed for a request, over the bytes of the files of a call. For `lint`, it is the report
+-- on a configuration; for `compare`, what changes between two configurations; for `outcomes`, the
+-- lists of receivers that alerts go to; for `ask`, the page of the answers to the question, from
+-- the token on and under the limit and the budget; for `dead`, the report on routes; for
+-- `receivers`, the report on receivers; for `explain`, the explanation of the label set; for
+-- `alerts`, the alerts for which the question is true; for `universe`, a universe of the given
+-- form, or the report on the universe that is checked.
 -- Source: own choice.
 -- Example: for `dead --universe u.json --config alertmanager.json` it is what `dead` owes for the
 -- bytes of these files.
@@ -123,6 +124,6 @@ owed (requests.CheckUniverse routes ascii questions) call =
 
 -- What is owed for a call, by its request.
 -- Source: own choice.
--- Example: it is what `dead` owes, where that is the request.
+-- Example: it is what `dead` owes, if that is the request.
 abbrev pub promise_of : Call → Promise Bool
 promise_of call = owed call.request.now call

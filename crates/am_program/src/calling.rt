@@ -136,9 +136,9 @@ fn nothing_found<T: Drop>(answer: Result<T, Fault>) -> Result<bool, Fault>
     }
 }
 
-/// Joins a request and the bytes of the files that were read for it. A universe file, or an old or
-/// new configuration file, that was not read has no bytes. The command line requires these files
-/// where a command looks at them.
+/// Joins a request and the bytes of the files that were read for it. If a universe file, or an old
+/// or new configuration file, was not read, its bytes are empty. The command line makes sure that
+/// these files are given if the command looks at them.
 pub fn call_of<'a>(request: &'a Request<'a>, files: &'a InputFiles<'_, Vec<u8>>) -> Call<'a>
     ensures request { result.request.now ≡ request.now }
     ensures universe { result.universe.now ≡ bytes_or_none files.now.universe }

@@ -1,14 +1,15 @@
 //! The program `amcover`, as a function over a command line and two writers.
 //!
 //! [`run`] reads a command line and the files that it names, makes the call of the command and
-//! returns the exit status. [`run_with_notes`] does the same on a terminal. [`run_process`] runs
-//! the program on what its process was given, and `main` is that call alone.
+//! returns the exit status. [`run_with_notes`] does the same and, if asked to, as on a terminal,
+//! also writes notes. [`run_process`] runs the program with the command line, the files and the
+//! streams of its process. `main` only makes this call.
 #![tactic(auto)]
 
-// What is asked for, and the call that does it.
+// A request, and the call that it asks for.
 mod calling;
 
-// The run.
+// A run of the program.
 mod program;
 mod read_file;
 

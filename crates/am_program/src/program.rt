@@ -127,7 +127,7 @@ fn refuse<E: Write + Drop>(
     status
 }
 
-/// Writes notes, if there are any. Notes are no part of the answer: if memory ran out for them
+/// Writes notes, if there are any. Notes are not part of the answer: if memory ran out for them,
 /// there are none, and a failure to write them is ignored.
 fn write_notes<E: Write + Drop>(notes: Result<String, AllocError>, err: &mut E) {
     if let Ok(text) = notes {
@@ -157,7 +157,8 @@ fn read_files<'a, R: Files + AllocGlobal>(
     })
 }
 
-/// Makes a call over a buffer of the output, which is flushed at the end of a call that is done.
+/// Makes a call that writes to a buffer over the output. The buffer is flushed if the call
+/// succeeds.
 fn call_buffered<W: Write + Drop>(
     alloc: Global,
     call: &Call<'_>,
@@ -174,7 +175,8 @@ fn call_buffered<W: Write + Drop>(
         Ok(_) => buffered.flush().is_ok(),
         Err(_) => true,
     };
-    // What is left in the buffer after a failure is not tried again, as dropping the buffer would.
+    // After a failure, what is left in the buffer is not tried again. Dropping the buffer would do
+    // that.
     let _ = buffered.into_parts();
     let found = outcome?;
     if flushed {

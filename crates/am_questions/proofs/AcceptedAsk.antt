@@ -1,5 +1,5 @@
--- The inputs of a question that are accepted have no first fault, but for the patterns that the
--- engine may refuse.
+-- Inputs of a question that are accepted have no first fault, except a pattern that the engine may
+-- refuse.
 use Rattle.std.proofs.Common.{◌≡◌, ℕ, List, [], ◌∷◌, ◌++◌, Option, None, Some, subst}
 use Rattle.am_universe.specs.declared.kind.Kind.{Kind}
 use Rattle.am_universe.specs.declared.kind.Kind.TheVariants as kinds

@@ -20,7 +20,7 @@ plain_stops c h = grind (arith, nat_tests)
 word_stops : (c : ℕ) → is_word_character c ≡ false → c < 128
 word_stops c h = grind (arith, nat_tests)
 
--- behind a run of bytes that goes on over all but some ASCII
+-- after a run of bytes that only an ASCII byte can end
 at_stop : (p : ℕ → Bool) (bs : List ℕ) (n : ℕ) → ((c : ℕ) → p c ≡ false → c < 128)
     → n ≡ prefix_len p bs → IsCharBoundary bs n
 at_stop p bs n ascii e = (

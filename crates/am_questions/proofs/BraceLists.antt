@@ -1,4 +1,4 @@
--- Where a brace lexeme ends, whatever stands behind it.
+-- Where a list of matchers in braces ends, whatever follows it.
 use Rattle.std.proofs.Common.{◌≡◌, refl, sym, ◌∙◌, ap, subst, inl, inr, ℕ, zero, suc, ◌+◌, ◌<◌, ◌≤◌}
 use Rattle.std.proofs.Common.{List, ◌++◌, length, take, drop, get_or, Bool, true, false}
 use Rattle.std.proofs.Common.{Some, arith}
@@ -26,7 +26,7 @@ closes_before xs ys i l =
 
 -- ---- the first closing brace
 
--- this place is the first closing brace
+-- the first closing brace is at this position
 pub record ClosesAt (text : List ℕ) (i : ℕ) : Type 0 where
   pub inside : i < length text
   pub closes_here : is_closing_brace text i ≡ true
@@ -81,7 +81,7 @@ closes_shorter xs ys i inside c = record {
 
 -- ---- the length of the lexeme
 
--- the parts of a lexeme's length
+-- what holds if the lexeme has this length
 pub record HasLength (text : List ℕ) (n : ℕ) : Type 0 where
   pub last : ℕ
   pub length_is : last + 1 ≡ n
@@ -101,7 +101,7 @@ has_length text n e =
 length_from : (text : List ℕ) (n : ℕ) → HasLength text n → brace_len text ≡ Some n
 length_from text n h = rw (h.opens, closes_to text h.last h.closes_at, h.length_is) refl
 
--- a lexeme is the lexeme that each text has that begins with it
+-- a lexeme is the first lexeme of each text that begins with it
 pub brace_longer : (list rest : List ℕ) → brace_len list ≡ Some (length list)
     → brace_len (list ++ rest) ≡ Some (length list)
 brace_longer list rest e =

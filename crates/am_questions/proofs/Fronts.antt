@@ -1,5 +1,4 @@
--- What stands at the front of a list of lexemes is read in one way, and the grammar is as the code
--- reads it.
+-- The front of a list of lexemes is read in one way, and the code reads it as the grammar says.
 use Rattle.std.proofs.Common.{◌≡◌, ◌≢◌, ℕ, List, [], ◌∷◌, ◌++◌, Option, Some, None, refl, sym, ap}
 use Rattle.std.proofs.Common.{◌∙◌, append_assoc, append-nil, option_map}
 use Rattle.std.specs.List.{find}
@@ -51,7 +50,7 @@ keyword_found ReceiverWord = refl
 keyword_found (ReachWord Ends) = refl
 keyword_found (ReachWord Enters) = refl
 
--- the part, where its name or path is not looked at
+-- the part that goes on after a keyword; its name or path is not checked
 abbrev part_behind : Option Keyword → List Lexeme → Option (Written × List Lexeme)
 part_behind (Some (PropertyWord p)) ts = Some (WrittenIs p, ts)
 part_behind (Some ReceiverWord) (lexeme ∷ ts) =
@@ -109,7 +108,7 @@ part_once {rest = rest} p (at_front {rest = left} (g.part o) stops) e =
 
 -- ---- Questions that a connective joins, from the first of them on.
 
--- these lexemes join further questions to a tree on the left, as far as the rest
+-- these lexemes, up to the rest, join more questions to the tree on the left
 data Goes (c : Connective) : Tree Written → List Lexeme → Tree Written → List Lexeme → Type 0 where
   nothing : {q : Tree Written} {rest : List Lexeme} → Stops (JoinedBy c) rest → Goes c q rest q rest
   next : {ts us rest : List Lexeme} {q r s : Tree Written} → IsOf (operand c) ts r
@@ -148,7 +147,7 @@ first_of : {c : Connective} {ts rest : List Lexeme} {s : Tree Written}
     → Reads (JoinedBy c) ts s rest → FirstOf c ts s rest
 first_of (at_front is stops) = chain_on is (nothing stops)
 
--- what follows where the connective stands, and where it does not
+-- what follows if the connective is first, and if it is not
 one_on : {c : Connective} {ts us rest : List Lexeme} {q s : Tree Written}
     → ts ≡ keyword (JoinWord c) ∷ us → Goes c q ts s rest
     → (r : Tree Written) × (vs : List Lexeme) × Reads (operand c) us r vs
@@ -169,8 +168,8 @@ carried same goes = rw (same.0, same.1) goes
 
 -- ---- Each question is read in one way.
 
--- a question is read in one way, whatever stands behind it; of questions that a connective joins,
--- what is read behind them goes on with their tree
+-- a question is read in one way, whatever follows it; if a connective joins questions, what is read
+-- after them continues their tree
 abbrev ReadOnce : Tier → List Lexeme → Tree Written → Type 0
 ReadOnce Single ts q =
     (rest left : List Lexeme) (r : Tree Written) → Reads Single (ts ++ rest) r left
@@ -229,7 +228,7 @@ one_tree ts q r one other = (same_read (whole_read one) (whole_read other) refl)
 
 -- ---- What the code reads: questions that a connective joins.
 
--- the tree of what is read so far, behind which the connective may go on
+-- the tree of what is read so far, which the connective may continue
 abbrev pub SoFar : Connective → List Lexeme → Tree Written → List Lexeme → Type 0
 SoFar c = Front (JoinedBy c) (operand c)
 

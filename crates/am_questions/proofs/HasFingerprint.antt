@@ -1,4 +1,4 @@
--- Inputs have a fingerprint, and the start that they ask for is one over the labels.
+-- The fingerprint of inputs has 16 bytes, and the start that they ask for is one over the labels.
 use Rattle.std.proofs.Common.{ℕ, List, [], ◌∷◌, Option, None, Some, refl, sym, subst}
 use Rattle.am_universe.specs.Universe.{Label, sizes}
 use Rattle.am_search.specs.declared.start.Start.{Start}

@@ -1,4 +1,4 @@
--- A text begins with a lexeme exactly where one is read there, and its lexemes are read one by one.
+-- A text begins with a lexeme exactly if the lexeme is read there, and lexemes are read one by one.
 use Rattle.std.proofs.Common.{◌≡◌, refl, sym, ◌∙◌, ap, subst, inl, inr, ℕ, suc, ◌+◌, ◌<◌}
 use Rattle.std.proofs.Common.{List, [], ◌∷◌, ◌++◌, length, take, drop, get_or, true, false}
 use Rattle.std.proofs.Common.{Option, Some, None, option_map, arith, append_assoc, length-append}
@@ -23,7 +23,7 @@ use Rattle.am_questions.specs.LexemeReading.{cut, quoted_lexeme, read_quoted, re
 use Rattle.am_questions.proofs.QuotedTexts.{quoted_is_read, read_is_quoted}
 use Rattle.am_questions.proofs.BraceLists.{has_length, brace_longer, brace_shorter}
 
--- the text begins with this lexeme, and this stands behind it
+-- the text begins with this lexeme, and the rest follows
 abbrev pub BeginsWith : List ℕ → Lexeme → List ℕ → Type 0
 BeginsWith text lexeme rest =
     (here : List ℕ) × (text ≡ here ++ rest) × SpellsLexeme here lexeme × MayFollow lexeme rest
@@ -47,13 +47,13 @@ brace_step : (text : List ℕ) → get_or text 0 0 ≡ 123
 unfolding read_lexeme
 brace_step text e = rw e refl
 
--- how long the word is with which a text begins
+-- the length of the word that a text begins with
 abbrev word_len : List ℕ → ℕ
 word_len text = prefix_len is_word_character text
 
 -- ---- words
 
--- what a word does not begin with
+-- a word does not begin as other lexemes do, nor with whitespace
 begins_no_other : (c : ℕ) → is_word_character c ≡ true → ((c == 40) ≡ false) × ((c == 41) ≡ false)
     × ((c == 34) ≡ false) × ((c == 123) ≡ false) × (is_space c ≡ false)
 begins_no_other c h = (
@@ -198,7 +198,7 @@ read_is_lexeme (c ∷ text) lexeme rest l start e = elim (cases_Bool (c == 40)) 
 
 -- ---- how a lexeme begins
 
--- it begins with no whitespace
+-- it is not empty, and does not begin with whitespace
 pub record Begins (here : List ℕ) : Type 0 where
   pub some : 0 < length here
   pub no_space : is_space (get_or here 0 0) ≡ false
@@ -261,7 +261,7 @@ untrim text (u ∷ us) s =
       s.7,
     )
 
--- what is spelled begins with its first lexeme
+-- after its leading whitespace, the text begins with its first lexeme
 pub record FirstIs (text : List ℕ) (lexeme : Lexeme) (lexemes : List Lexeme) : Type 0 where
   pub here : List ℕ
   pub rest : List ℕ
@@ -325,8 +325,8 @@ one_list text (t ∷ ts) (u ∷ us) s z =
 
 -- ---- reading the lexemes one by one
 
--- These lexemes stand before the rest: with the rest's lexemes they are the text's, and where the
--- text has lexemes the rest has.
+-- These lexemes come before the rest: together with the lexemes of the rest they are the lexemes of
+-- the text, and if the text has lexemes, the rest has.
 pub record ReadsOn (text : List ℕ) (lexemes : List Lexeme) (rest : List ℕ) : Type 0 where
   pub trimmed : is_space (get_or rest 0 0) ≡ false
   pub onward : (us : List Lexeme) → SpellsLexemes rest us → SpellsLexemes text (lexemes ++ us)
@@ -339,7 +339,7 @@ at_first text = record {
   back = λ us s. (us, trim text us s);
 }
 
--- the rest begins with a lexeme, where it has lexemes
+-- a rest that is not empty begins with a lexeme, if it has lexemes
 rest_is_read : (rest : List ℕ) (vs : List Lexeme) → 0 < length rest
     → is_space (get_or rest 0 0) ≡ false → SpellsLexemes rest vs
     → (v : Lexeme) × (behind : List ℕ) × (more : List Lexeme) × (read_lexeme rest ≡ Some (v, behind))

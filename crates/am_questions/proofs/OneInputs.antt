@@ -1,5 +1,4 @@
--- The inputs of a call, where they are accepted, are so as one space, one world, one question and
--- one start.
+-- Inputs of a call that are accepted fix the space, the world, the question and the start.
 use Rattle.std.proofs.Common.{◌≡◌, ℕ, List, Option, Some, None, sym, subst, ◌∙◌}
 use Rattle.am_universe.specs.Universe.{Label, IsUniverse, sizes}
 use Rattle.am_labels.specs.Space.{Space}

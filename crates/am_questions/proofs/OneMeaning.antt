@@ -30,7 +30,8 @@ one_meaning c (And t u) p q h k =
 one_meaning c (Or t u) p q h k =
     h.4 ∙ ap₂ Or (one_meaning c t h.0 k.0 h.2 k.2) (one_meaning c u h.1 k.1 h.3 k.3) ∙ sym k.4
 
--- a text has one list of lexemes, which is one tree, which means one question
+-- a text has at most one list of lexemes, which makes at most one tree, which means at most one
+-- question
 pub one_question : (c : Configuration) (text : List ℕ) (p q : Question)
     → ReadsQuestion c text p → ReadsQuestion c text q → p ≡ q
 one_question c text p q h k =

@@ -30,27 +30,27 @@ parts_meant c (Or t u) question h =
     all_joined (IsMeant c) (parts_of t) (parts_of u)
     (parts_meant c t h.0 h.2) (parts_meant c u h.1 h.3)
 
--- what a part alone is refused for
+-- a list of one part is refused for what the part is refused for
 pub alone_if_refused : {A : Type 0} (c : Configuration) (written : Written) (result : Result A Kind)
     → IfErr result (λ kind. kind ≢ kinds.Memory → PartRefusedFor c written kind)
     → IfErr result (λ kind. kind ≢ kinds.Memory → PartsRefusedFor c (written ∷ []) kind)
 alone_if_refused c written (Ok x) h = tt
 alone_if_refused c written (Err kind) h = λ other. inl (h other)
 
--- a part among the first
+-- a refused part is in the first list
 pub left_refused : (c : Configuration) (xs ys : List Written) (kind : Kind)
     → PartsRefusedFor c xs kind → PartsRefusedFor c (xs ++ ys) kind
 left_refused c [] ys kind h = absurd h
 left_refused c (x ∷ xs) ys kind (inl here) = inl here
 left_refused c (x ∷ xs) ys kind (inr h) = inr (h.0, left_refused c xs ys kind h.1)
 
--- a part behind those that mean something
+-- a refused part is in the second list, and each part of the first means something
 pub right_refused : (c : Configuration) (xs ys : List Written) (kind : Kind)
     → AllByRecursion (IsMeant c) xs → PartsRefusedFor c ys kind → PartsRefusedFor c (xs ++ ys) kind
 right_refused c [] ys kind meant h = h
 right_refused c (x ∷ xs) ys kind meant h = inr (meant.0, right_refused c xs ys kind meant.1 h)
 
--- no part is refused as what could not be written
+-- no part is refused with `Write`
 part_unwritten : (c : Configuration) (w : Written) (kind : Kind) → PartRefusedFor c w kind
     → kind ≢ kinds.Write
 part_unwritten c w kind refused = grind (arith, refused)
@@ -61,7 +61,7 @@ parts_unwritten c [] kind refused = absurd refused
 parts_unwritten c (w ∷ parts) kind (inl refused) = part_unwritten c w kind refused
 parts_unwritten c (w ∷ parts) kind (inr refused) = parts_unwritten c parts kind refused.1
 
--- what the parts of a tree are refused for, its text is refused for
+-- a text is refused for what the parts of its tree are refused for
 pub text_if_parts_refused : {A : Type 0} (c : Configuration) (text : List ℕ) (lexemes : List Lexeme)
     (tree : Tree Written) (result : Result A Kind) → SpellsLexemes text lexemes
     → length lexemes ≤ MAX_LEXEMES → IsQuestion lexemes tree

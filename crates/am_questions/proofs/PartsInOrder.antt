@@ -1,4 +1,4 @@
--- The parts of a tree stand in its lexemes in their order.
+-- The parts of a tree occur in its lexemes in their order.
 use Rattle.std.proofs.Common.{List, [], ◌∷◌, ◌++◌, refl, sym, ap, subst, ◌∙◌, inl, inr}
 use Rattle.std.proofs.Common.{append_assoc, append-nil}
 use Rattle.std.specs.List.{AllByRecursion}
@@ -11,7 +11,7 @@ use Rattle.am_questions.specs.QuestionText.{parts_of}
 use Rattle.am_questions.proofs.PartLemmas.{all_joined}
 use Rattle.am_questions.proofs.TreeSeen.{parts_of_joined}
 
--- parts stand behind further joints too
+-- more joints may come before the parts
 behind_more : (parts : List Written) (more lexemes : List Lexeme) → AllByRecursion IsJoint more
     → StandInOrder parts lexemes → StandInOrder parts (more ++ lexemes)
 behind_more parts more lexemes joins (no_part _ all) =
@@ -21,7 +21,7 @@ behind_more parts more lexemes joins (part_before joints own after part later al
     (part_before (more ++ joints) own after part later (all_joined IsJoint more joints joins all) is
     rest)
 
--- parts of the front stand before those of the rest
+-- the parts of the front come before those of the rest
 one_behind_other : (parts others : List Written) (lexemes more : List Lexeme)
     → StandInOrder parts lexemes → StandInOrder others more
     → StandInOrder (parts ++ others) (lexemes ++ more)

@@ -1,5 +1,5 @@
--- The text of a question is read or refused, never both, and refused with one kind; but for the
--- patterns that the engine may refuse.
+-- A text that is read as a question is not refused, and a text is refused with at most one kind.
+-- The exceptions are patterns that the engine may refuse.
 use Rattle.std.proofs.Common.{◌≡◌, ◌≢◌, ◌≤◌, ℕ, List, [], ◌∷◌, length, None, Some, sym, subst}
 use Rattle.std.proofs.Common.{◌∙◌, inl, inr, arith}
 use Rattle.std.specs.List.{AllByRecursion}
@@ -22,7 +22,7 @@ use Rattle.am_questions.proofs.PartLemmas.{parts_meant}
 
 -- ---- Parts.
 
--- a part that means something is refused at most for a pattern
+-- a part that means something is refused only for a pattern
 part_meant : (c : Configuration) (w : Written) (kind : Kind) → IsMeant c w → PartRefusedFor c w kind
     → kind ≡ kinds.Pattern
 part_meant c (WrittenReceiver name) kind meant refused =
@@ -76,7 +76,7 @@ lexemes_accepted c lexemes tree q kind few is_tree meant (inr (inr parts)) =
     (subst (λ (t : Tree Written). PartsRefusedFor c (parts_of t) kind)
     (one_tree lexemes parts.1 tree parts.2 is_tree) parts.3)
 
--- a text that is read is refused at most for a pattern
+-- a text that is read is refused only for a pattern
 pub question_accepted : (c : Configuration) (text : List ℕ) (q : Question) (kind : Kind)
     → ReadsQuestion c text q → QuestionRefusedFor c text kind → kind ≡ kinds.Pattern
 question_accepted c text q kind read (inl none) = absurd (none.1 read.lexemes read.spelled)
@@ -108,7 +108,7 @@ lexemes_kind c lexemes kind other (inr (inr parts)) (inr (inr again)) h k =
     (one_tree lexemes parts.1 again.1 parts.2 again.2) parts.3)
     again.3 h k
 
--- and is refused with one kind
+-- a text is refused with at most one kind
 pub question_kind : (c : Configuration) (text : List ℕ) (kind other : Kind)
     → QuestionRefusedFor c text kind → QuestionRefusedFor c text other → kind ≢ kinds.Pattern
     → other ≢ kinds.Pattern → kind ≡ other

@@ -1,4 +1,4 @@
--- What is read between quotes is what is spelled there, and nothing else is.
+-- A value is read between quotes exactly if it is spelled there.
 use Rattle.std.proofs.Common.{◌≡◌, refl, sym, ◌∙◌, ap, inl, inr, ℕ, zero, suc, ◌+◌, ◌<◌, ◌≤◌}
 use Rattle.std.proofs.Common.{List, [], ◌∷◌, ◌++◌}
 use Rattle.std.proofs.Common.{length, take, drop, get_or, true, false, Option, Some, None}
@@ -15,8 +15,7 @@ use Rattle.am_labels.proofs.MatcherTextWhole.{said_again}
 use Rattle.am_questions.specs.Lexemes.{SpellsCharacter, SpellsQuoted}
 use Rattle.am_questions.specs.LexemeReading.{is_plain, begun_with, read_quoted}
 
--- the text behind an opening quote stands for a value, and then the closing quote and the rest
--- follow
+-- the text after an opening quote stands for a value, followed by the closing quote and the rest
 abbrev pub IsQuoted : List ℕ → List ℕ → List ℕ → Type 0
 IsQuoted text value rest = (body : List ℕ) × (text ≡ body ++ 34 ∷ rest) × SpellsQuoted body value
 
@@ -82,7 +81,7 @@ quoted_is_read (c ∷ cs) body rest s =
 
 -- ---- what is read is spelled
 
--- a byte more
+-- one more byte
 byte_before : (c : ℕ) (head text value rest : List ℕ) (read : Option (List ℕ × List ℕ))
     → SpellsCharacter head c
     → ((v r : List ℕ) → read ≡ Some (v, r) → IsQuoted text v r)
@@ -113,7 +112,7 @@ escape_spells d h = elim (cases_Bool (d == 34)) [
   ]
 ]
 
--- behind a backslash
+-- after a backslash
 escaped : (text value rest : List ℕ)
     → ((d : ℕ) (more v r : List ℕ) → text ≡ d ∷ more → read_quoted more ≡ Some (v, r)
     → IsQuoted more v r)

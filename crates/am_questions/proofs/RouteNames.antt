@@ -1,4 +1,4 @@
--- Where a text is the path of no route.
+-- When a text is the path of no route.
 use Rattle.std.proofs.Common.{◌≡◌, ◌≢◌, ℕ, List, Option, Some, None, sym, ◌∙◌, refl, subst, ap}
 use Rattle.std.specs.Prelude.{IsTrue, is_some}
 use Rattle.am_config.specs.ConfigFile.{Configuration, IsConfig}
@@ -16,7 +16,7 @@ pub not_spelled : (c : Configuration) (text path : List ℕ)
     → ((p : List ℕ) → path_text p ≢ text) → IsPathOfRoute c text path → ⊥
 not_spelled c text path none h = none path (sym h.0)
 
--- the path with the text leads beyond every route
+-- the path with the text is beyond what any route can have
 pub beyond_routes : (c : Configuration) (text p path : List ℕ) → IsConfig c
     → path_text p ≡ text → (IsPath p → ⊥) → IsPathOfRoute c text path → ⊥
 beyond_routes c text p path sound is beyond h =

@@ -1,4 +1,4 @@
--- The grammar of questions: which lexemes are which tree. (This project's own.)
+-- The grammar of questions: which lexemes make which tree. (This project's own.)
 use Rattle.std.specs.Prelude.{◌≡◌, ◌⊎◌, ℕ, List, [], ◌∷◌, ◌++◌, Option, Some, None, ⊤, codes}
 use Rattle.std.specs.List.{AllByRecursion}
 use Rattle.am_config.specs.Path.{path_text}
@@ -12,14 +12,14 @@ use Rattle.am_questions.specs.declared.grammar.Connective.TheVariants as by
 use Rattle.am_questions.specs.Lexemes.{Lexeme, Open, Close, Word, Quoted, BraceList}
 
 -- A simple part as it is written: a property, a receiver by its name, a route by the text of its
--- path, a list of matchers by its text.
+-- path, or a list of matchers by its text.
 pub data Written : Type 0 where
   WrittenIs : Property → Written
   WrittenReceiver : List ℕ → Written
   WrittenRoute : Reach → List ℕ → Written
   WrittenBraces : List ℕ → Written
 
--- The keywords, and the word of each. A name may be one of these words too.
+-- The keywords, and the word of each, also as a lexeme. A name may be one of these words too.
 pub data Keyword : Type 0 where
   NotWord : Keyword
   JoinWord : Connective → Keyword
@@ -41,7 +41,7 @@ word_of (ReachWord Enters) = codes "enters"
 abbrev pub keyword : Keyword → Lexeme
 keyword k = Word (word_of k)
 
--- NAME: any word, a keyword too, or a text in quotes.
+-- NAME: any word, even a keyword, or a text in quotes.
 abbrev pub name_of : Lexeme → Option (List ℕ)
 name_of (Word name) = Some name
 name_of (Quoted name) = Some name
@@ -57,7 +57,7 @@ pub data IsPart : List Lexeme → Written → Type 0 where
       (WrittenRoute reach (path_text path))
   braces : (list : List ℕ) → IsPart (BraceList list ∷ []) (WrittenBraces list)
 
--- A tier of the grammar: questions that a connective joins, or one that none joins.
+-- A tier of the grammar: questions that a connective joins, or one question that none joins.
 pub data Tier : Type 0 where
   JoinedBy : Connective → Tier
   Single : Tier
@@ -72,9 +72,10 @@ abbrev pub joined : Connective → Tree Written → Tree Written → Tree Writte
 joined by.And = And
 joined by.Or = Or
 
--- The grammar: both connectives join to the left, `or` binds weakest, then `and`, then `not`.
+-- In the grammar, both connectives join to the left. `or` binds least tightly, then `and`, then
+-- `not`.
 -- Source: own choice.
--- Example: `any or not any and any` is the tree of `any or ((not any) and any)`.
+-- Example: `any or not any and any` has the tree of `any or ((not any) and any)`.
 pub data IsOf : Tier → List Lexeme → Tree Written → Type 0 where
   -- question := conjunction { "or" conjunction }, conjunction := single { "and" single }
   alone : {c : Connective} {ts : List Lexeme} {q : Tree Written} → IsOf (operand c) ts q
@@ -100,7 +101,8 @@ IsJoint (Word word) =
 IsJoint (Quoted name) = ⊥
 IsJoint (BraceList list) = ⊥
 
--- The lexemes are those of these simple parts, in this order, and what joins them.
+-- The lexemes are those of these simple parts, in this order, and the words and parentheses that
+-- join them.
 -- Source: own choice.
 -- Example: `not (receiver ops or any)` has the lexemes of `receiver ops` and then those of `any`.
 pub data StandInOrder : List Written → List Lexeme → Type 0 where

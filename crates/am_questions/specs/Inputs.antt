@@ -1,4 +1,4 @@
--- What a call is handed that asks a question, when that is accepted, and the order of its faults.
+-- The inputs of a call that asks a question, when they are accepted, and the order of their faults.
 -- (This project's own.)
 use Rattle.std.specs.Prelude.{ℕ, List, [], ◌∷◌, ◌++◌, Option, Some, option_copied}
 use Rattle.am_labels.specs.Space.{Space}
@@ -23,7 +23,7 @@ pub record Inputs : Type 0 where
   pub question : List ℕ
   pub after : Option (List ℕ)
 
--- The inputs that a call is handed.
+-- The inputs that a call is given.
 abbrev pub inputs_of : List ℕ → Files → List ℕ → Page → Inputs
 inputs_of universe files question page = record {
   universe = universe;
@@ -53,7 +53,8 @@ files_fingerprint universe files question =
     ∷ Some question
     ∷ [])
 
--- The fingerprint of the inputs. The token is no part of it, nor how much of the answers is wanted.
+-- The fingerprint of the inputs. The token is not part of it, nor is the number of answers that are
+-- wanted.
 abbrev pub inputs_fingerprint : Inputs → List ℕ
 inputs_fingerprint inputs = files_fingerprint inputs.universe inputs.files inputs.question
 
@@ -67,12 +68,13 @@ pub record AcceptsInputs (inputs : Inputs) (space : Space) (world : World)
   pub reads : ReadsQuestion world.config inputs.question question
   pub starts : AsksStart space.labels (inputs_fingerprint inputs) inputs.after start
 
--- The stages of `ask`, in order: the universe file, those of the world, the question, the token.
+-- The stages of `ask`, in order: the universe file, the stages of the world, the question, and the
+-- token.
 -- Source: own choice.
--- Example: where the universe file is not JSON and the question is the empty text, the first fault
--- is the `not-json` of the universe file, and not the `question-syntax` of the question. Where all
--- files are accepted, but an export of silences comes without an instant, it is `need-at`, also
--- where the token is one of another universe.
+-- Example: if the universe file is not JSON and the question is the empty text, the first fault is
+-- the `not-json` of the universe file, not the `question-syntax` of the question. If all files are
+-- accepted, but there is a file of silences and no instant, it is `need-at`, even if the token is
+-- one of another universe.
 abbrev pub ask_stages : Inputs → List Stage
 ask_stages inputs =
     universe_stage inputs.universe

@@ -1,5 +1,5 @@
--- Reading one lexeme of a question's text, as a function. What counts is the relation that it
--- decides, `SpellsLexemes`.
+-- Reading one lexeme of a question's text, as a function. The definition that counts is the
+-- relation that it decides, `SpellsLexemes`.
 use Rattle.std.specs.Prelude.{ℕ, List, [], ◌∷◌, take, drop, slice_index, Bool, not, ◌||◌, ◌==◌}
 use Rattle.std.specs.Prelude.{if◌then◌else◌, Option, Some, None, option_map}
 use Rattle.std.specs.List.{prefix_len}
@@ -14,11 +14,11 @@ use Rattle.am_questions.specs.Lexemes.{is_word_character}
 abbrev pub is_plain : ℕ → Bool
 is_plain c = not (c == double_quote || c == backslash)
 
--- What is read, its value begun with this byte.
+-- What is read, with this byte put in front of its value.
 abbrev pub begun_with : ℕ → Option (List ℕ × List ℕ) → Option (List ℕ × List ℕ)
 begun_with c read = option_map (λ p. (c ∷ p.0, p.1)) read
 
--- What the text behind an opening quote stands for, and what stands behind the closing one.
+-- What the text after an opening quote stands for, and the text after the closing quote.
 unfoldable pub read_quoted : List ℕ → Option (List ℕ × List ℕ)
 read_quoted [] = None
 read_quoted (c ∷ []) = if c == double_quote then Some ([], []) else None
@@ -27,15 +27,16 @@ read_quoted (c ∷ d ∷ more) =
     else (if not (c == backslash) then begun_with c (read_quoted (d ∷ more))
     else (if has_escape d then begun_with (byte_of_escape d) (read_quoted more) else None))
 
--- A lexeme that is the first bytes of a text, and what stands behind it.
+-- A lexeme made of the first bytes of a text, and the rest of the text.
 abbrev pub cut : (List ℕ → Lexeme) → List ℕ → ℕ → Lexeme × List ℕ
 cut lexeme text n = (lexeme (take n text), drop n text)
 
--- A value as a lexeme, and what stands behind it.
+-- A value as a lexeme in quotes, and the rest of the text.
 abbrev pub quoted_lexeme : List ℕ × List ℕ → Lexeme × List ℕ
 quoted_lexeme p = (Quoted p.0, p.1)
 
--- The lexeme with which a text begins, where that is no whitespace, and what stands behind it.
+-- The lexeme that a text begins with, if it does not begin with whitespace, and the rest of the
+-- text.
 unfoldable pub read_lexeme : List ℕ → Option (Lexeme × List ℕ)
 read_lexeme text =
     if slice_index text 0 == left_parenthesis then Some (Open, drop 1 text)

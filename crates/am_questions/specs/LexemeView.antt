@@ -4,7 +4,7 @@ use Rattle.am_questions.specs.declared.lexemes.Lexeme as code
 use Rattle.am_questions.specs.declared.lexemes.Lexeme.TheVariants as code_of
 use Rattle.am_questions.specs.Lexemes.{Lexeme, Open, Close, Word, Quoted, BraceList}
 
--- A lexeme without where it lies in memory.
+-- A lexeme, without the addresses of its text in memory.
 abbrev pub lexeme_view : code.Lexeme → Lexeme
 lexeme_view code_of.Open = Open
 lexeme_view code_of.Close = Close

@@ -1,4 +1,4 @@
--- The stages of a call that asks a question, behind those of its files. (This project's own.)
+-- The stages of a call that asks a question, after those of its files. (This project's own.)
 use Rattle.std.specs.Prelude.{◌≡◌, ℕ, List, [], Option}
 use Rattle.am_universe.specs.declared.place.Place.TheVariants as places
 use Rattle.am_labels.specs.Space.{Space}
@@ -17,8 +17,8 @@ ReadsSomeQuestion bytes text =
     (configuration : Configuration) × FileSaysConfig bytes configuration
     × (question : Question) × ReadsQuestion configuration text question
 
--- Why the text is refused, as a question about the configuration that the bytes of a file say; its
--- faults stand at no part of a file.
+-- Why the text is refused as a question about the configuration that the bytes of a file say. Such
+-- a fault has the empty pointer.
 abbrev pub QuestionStageRefusedFor : List ℕ → List ℕ → Refusal → Type 0
 QuestionStageRefusedFor bytes text r =
     (configuration : Configuration) × FileSaysConfig bytes configuration
@@ -31,14 +31,14 @@ HasSomeStart bytes fingerprint after =
     (space : Space) × FileSaysUniverse bytes space
     × (start : Start) × AsksStart space.labels fingerprint after start
 
--- Why the token is refused over these labels, for inputs with this fingerprint. Such a fault stands
--- at no part of a file.
+-- Why the token is refused over these labels, for inputs with this fingerprint. Such a fault has
+-- the empty pointer.
 abbrev pub TokenRefusedFor : List ℕ → List ℕ → Option (List ℕ) → Refusal → Type 0
 TokenRefusedFor bytes fingerprint after r =
     (space : Space) × FileSaysUniverse bytes space
     × (r.pointer ≡ []) × StartRefusedFor space.labels fingerprint after r.kind
 
--- The text of the question about the configuration of a file.
+-- The stage of the text of the question about the configuration of a file.
 abbrev pub question_stage : List ℕ → List ℕ → Stage
 question_stage bytes text = record {
   place = places.Question;
@@ -46,8 +46,8 @@ question_stage bytes text = record {
   refuses = QuestionStageRefusedFor bytes text;
 }
 
--- The token of a page, if there is one, beside the bytes of the universe file and the fingerprint
--- of all inputs.
+-- The stage of the token of a page, if there is one, beside the bytes of the universe file and the
+-- fingerprint of all inputs.
 abbrev pub token_stage : List ℕ → List ℕ → Option (List ℕ) → Stage
 token_stage bytes fingerprint after = record {
   place = places.Token;

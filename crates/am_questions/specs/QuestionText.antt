@@ -1,4 +1,4 @@
--- Question texts: which text is which question of a configuration, and why a text is refused.
+-- Question texts: which text is which question about a configuration, and why a text is refused.
 -- (This project's own.)
 use Rattle.std.specs.Prelude.{◌≡◌, ◌≤◌, ◌<◌, ◌⊎◌, ℕ, List, [], ◌∷◌, ◌++◌, length, Option, Some}
 use Rattle.std.specs.Prelude.{None, position, IsTrue, is_some}
@@ -24,11 +24,11 @@ use Rattle.am_questions.specs.Grammar.{WrittenBraces, IsQuestion}
 abbrev pub receiver_named : Configuration → List ℕ → Option ℕ
 receiver_named c name = position (λ other. same_text other name) c.receivers
 
--- The text is that of the path of a route.
+-- The text is that of this path, and a route is at the path.
 abbrev pub IsPathOfRoute : Configuration → List ℕ → List ℕ → Type 0
 IsPathOfRoute c text path = (text ≡ path_text path) × IsTrue (is_some (route_at c.root path))
 
--- A simple part as it is written means one of the configuration.
+-- A simple part as it is written means this simple part, under the configuration.
 abbrev pub Means : Configuration → Written → Simple → Type 0
 Means c (WrittenIs property) simple = simple ≡ Is property
 Means c (WrittenReceiver name) simple =
@@ -39,7 +39,7 @@ Means c (WrittenBraces text) simple =
     (matchers : List Condition) × Spells text matchers × (length matchers ≤ MAX_MATCHERS)
     × IsTrue (have_valid_patterns matchers) × (simple ≡ Braces matchers)
 
--- A tree means the question of the same form whose simple parts are meant by its own.
+-- A tree means the question of the same form, whose simple parts are what the tree's parts mean.
 abbrev pub TreeMeans : Configuration → Tree Written → Question → Type 0
 TreeMeans c (Part written) question =
     (simple : Simple) × Means c written simple × (question ≡ Part simple)
@@ -49,10 +49,11 @@ TreeMeans c (And t u) question =
 TreeMeans c (Or t u) question =
     (q : Question) × (r : Question) × TreeMeans c t q × TreeMeans c u r × (question ≡ Or q r)
 
--- The text is the question: its lexemes, of which there are not too many, are a tree that means it.
+-- The text is read as the question: its lexemes, which are not too many, make a tree that means the
+-- question.
 -- Source: own choice.
--- Example: where `ops` is the second receiver, `not receiver ops` is the question whether none of
--- the receivers is that at position 1.
+-- Example: if `ops` is the second receiver, `not receiver ops` is the question whether none of an
+-- alert's receivers is the one at position 1.
 pub record ReadsQuestion (c : Configuration) (text : List ℕ) (question : Question) : Type 0 where
   pub lexemes : List Lexeme
   pub spelled : SpellsLexemes text lexemes
@@ -70,8 +71,8 @@ parts_of (Not t) = parts_of t
 parts_of (And t u) = parts_of t ++ parts_of u
 parts_of (Or t u) = parts_of t ++ parts_of u
 
--- Why a simple part is refused: no receiver of the name is declared, no route is at the path, or as
--- the text of a matcher list is.
+-- Why a simple part is refused: no receiver with the name is declared, no route is at the path, or
+-- the text of the matcher list is refused.
 abbrev pub PartRefusedFor : Configuration → Written → Kind → Type 0
 PartRefusedFor c (WrittenIs property) kind = ⊥
 PartRefusedFor c (WrittenReceiver name) kind =
@@ -84,14 +85,14 @@ PartRefusedFor c (WrittenBraces text) kind = TextRefusedFor text kind
 abbrev pub IsMeant : Configuration → Written → Type 0
 IsMeant c written = (simple : Simple) × Means c written simple
 
--- Why some parts are refused: as the first of them that is refused, behind those that mean
--- something.
+-- Why a list of parts is refused: one of them is refused, and each part before it means something.
 abbrev pub PartsRefusedFor : Configuration → List Written → Kind → Type 0
 PartsRefusedFor c [] kind = ⊥
 PartsRefusedFor c (part ∷ parts) kind =
     PartRefusedFor c part kind ⊎ (IsMeant c part × PartsRefusedFor c parts kind)
 
--- Why lexemes are refused: there are too many; or they are no tree; or else for a simple part.
+-- Why lexemes are refused: there are too many; or else they make no tree; or else a simple part is
+-- refused.
 abbrev pub LexemesRefusedFor : Configuration → List Lexeme → Kind → Type 0
 LexemesRefusedFor c lexemes kind =
     ((kind ≡ kinds.Limit) × (MAX_LEXEMES < length lexemes))
@@ -100,10 +101,11 @@ LexemesRefusedFor c lexemes kind =
     ⊎ ((length lexemes ≤ MAX_LEXEMES) × (tree : Tree Written) × IsQuestion lexemes tree
     × PartsRefusedFor c (parts_of tree) kind)
 
--- Why a text is refused: it cannot be cut into lexemes; or else for its lexemes.
+-- Why a text is refused: it is not made of lexemes; or else its lexemes are refused.
 -- Source: own choice.
 -- Example: `receiver nobody and ends` is refused as `question-syntax`, whatever receivers there
--- are, and `receiver nobody and ends /9` as `unknown-receiver`, where there is no `nobody`.
+-- are. `receiver nobody and ends /9` is refused as `unknown-receiver` if there is no receiver
+-- `nobody`.
 abbrev pub QuestionRefusedFor : Configuration → List ℕ → Kind → Type 0
 QuestionRefusedFor c text kind =
     ((kind ≡ kinds.QuestionSyntax)

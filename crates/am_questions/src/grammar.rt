@@ -65,7 +65,8 @@ pub(crate) fn read_tree<'a>(alloc: Global, lexemes: &'a [Lexeme<'a>]) -> Result<
     }
 }
 
-/// The questions that a connective joins, to the left, or one alone, and the lexemes after them.
+/// Reads the questions that a connective joins, to the left, or one question alone. Returns their
+/// tree and the lexemes after them.
 #[cycle(questions)]
 fn read_joined<'a>(
     alloc: Global,
@@ -87,8 +88,8 @@ fn read_joined<'a>(
     Ok((tree, rest))
 }
 
-/// A question that a connective joins, and the lexemes after it. `and` binds more tightly than
-/// `or`.
+/// Reads a question that a connective joins. Returns its tree and the lexemes after it. `and` binds
+/// more tightly than `or`.
 #[cycle(questions)]
 fn read_operand<'a>(
     alloc: Global,
@@ -107,7 +108,7 @@ fn read_operand<'a>(
     }
 }
 
-/// A question that no connective joins, and the lexemes after it.
+/// Reads a question that no connective joins. Returns its tree and the lexemes after it.
 #[cycle(questions)]
 fn read_single<'a>(
     alloc: Global,
@@ -162,7 +163,7 @@ fn property_of(word: &str) -> Option<Property>
     }
 }
 
-/// How a route is reached, by its word.
+/// The way to reach a route that this word names.
 fn reach_of(word: &str) -> Option<Reach>
     ensures found { IfSome result (λ reach. word.now ≡ word_of (ReachWord reach)) }
     ensures none { IfNone result ((reach : Reach) → word.now ≢ word_of (ReachWord reach)) }
@@ -174,7 +175,7 @@ fn reach_of(word: &str) -> Option<Reach>
     }
 }
 
-/// A simple part, and the lexemes after it.
+/// Reads a simple part. Returns it and the lexemes after it.
 fn read_part<'a>(lexemes: &'a [Lexeme<'a>]) -> Option<(Written<'a>, &'a [Lexeme<'a>])>
     ensures taken { IfSome result (λ r. ReadsPart (map lexeme_view lexemes.now) (written_view r.0)
         (map lexeme_view r.1.now)) }
@@ -190,7 +191,7 @@ fn read_part<'a>(lexemes: &'a [Lexeme<'a>]) -> Option<(Written<'a>, &'a [Lexeme<
     }
 }
 
-/// The simple part that begins with a word, and the lexemes after it.
+/// Reads the simple part that begins with a word. Returns it and the lexemes after it.
 fn read_word_part<'a>(
     word: &str,
     lexemes: &'a [Lexeme<'a>],
@@ -213,7 +214,7 @@ fn read_word_part<'a>(
     }
 }
 
-/// The name that a lexeme is.
+/// The lexeme as a name, if it is a word or a text in quotes.
 fn name_of<'a>(first: &'a Lexeme<'a>) -> Option<&'a str>
     ensures { option_map (λ name. name.now) result ≡ name_of (lexeme_view first.now) }
 {
@@ -224,7 +225,7 @@ fn name_of<'a>(first: &'a Lexeme<'a>) -> Option<&'a str>
     }
 }
 
-/// The text of a path that a lexeme is.
+/// The lexeme as the text of a path, if it is a word that is such a text.
 fn path_of<'a>(first: &'a Lexeme<'a>) -> Option<&'a str>
     ensures taken { IfSome result (λ text. (lexeme_view first.now ≡ lexeme.Word text.now)
         × ((path : List ℕ) × (path_text path ≡ text.now))) }
@@ -237,7 +238,7 @@ fn path_of<'a>(first: &'a Lexeme<'a>) -> Option<&'a str>
     }
 }
 
-/// Whether a word is the text of a path, be there such a route or not.
+/// Whether a word is the text of a path. There need not be such a route.
 fn is_path(word: &str) -> bool
     ensures { IsTrue result ↔ ((path : List ℕ) × (path_text path ≡ word.now)) }
 {

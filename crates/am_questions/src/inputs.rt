@@ -68,8 +68,8 @@ pub fn read_inputs(
     })
 }
 
-/// The start that a token stands for, or that of all choices if there is no token. Fails with
-/// `BadToken` or `OtherInputs`, at `Token`, as `parse_token` does. Takes no memory.
+/// Reads the start that a token stands for. Without a token it is the start of all choices. Fails
+/// with `BadToken` or `OtherInputs`, at `Token`, as `parse_token` does. Takes no memory.
 fn read_start(
     alloc: Global,
     after: Option<&str>,

@@ -91,7 +91,7 @@ pub fn accepted_inputs_have_no_fault()
         → refusal.kind ≡ kinds.Pattern }
 {}
 
-/// The limit of the lexemes of a question.
+/// The limit on the lexemes of a question.
 pub fn questions_have_a_limit()
     ensures lexemes { MAX_LEXEMES ≡ 256 }
 {}

@@ -48,7 +48,8 @@ pub fn read_lexemes(alloc: Global, text: &str) -> Result<Vec<Lexeme<'_>>, Kind>
     Ok(lexemes)
 }
 
-/// The first lexeme of a text that does not begin with whitespace, and what follows it.
+/// Reads the first lexeme of a text that does not begin with whitespace. Returns it and the text
+/// after it.
 #[tactic(auto, unfolding(crate::specs::LexemeReading::read_lexeme))]
 fn read_lexeme(alloc: Global, text: &str) -> Result<(Lexeme<'_>, &str), Kind>
     ensures read { IfOk result (λ x. read_lexeme text.now ≡ Some (lexeme_view x.0, x.1.now)) }
@@ -73,7 +74,8 @@ fn read_lexeme(alloc: Global, text: &str) -> Result<(Lexeme<'_>, &str), Kind>
     }
 }
 
-/// What the text after an opening quote stands for, and what follows the closing quote.
+/// Reads the text after an opening quote. Returns what it stands for, and the text after the
+/// closing quote.
 fn read_quoted(alloc: Global, text: &str) -> Result<(String, &str), Kind>
     ensures read { IfOk result (λ x. read_quoted text.now ≡ Some (string_bytes x.0, x.1.now)) }
     ensures refused { IfErr result (λ kind. kind ≢ kinds.Memory → (kind ≡ kinds.QuestionSyntax)
@@ -103,7 +105,7 @@ fn plain_len(text: &[u8]) -> usize
         .count()
 }
 
-/// The character for which a byte stands after a backslash.
+/// The character that a byte after a backslash stands for.
 fn escape_of(byte: u8) -> Result<char, Kind>
     ensures read { IfOk result (λ character. (has_escape byte ≡ true)
         × (character ≡ byte_of_escape byte)) }
@@ -118,7 +120,7 @@ fn escape_of(byte: u8) -> Result<char, Kind>
     }
 }
 
-/// How many bytes of a word a text begins with.
+/// The length of the word at the front of a text, in bytes.
 fn word_len(text: &[u8]) -> usize
     ensures at_most { result ≤ length text.now }
     ensures value { result ≡ prefix_len is_word_character text.now }

@@ -1,14 +1,14 @@
 //! Reading questions, and all inputs of a call that asks one.
 //!
 //! [`parse_question`] reads a [`Question`](am_eval::Question) about a configuration.
-//! [`read_inputs`] reads all that a question is asked over: the universe, the world, the question,
-//! and where the answers begin.
+//! [`read_inputs`] reads all inputs of such a call: the universe, the world, the question, and
+//! where the answers begin.
 #![tactic(auto)]
 
-// How much there may be.
+// Limits.
 pub mod limits;
 
-// The text of a question: its lexemes, the tree that they are, and what its parts mean.
+// The text of a question: its lexemes, the tree that they make, and what its parts mean.
 mod grammar;
 mod lexemes;
 mod names;
@@ -22,5 +22,5 @@ mod inputs;
 pub use fingerprints::fingerprint;
 pub use inputs::{AcceptedInputs, read_inputs};
 
-// What holds of the definitions by themselves.
+// Facts about the definitions alone.
 pub mod laws;

@@ -40,7 +40,7 @@ pub fn parse_question(alloc: Global, text: &str, config: &Config) -> Result<Ques
     question_of(alloc, config, &tree)
 }
 
-/// The question that a tree means. Fails as its first simple part does that means nothing.
+/// Returns the question that a tree means. Fails as the first of its simple parts that fails.
 fn question_of(alloc: Global, config: &Config, tree: &Tree<'_>) -> Result<Question, Kind>
     ensures meant { IfOk result (λ question.
         TreeMeans (config_view config.now) (tree_view tree.now) (question_view question)) }
@@ -65,7 +65,7 @@ fn question_of(alloc: Global, config: &Config, tree: &Tree<'_>) -> Result<Questi
     }
 }
 
-/// The question that a simple part means.
+/// Returns the question that a simple part means.
 fn part_of(alloc: Global, config: &Config, written: &Written<'_>) -> Result<Question, Kind>
     ensures meant { IfOk result (λ question. TreeMeans (config_view config.now)
         (Part (written_view written.now)) (question_view question)) }
@@ -83,8 +83,8 @@ fn part_of(alloc: Global, config: &Config, written: &Written<'_>) -> Result<Ques
     }
 }
 
-/// The path with this text, if the configuration has a route there. Fails with `UnknownRoute` if it
-/// has none.
+/// Returns the path with this text, if the configuration has a route there. Fails with
+/// `UnknownRoute` if it has none.
 fn path_of_route(config: &Config, text: &str) -> Result<Path, Kind>
     ensures found { IfOk result (λ path.
         IsPathOfRoute (config_view config.now) text.now path) }

@@ -35,7 +35,7 @@ same_turned (i ∷ shared) c d h =
     (sym (eqb-true (slice_index c i) (slice_index d i) parts.0)))
     (same_turned shared c d parts.1)
 
--- of choices that have the same positions at the labels both or neither are so to another
+-- if two choices agree at the labels, a third agrees there with both or with neither
 pub same_beside : (shared b c d : List ℕ)
     → ((i : ℕ) → is_shared shared i ≡ true → slice_index c i ≡ slice_index b i)
     → are_same_at shared c d ≡ are_same_at shared b d
@@ -48,7 +48,7 @@ same_beside (j ∷ shared) b c d h =
 
 -- ---- Partners.
 
--- what is found is in a space, and passes; and where nothing is found nothing passes
+-- what is found is in a space and passes the test; if anything passes, something is found
 pub found_in : (s : Space) (test : List ℕ → Bool) (found : Option (List ℕ)) (c : List ℕ)
     → found ≡ find test (all_choices s) → found ≡ Some c → IsChoiceOf s c × (test c ≡ true)
 found_in s test found c first is =
@@ -73,14 +73,14 @@ found_if_any s test c is passes =
     some_found test (all_choices s) c
     (IsIn-from_Contains (all_choices s) c ((space_choices s c).1 is)) passes
 
--- so a choice of a pair has a partner, and what has one is of a pair
+-- so the first choice of a pair has a partner
 pub partner_of_pair : (s : Space) (shared : List ℕ) (ks ls : List Candidate) (c d : List ℕ)
     → IsPair s shared ks ls c d → has_partner s shared ls c ≡ true
 partner_of_pair s shared ks ls c d pair =
     found_if_any s (is_partner shared ls c) d pair.second
     (and_from (are_same_at shared c d) (meets d ls) pair.same pair.meets_second)
 
--- a choice that agrees with another at the labels has partners where that has
+-- a choice that agrees at the labels with a choice without a partner has no partner either
 no_partner : (s : Space) (shared : List ℕ) (ls : List Candidate) (prefix c : List ℕ)
     → has_partner s shared ls prefix ≡ false
     → ((i : ℕ) → is_shared shared i ≡ true → slice_index c i ≡ slice_index prefix i)
@@ -90,7 +90,7 @@ no_partner s shared ls prefix c none agrees =
     (λ d there. ap (λ b. b && meets d ls) (same_beside shared prefix c d agrees)))
     ∙ none
 
--- where nothing passes a test, nothing passes a narrower one
+-- if nothing passes a test, nothing passes a narrower one
 none_narrower : {X : Type 0} (narrow wide : X → Bool) (xs : List X)
     → ((x : X) → narrow x ≡ true → wide x ≡ true) → find wide xs ≡ None
     → is_some (find narrow xs) ≡ false
@@ -117,7 +117,7 @@ same_at (j ∷ shared) c d (suc k) label same at =
     same_at shared c d k label
     (and_parts (slice_index c j == slice_index d j) (are_same_at shared c d) same).1 at
 
--- a choice without a partner that shares one of the labels has none
+-- if a choice has no partner that shares one label alone, a choice that agrees there has no partner
 no_partner_by : (s : Space) (shared : List ℕ) (ls : List Candidate) (prefix c : List ℕ)
     (k label : ℕ) → slice_get shared k ≡ Some label
     → slice_index c label ≡ slice_index prefix label
@@ -147,7 +147,7 @@ none_of : {X : Type 0} (o : Option X) → is_some o ≡ false → o ≡ None
 none_of None is = refl
 none_of (Some x) is = absurd (cc)
 
--- so the one label, or all of them, are to blame
+-- so that one label is to blame, or all of them are
 pub one_to_blame : (s : Space) (shared : List ℕ) (ls : List Candidate) (none one : Labels)
     (prefix : List ℕ) (k label : ℕ) (found : Option (List ℕ)) → slice_get shared k ≡ Some label
     → AllByRecursion (λ i. i < length prefix) shared → ((i : ℕ) → has_label none i ≡ false)
@@ -233,7 +233,7 @@ pub pair_turned : (s : Space) (shared : List ℕ) (ks ls : List Candidate) → A
 pair_turned s shared ks ls pair =
     (pair.1, pair.0, turned_round s shared ks ls pair.0 pair.1 pair.2)
 
--- with fewer names of one side, or of the other, there still is a pair
+-- if fewer literals are named on either side, there still is a pair
 abbrev pub MeetsFewer : List Candidate → List Candidate → Type 0
 MeetsFewer ks ls = (c : List ℕ) → meets c ks ≡ true → meets c ls ≡ true
 
@@ -260,20 +260,20 @@ fewer_either ks before after i (inr less) h c met =
 
 -- ---- What is needed.
 
--- a pair without a name
+-- there still is a pair if a literal loses its name
 pub fewer_still : (s : Space) (shared : List ℕ) (ls : List Candidate) (i : ℕ) (ks : List Candidate)
     → ArePaired s shared ks ls → ArePaired s shared (without i ks) ls
 fewer_still s shared ls i ks =
     fewer_paired s shared ks (without i ks) ls ls (λ c met. fewer_met c i ks met) (λ c met. met)
 
--- what is needed beside more is needed beside less
+-- what is needed beside more literals is needed beside fewer
 pub needed_less : (s : Space) (shared : List ℕ) (ks ls fewer : List Candidate)
     → MeetsFewer ls fewer → AreNeededBeside s shared ks ls → AreNeededBeside s shared ks fewer
 needed_less s shared ks ls fewer less needed i k at named =
     fewer_paired s shared (without i ks) (without i ks) ls fewer (λ c met. met) less
     (needed i k at named)
 
--- what a search answers
+-- what a search for pairs returns
 pub paired_if : (s : Space) (shared : List ℕ) (ks ls : List Candidate)
     (found : Option (List ℕ × List ℕ)) → IfSome found (λ pair. IsPair s shared ks ls pair.0 pair.1)
     → is_some found ≡ true → ArePaired s shared ks ls

@@ -18,13 +18,12 @@ use Rattle.am_reasons.specs.declared.candidate.Candidate.{Candidate}
 use Rattle.am_reasons.specs.Meeting.{holds_at, hold_all, meets, IsMet}
 use Rattle.am_reasons.specs.Reason.{AreSameLiterals, AreNamedBefore, renamed, without}
 
--- how many are not named
+-- the number of literals that are not named
 abbrev pub count_unnamed : List Candidate → ℕ
 count_unnamed [] = 0
 count_unnamed (k ∷ ks) = (if k.named then 0 else 1) + count_unnamed ks
 
--- of the literals from one position on, those before another are needed where they are named:
--- without each of them something is met
+-- each named literal from one position on and before another is needed: without it something is met
 abbrev pub AreNeededBefore : (List Candidate → Type 0) → ℕ → ℕ → List Candidate → Type 0
 AreNeededBefore Met from n ks =
     (i : ℕ) (k : Candidate) → slice_get ks i ≡ Some k → from ≤ i → i < n → IsTrue k.named
@@ -54,7 +53,7 @@ same_through ks ls ms a b = absurd a
 
 -- ---- One literal that is named, or is not.
 
--- the literal at its place gets the name, and the others stay
+-- the literal at the position gets the name or loses it, and the others stay as they are
 pub got_renamed : (i : ℕ) (name : Bool) (ks : List Candidate) (j : ℕ) (k : Candidate)
     → slice_get (renamed i name ks) j ≡ Some k
     → ((j ≡ i) × (k.named ≡ name)) ⊎ ((slice_get ks j ≡ Some k) × (j ≡ i → ⊥))
@@ -81,7 +80,7 @@ renamed_is_set zero name (k ∷ ks) d lt = refl
 renamed_is_set (suc i) name (k ∷ ks) d lt =
     ap (λ rest. k ∷ rest) (renamed_is_set i name ks d (omega (arith, lt)))
 
--- what was named stays so, where another is named, or one behind it is not
+-- the first literals stay named if any literal is named, or if a later one loses its name
 pub named_more : (n i : ℕ) (ks : List Candidate) → AreNamedBefore n ks
     → AreNamedBefore n (renamed i true ks)
 named_more n i ks h j k at lt = elim (got_renamed i true ks j k at) [
@@ -96,7 +95,7 @@ named_less n i ks behind h j k at lt = elim (got_renamed i false ks j k at) [
   | inr other ↦ h j k other.0 lt
 ]
 
--- of the first so many literals those before a position are named
+-- those of the first literals, up to a number, that are before a position are named
 abbrev pub AreNamedSoFar : List Candidate → List Candidate → ℕ → ℕ → Type 0
 AreNamedSoFar ks ls count n =
     AreSameLiterals ks ls
@@ -122,7 +121,7 @@ named_first ks before after count i name h so is = (
       ],
 )
 
--- naming again what was named gives the same
+-- if a literal loses its name and gets it back, nothing changes
 pub restored : (i : ℕ) (ks : List Candidate) (k : Candidate) → slice_get ks i ≡ Some k
     → k.named ≡ true → renamed i true (without i ks) ≡ ks
 restored i [] k at named = refl
@@ -132,7 +131,7 @@ restored zero (l ∷ ks) k at named =
     λ j. record { cube = l.cube; wanted = l.wanted; named = sym so j; tag = l.tag } ∷ ks
 restored (suc i) (l ∷ ks) k at named = ap (λ rest. l ∷ rest) (restored i ks k at named)
 
--- the order in which names are taken off is no matter
+-- the order in which names are taken off does not matter
 swapped : (i j : ℕ) (ks : List Candidate) → without i (without j ks) ≡ without j (without i ks)
 swapped i j [] = refl
 swapped zero zero (k ∷ ks) = refl
@@ -140,7 +139,7 @@ swapped zero (suc j) (k ∷ ks) = refl
 swapped (suc i) zero (k ∷ ks) = refl
 swapped (suc i) (suc j) (k ∷ ks) = ap (λ rest. k ∷ rest) (swapped i j ks)
 
--- and the literal at its place is not named without it
+-- and the literal at a position is not named if its name was taken off
 pub at_place : {P : Type 0} (i : ℕ) (ks : List Candidate) (k : Candidate)
     → slice_get (without i ks) i ≡ Some k → IsTrue k.named → P
 at_place i ks k at named = elim (got_renamed i false ks i k at) [
@@ -150,7 +149,7 @@ at_place i ks k at named = elim (got_renamed i false ks i k at) [
 
 -- ---- What is met.
 
--- with fewer names the rest is met
+-- if fewer literals are named, a choice still meets them
 pub fewer_met : (c : List ℕ) (i : ℕ) (ks : List Candidate) → meets c ks ≡ true
     → meets c (without i ks) ≡ true
 fewer_met c i [] h = refl
@@ -159,7 +158,7 @@ fewer_met c (suc i) (k ∷ ks) h =
     let parts = and_parts (not k.named || holds_at c k) (meets c ks) h in
     rw (parts.0) (fewer_met c i ks parts.1)
 
--- where what is named is met, a literal that is false is not named
+-- if the named literals are met, a literal that is false is not named
 pub false_unnamed : (c : List ℕ) (ks : List Candidate) (i : ℕ) (k : Candidate)
     → meets c ks ≡ true → slice_get ks i ≡ Some k → holds_at c k ≡ false → k.named ≡ false
 false_unnamed c [] i k h at fails = absurd (cc)
@@ -175,7 +174,7 @@ false_unnamed c (l ∷ ks) zero k h at fails =
 false_unnamed c (l ∷ ks) (suc i) k h at fails =
     false_unnamed c ks i k (and_parts (not l.named || holds_at c l) (meets c ks) h).1 at fails
 
--- so naming it leaves fewer without a name
+-- so naming it leaves fewer literals without a name
 pub fewer_unnamed : (ks : List Candidate) (i : ℕ) (k : Candidate) → slice_get ks i ≡ Some k
     → k.named ≡ false → count_unnamed (renamed i true ks) < count_unnamed ks
 fewer_unnamed [] i k at none = absurd (cc)
@@ -186,7 +185,7 @@ fewer_unnamed (l ∷ ks) zero k at none =
 fewer_unnamed (l ∷ ks) (suc i) k at none =
     let later = fewer_unnamed ks i k at none in omega (arith, later)
 
--- the truth of literals does not ask whether they are named
+-- the truth of literals does not depend on whether they are named
 pub hold_alike : (c : List ℕ) (ks ls : List Candidate) → AreSameLiterals ks ls
     → hold_all c ls ≡ true → hold_all c ks ≡ true
 hold_alike c [] [] same h = refl
@@ -245,7 +244,7 @@ same_either ks before after i (inr less) h =
 
 -- ---- What was looked for.
 
--- the first that passes a test and is possible by the cubes is the first of the space that passes
+-- by the cubes, the first possible choice that passes a test is the first of the space that does
 pub first_in_space : (possible : PossibleRefuter) (test : List ℕ → Bool) (found : Option (List ℕ))
     → found ≡ find (λ d. test d && possible_truth possible d) (choices (possible_sizes possible))
     → found ≡ find test (all_choices (possible_space possible))
@@ -257,7 +256,7 @@ first_in_space possible test found first =
     (λ d whole. ap (λ b. test d && b) (possible.knows_possible d whole))
     ∙ find_kept test (is_possible_choice s) (choices (sizes s.labels))
 
--- what is found meets the literals that are named, and where nothing is found none does
+-- a choice that is found meets the named literals, so they are met if one is found
 pub found_meets : (s : Space) (ks : List Candidate) (found : Option (List ℕ)) (c : List ℕ)
     → found ≡ find (λ d. meets d ks) (all_choices s) → found ≡ Some c → meets c ks ≡ true
 found_meets s ks found c first is =
@@ -276,7 +275,7 @@ literal_at [] i lt = absurd (omega (arith, lt))
 literal_at (k ∷ ks) zero lt = (k, refl)
 literal_at (k ∷ ks) (suc i) lt = literal_at ks i (omega (arith, lt))
 
--- the next literal that is named was not
+-- the next literal that is named was not named before, so fewer are left without a name
 pub one_more : (s : Space) (ks : List Candidate) (found : Option (List ℕ)) (c : List ℕ) (i : ℕ)
     → found ≡ find (λ d. meets d ks) (all_choices s) → found ≡ Some c → i < length ks
     → ((k : Candidate) → slice_get ks i ≡ Some k → holds_at c k ≡ false)
@@ -286,13 +285,13 @@ one_more s ks found c i first is lt fails =
     fewer_unnamed ks i at.0 at.1
     (false_unnamed c ks i at.0 (found_meets s ks found c first is) at.1 (fails at.0 at.1))
 
--- the literals of two lists are as many
+-- two lists of the same literals are equally long
 pub as_many : (ks ls : List Candidate) → AreSameLiterals ks ls → length ks ≡ length ls
 as_many [] [] same = refl
 as_many (k ∷ ks) (l ∷ ls) same = ap suc (as_many ks ls same.1)
 as_many ks ls same = absurd same
 
--- where all are looked at, the first so many are named
+-- once all literals are looked at, the first ones, up to a number, are named
 pub all_named : (ks ls : List Candidate) (count n : ℕ) → AreNamedSoFar ks ls count n
     → length ks ≤ n → AreNamedBefore count ls
 all_named ks ls count n h all j l at lt =

@@ -1,12 +1,12 @@
--- The parts of what refutes prefixes for literals that are named.
+-- The parts of the refuter of prefixes for named literals.
 use Rattle.std.specs.Prelude.{ℕ, List, Bool, ◌&&◌}
 use Rattle.am_search.specs.Judge.{AreSizes}
 use Rattle.am_first_sets.specs.PossibleRefuter.{possible_sizes, possible_truth, possible_are_sizes}
 use Rattle.am_reasons.specs.declared.meeting.MeetingRefuter.{MeetingRefuter}
 use Rattle.am_reasons.specs.Meeting.{meets}
 
--- The sizes of its labels, that they are sizes, and which choices are true: those that meet the
--- literals and are possible.
+-- The sizes of its labels, the proof that they are sizes, and the choices that are true: those that
+-- meet the named literals and are possible.
 abbrev pub meeting_sizes : MeetingRefuter → List ℕ
 meeting_sizes refuter = possible_sizes refuter.possible.now
 

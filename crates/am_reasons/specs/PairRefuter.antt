@@ -1,4 +1,4 @@
--- The parts of what refutes prefixes in a search for pairs, and in that for partners.
+-- The parts of the refuters of prefixes in the search for pairs and in the search for partners.
 use Rattle.std.specs.Prelude.{ℕ, List, Bool, ◌&&◌}
 use Rattle.am_search.specs.Judge.{AreSizes}
 use Rattle.am_first_sets.specs.PossibleRefuter.{possible_space, possible_sizes, possible_truth}
@@ -8,8 +8,8 @@ use Rattle.am_reasons.specs.declared.pair.PairRefuter.{PairRefuter}
 use Rattle.am_reasons.specs.Meeting.{meets}
 use Rattle.am_reasons.specs.Pairs.{is_partner, has_partner}
 
--- Of a search for partners: the sizes of its labels, that they are sizes, and which choices are
--- true: those that are partners of the choice, and are possible.
+-- For the search for partners: the sizes of its labels, the proof that they are sizes, and the
+-- choices that are true. These are the possible choices that are partners of the choice.
 abbrev pub partner_sizes : PartnerRefuter → List ℕ
 partner_sizes refuter = possible_sizes refuter.possible.now
 
@@ -21,8 +21,8 @@ partner_truth refuter choice =
     is_partner refuter.shared.now refuter.candidates.now refuter.choice.now choice
     && possible_truth refuter.possible.now choice
 
--- The same of a search for pairs, where those choices are true that meet the literals of the first
--- side, are possible, and have a partner that meets those of the second.
+-- The same for the search for pairs. The choices that are true are the possible ones that meet the
+-- named literals of the first side and have a partner that meets those of the second.
 abbrev pub pair_sizes : PairRefuter → List ℕ
 pair_sizes refuter = possible_sizes refuter.possible.now
 

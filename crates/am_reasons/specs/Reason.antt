@@ -1,4 +1,4 @@
--- Reasons: which of some literals are to blame that no label set of a space meets all of them.
+-- Reasons: which of some literals are to blame if no label set of a space meets all of them.
 use Rattle.std.specs.Prelude.{◌≡◌, ◌<◌, ◌≤◌, ℕ, zero, suc, List, [], ◌∷◌, Bool, false, Some}
 use Rattle.std.specs.Prelude.{slice_get, IsTrue}
 use Rattle.std.specs.List.{AllZip}
@@ -11,12 +11,13 @@ abbrev pub AreSameLiterals : List Candidate → List Candidate → Type 0
 AreSameLiterals ks ls =
     AllZip (λ k l. (k.cube ≡ l.cube) × (k.wanted ≡ l.wanted) × (k.tag ≡ l.tag)) ks ls
 
--- The first so many literals are named.
+-- The first `n` literals are named.
 abbrev pub AreNamedBefore : ℕ → List Candidate → Type 0
 AreNamedBefore n ks =
     (i : ℕ) (k : Candidate) → slice_get ks i ≡ Some k → i < n → IsTrue k.named
 
--- The literals, of which that at a position is named, or is not.
+-- The same literals, except that the one at a position is named, or is not. `without` takes its
+-- name off.
 abbrev pub renamed : ℕ → Bool → List Candidate → List Candidate
 renamed i name [] = []
 renamed zero name (k ∷ ks) = record k { named = name } ∷ ks
@@ -25,12 +26,13 @@ renamed (suc i) name (k ∷ ks) = k ∷ renamed i name ks
 abbrev pub without : ℕ → List Candidate → List Candidate
 without i ks = renamed i false ks
 
--- The literals that are named are a reason why no label set of a space meets all: the first so many
--- are among them; they are enough, as none meets those that are named; and each of the others is
--- needed, as without it some label set meets those that are left.
--- Source: own choice; in logic what is enough and needed so is a minimal unsatisfiable set.
--- Example: of `team="db"`, `env="prod"` and not `team=~"d.*"` the first and the third are one,
--- where none has to be among them; with the second it is none, as that is not needed.
+-- The named literals are a reason why no label set of a space meets all literals. The first `fixed`
+-- literals are named. The named literals are enough: no label set meets them. Each other named
+-- literal is needed: without it, some label set meets the rest.
+-- Source: own choice; logic calls what is enough and needed in this way a minimal unsatisfiable
+-- set.
+-- Example: of `team="db"`, `env="prod"` and not `team=~"d.*"` the first and the third are a reason,
+-- if `fixed` is 0. With the second they are not, because it is not needed.
 pub record IsReason (s : Space) (fixed : ℕ) (ks : List Candidate) : Type 0 where
   pub first : AreNamedBefore fixed ks
   pub enough : IsUnmet s ks

@@ -8,8 +8,8 @@ use am_universe::Choice;
 
 /// A literal: the cube of a list of matchers, which a label set has to match or must not match.
 ///
-/// `named` says whether it is named as one of those that are to blame. By `tag` the caller knows
-/// it.
+/// `named` says whether the literal is named as one of those that are to blame. The caller
+/// recognizes the literal by its `tag`.
 #[derive(Clone, Copy)]
 pub struct Candidate<'a> {
     pub cube: &'a Cube,
@@ -20,8 +20,8 @@ pub struct Candidate<'a> {
 }
 
 impl<'a> Candidate<'a> {
-    /// Why no completion of a prefix makes the literal true, if the cube says so. At a whole choice
-    /// `None` means that it is true.
+    /// Returns why no completion of a prefix makes the literal true, if the cube says so. At a
+    /// whole choice, `None` means that the literal is true.
     pub(crate) fn why_not(&self, prefix: &Choice) -> Option<Labels>
         ensures some { IfSome result (λ labels.
             IsReasonAgainst (λ c. holds_at c self.now) labels prefix.now) }

@@ -15,7 +15,7 @@ mod meeting;
 pub use candidate::Candidate;
 pub use meeting::first_meeting;
 
-// The search for those that are to blame.
+// The search for the literals that are to blame.
 mod reason;
 
 pub use reason::find_reason;

@@ -28,7 +28,7 @@ pub fn first_meeting(possible: &PossibleRefuter<'_>, candidates: &[Candidate<'_>
     first_by_jumps(&refuter)
 }
 
-/// Refutes prefixes of which no completion is possible and meets the literals.
+/// Refutes prefixes without a completion that is possible and meets the named literals.
 #[derive(Drop)]
 struct MeetingRefuter<'a> {
     possible: &'a PossibleRefuter<'a>,
@@ -61,8 +61,8 @@ impl<'a> Refuter for MeetingRefuter<'a> {
     }
 }
 
-/// Why no completion of a prefix meets the named literals, if their cubes say so: the reason
-/// against the first that is not met.
+/// Returns why no completion of a prefix meets the named literals, if their cubes say so: the
+/// reason against the first literal that is not met.
 pub(crate) fn why_unmet(candidates: &[Candidate<'_>], prefix: &Choice) -> Option<Labels>
     ensures some { IfSome result (λ labels.
         IsReasonAgainst (λ c. meets c candidates.now) labels prefix.now) }

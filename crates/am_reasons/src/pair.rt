@@ -49,13 +49,13 @@ pub fn first_pair(
     };
     match first_partner(possible, shared, &choice, second) {
         Some(partner) => Some((choice, partner)),
-        // What was found has a partner.
+        // The choice that was found has a partner.
         None => unreachable!(),
     }
 }
 
-/// Refutes prefixes of which no completion is possible, meets the literals of the first side, and
-/// has a partner that meets those of the second.
+/// Refutes prefixes without a completion that is possible, meets the named literals of the first
+/// side, and has a partner that meets those of the second.
 #[derive(Drop)]
 struct PairRefuter<'a> {
     possible: &'a PossibleRefuter<'a>,
@@ -100,9 +100,9 @@ impl<'a> Refuter for PairRefuter<'a> {
     }
 }
 
-/// Which of the shared labels are to blame that a whole choice has no partner: one of them, if it
-/// has none that shares that label alone; else all of them. Whatever has the same positions there
-/// has no partner either.
+/// Returns which of the shared labels are to blame if a whole choice has no partner. It is one
+/// label if the choice has no partner even with that label shared alone, and otherwise all of them.
+/// A choice with the same positions at these labels has no partner either.
 fn shared_to_blame(
     possible: &PossibleRefuter<'_>,
     shared: &[usize],
@@ -124,8 +124,8 @@ fn shared_to_blame(
     labels_at(shared)
 }
 
-/// The first choice of a space that has the same positions as another at some labels, and meets the
-/// named literals, if there is one.
+/// Returns the first choice of a space that has the same positions as another choice at some
+/// labels, and meets the named literals, if there is one.
 fn first_partner(
     possible: &PossibleRefuter<'_>,
     shared: &[usize],
@@ -147,8 +147,8 @@ fn first_partner(
     first_by_jumps(&refuter)
 }
 
-/// Refutes prefixes of which no completion is possible, has the same positions as a whole choice at
-/// some labels, and meets the literals.
+/// Refutes prefixes without a completion that is possible, has the same positions as a whole choice
+/// at some labels, and meets the named literals.
 #[derive(Drop)]
 struct PartnerRefuter<'a> {
     possible: &'a PossibleRefuter<'a>,
@@ -190,8 +190,8 @@ impl<'a> Refuter for PartnerRefuter<'a> {
     }
 }
 
-/// Why no completion of a prefix has the same positions as a choice at some labels, where the
-/// prefix says so: the first of them at which it has another.
+/// Returns why no completion of a prefix has the same positions as a choice at some labels, if the
+/// prefix shows it: the first of these labels at which the prefix has another position.
 fn why_apart(shared: &[usize], choice: &Choice, prefix: &Choice) -> Option<Labels>
     requires labels { AllByRecursion (λ i. i < length choice.now) shared.now }
     requires few { length choice.now ≤ MAX_LABELS }
@@ -208,7 +208,7 @@ fn why_apart(shared: &[usize], choice: &Choice, prefix: &Choice) -> Option<Label
     None
 }
 
-/// The set of some labels.
+/// Returns the set of the given labels.
 fn labels_at(shared: &[usize]) -> Labels
     requires { AllByRecursion (λ i. i < MAX_LABELS) shared.now }
     ensures { (i : ℕ) → has_label result i ≡ is_shared shared.now i }

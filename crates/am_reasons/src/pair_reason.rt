@@ -1,4 +1,4 @@
-//! The search for literals that are to blame that there is no pair.
+//! The search for literals that are to blame if there is no pair.
 
 ghost use Rattle.std.specs.Prelude.{◌≡◌, ◌⊎◌, ◌<◌, ℕ, List, true, length, slice_get, Some, IsTrue};
 ghost use Rattle.am_first_sets.specs.PossibleRefuter.{possible_space};
@@ -13,10 +13,10 @@ use crate::pair::first_pair;
 use crate::reason::set_named;
 use am_first_sets::PossibleRefuter;
 
-/// Finds which named literals of two sides are to blame that no pair of label sets meets them.
+/// Finds which named literals of two sides are to blame if no pair of label sets meets them.
 ///
 /// There must be no pair that meets the named literals. Those that are not needed lose their names.
-/// Those that are left named are enough: no pair meets them, and without any of them some pair
+/// Those that are left named are enough: no pair meets them, and without any one of them some pair
 /// meets the rest. Takes no memory.
 pub fn find_pair_reason(
     possible: &PossibleRefuter<'_>,
@@ -34,7 +34,7 @@ pub fn find_pair_reason(
     leave_out_beside(possible, shared, second, first);
 }
 
-/// The same for the literals of one side, beside those of the other.
+/// Takes the names off the literals of one side that are not needed beside those of the other side.
 fn leave_out_beside(
     possible: &PossibleRefuter<'_>,
     shared: &[usize],

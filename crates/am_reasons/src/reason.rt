@@ -16,8 +16,7 @@ use crate::meeting::first_meeting;
 use am_first_sets::PossibleRefuter;
 use am_universe::Choice;
 
-/// Finds which literals are to blame that no label set of a space meets all of them, and names
-/// those.
+/// Finds which literals are to blame if no label set of a space meets all of them, and names those.
 ///
 /// There must be no label set that meets all. The first `fixed` are named, and of the others enough
 /// that no label set meets those that are named. Each of these others is needed: without it, some
@@ -36,7 +35,7 @@ pub fn find_reason(possible: &PossibleRefuter<'_>, candidates: &mut [Candidate<'
     leave_out(possible, candidates, fixed);
 }
 
-/// Names the first so many literals, and no other.
+/// Names the first `count` literals, and no others.
 fn name_first(candidates: &mut [Candidate<'_>], count: usize)
     ensures same { AreSameLiterals candidates.old candidates.new }
     ensures named { AreNamedBefore count candidates.new }
@@ -63,7 +62,7 @@ fn name_enough(possible: &PossibleRefuter<'_>, candidates: &mut [Candidate<'_>])
     }
 }
 
-/// The first literal that is false at a choice, if one is.
+/// Returns the position of the first literal that is false at a choice, if there is one.
 fn first_false(candidates: &[Candidate<'_>], choice: &Choice) -> Option<usize>
     ensures some { IfSome result (λ i. (k : Candidate) → slice_get candidates.now i ≡ Some k
         → holds_at choice.now k ≡ false) }
@@ -79,7 +78,7 @@ fn first_false(candidates: &[Candidate<'_>], choice: &Choice) -> Option<usize>
 }
 
 /// Takes the names off literals that are not needed, from a position on. Without any one of those
-/// that are left named, some label set of a space meets the others.
+/// that are left named there, some label set of a space meets the other named literals.
 fn leave_out(possible: &PossibleRefuter<'_>, candidates: &mut [Candidate<'_>], from: usize)
     requires first { AreNamedBefore from candidates.old }
     requires enough { IsUnmet (possible_space possible.now) candidates.old }

@@ -9,11 +9,11 @@ use Rattle.std.proofs.lemmas.Str.{encode_ascii, inside_one}
 use lib.Utf8.{encode}
 use Rattle.am_universe.specs.Text.{label_value_escape}
 
--- a byte that stands for itself
+-- A byte without an escape stands for itself.
 plain : (c : ℕ) → c ≢ 92 → c ≢ 34 → c ≢ 10 → label_value_escape c ≡ c ∷ []
 plain c backslash quote feed = grind (arith, nat_tests)
 
--- bytes that stand for themselves
+-- Bytes beyond ASCII stand for themselves.
 stands : (bytes : List ℕ) → ((k : ℕ) → k < length bytes → 128 ≤ get_or bytes k 0)
     → flat_map label_value_escape bytes ≡ bytes
 stands [] h = refl
@@ -25,7 +25,7 @@ stands (b ∷ bytes) h =
     stands bytes (λ k lt. h (suc k) (omega arith)) in
     rw (one, rest) refl
 
--- no byte of a longer character is in ASCII
+-- No byte of a character beyond ASCII is ASCII.
 wide : (c : ℕ) → 128 ≤ c → (k : ℕ) → k < length (encode c) → 128 ≤ get_or (encode c) k 0
 wide c le k lt =
     elim (cases_lt (get_or (encode c) k 0) 128) [
@@ -34,7 +34,7 @@ wide c le k lt =
       | inr large ↦ large
     ]
 
--- a character that has no escape is written as it is
+-- A character without an escape is written as it is.
 pub escape-other : (c : ℕ) → c ≢ 92 → c ≢ 34 → c ≢ 10
     → flat_map label_value_escape (encode c) ≡ encode c
 escape-other c backslash quote feed =

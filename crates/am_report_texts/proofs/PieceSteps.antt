@@ -1,4 +1,4 @@
--- One piece more of a text, one line more, and one thing more of a row.
+-- One more piece of a text, one more line, and one more thing of a list with separators.
 use Rattle.std.proofs.Common.{◌≡◌, ◌<◌, ◌≤◌, ◌+◌, ℕ, zero, suc, List, [], ◌∷◌, ◌++◌, length, take}
 use Rattle.std.proofs.Common.{Some, slice_get, get_or, cond, refl, sym, ap, ◌∙◌, append_assoc}
 use Rattle.std.proofs.Common.{append-nil, add-one, ◌==◌, Bool, true, false, Result, Ok, Err, arith}
@@ -16,7 +16,7 @@ pub one_put : (old body piece more now next : List ℕ) → now ≡ old ++ body 
 one_put old body piece more now next so_far put same =
     rw (put, so_far, append_assoc old body piece, same) refl
 
--- the last piece, whose call is the function's own result
+-- The last piece. The function returns the result of the call that adds it.
 pub last_put : {T E : Type 0} (r : Result T E) (old body piece more now next : List ℕ)
     → next ≡ cond (is_ok r) (now ++ piece) now → now ≡ old ++ body → body ++ piece ≡ more
     → OnOk r (next ≡ old ++ more)
@@ -71,7 +71,7 @@ pub row_closed : {X : Type 0} (first gap : List ℕ) (text : X → List ℕ) (xs
 row_closed first gap text xs i old now all so_far =
     so_far ∙ ap (λ l. old ++ texts_behind first gap text l) (take_all i xs all)
 
--- what the code reads of a list
+-- The item that the code reads from a list.
 pub item_here : {X : Type 0} (xs : List X) (i : ℕ) (x : X) → i < length xs → x ≡ get_or xs i x
     → slice_get xs i ≡ Some x
 item_here xs i x within is = slice_get-get_or xs i x within ∙ ap Some (sym is)

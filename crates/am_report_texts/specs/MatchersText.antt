@@ -1,4 +1,4 @@
--- Matchers in braces, as the text of a list that is read back as them.
+-- Matchers in braces: the text of a list that is read back as these matchers.
 use Rattle.std.specs.Prelude.{ℕ, List, ◌++◌, codes}
 use Rattle.am_universe.specs.Text.{quoted_text}
 use Rattle.am_labels.specs.Matcher.{Condition, operator_text}
@@ -10,8 +10,8 @@ use Rattle.am_report_texts.specs.Separated.{texts_behind}
 abbrev pub matcher_text : Condition → List ℕ
 matcher_text m = m.name ++ (operator_text m.op ++ quoted_text m.value)
 
--- The matchers in braces, with a comma between each two.
+-- The matchers in braces, separated by commas.
 -- Source: Alertmanager configuration reference 0.25, "<matcher>".
--- Example: `{team="db",severity=~"crit.*"}`; without matchers `{}`.
+-- Example: `{team="db",severity=~"crit.*"}`; without matchers, `{}`.
 abbrev pub matchers_text : List Condition → List ℕ
 matchers_text ms = codes "{" ++ (texts_behind (codes "") (codes ",") matcher_text ms ++ codes "}")

@@ -1,7 +1,7 @@
--- The ending of a word for so many things. (This project's own.)
+-- The ending of a word for a number of things. (This project's own.)
 use Rattle.std.specs.Prelude.{ℕ, List, codes, ◌==◌, if◌then◌else◌}
 
--- What stands behind the word for so many things.
+-- The ending of a word for this number of things: empty for one, and else `s`.
 -- Source: own choice.
 -- Example: `# 1 finding, 2 notes`.
 abbrev pub plural : ℕ → List ℕ

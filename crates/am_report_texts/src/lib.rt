@@ -9,7 +9,7 @@ mod word_ending;
 pub use quoted_text::push_quoted;
 pub use word_ending::plural;
 
-// Things in a row.
+// The separators of lists.
 mod separator;
 
 pub use separator::gap_before;

@@ -8,7 +8,7 @@ use am_labels::{Matcher, Matchers};
 use std::alloc::AllocError;
 
 /// Adds matchers in braces, such as `{team="db",env!="prod"}`. The text is read back as these
-/// matchers if each name may stand in a matcher list. Fails only if memory runs out.
+/// matchers if a matcher list may have each of their names. Fails only if memory runs out.
 pub fn push_matchers(text: &mut String, matchers: &Matchers) -> Result<(), AllocError>
     ensures text { OnOk result (string_bytes text.new
         ≡ string_bytes text.old ++ matchers_text matchers.now) }

@@ -1,4 +1,4 @@
-//! The text of a text in quotes.
+//! Texts in quotes.
 
 ghost use Rattle.std.specs.Prelude.{◌≡◌, ◌++◌, string_bytes, encode_utf8, OnOk};
 ghost use Rattle.std.specs.List.{flat_map};

@@ -1,4 +1,4 @@
--- How a space stands at the label at a position, and what follows from that.
+-- The state of the label at a position of a space, and what follows from it.
 use Rattle.std.proofs.Common.{◌≡◌, ◌≢◌, ◌<◌, ℕ, zero, suc, List, [], ◌∷◌, length, map, take}
 use Rattle.std.proofs.Common.{Some, slice_get, string_bytes, refl, sym, ap, subst, inl, inr, ◌∙◌}
 use Rattle.std.proofs.Common.{arith}
@@ -53,7 +53,7 @@ of_mapped f (x ∷ xs) (suc i) y at = of_mapped f xs i y at
 named : (l : Label) → IsLabel l → l.name ≢ []
 named l is none = false≢true (subst (λ (name : List ℕ). IsTrue (is_label_name name)) none is.name)
 
--- the state there is that of the label, and what it says is so
+-- the state at this position is that of the label there, and what it says is true
 pub told_at : (a : Alphabet) (s : Space) (ms : List Condition) (asked : List AskedLabel)
     (states : List LabelState) (i : ℕ) (l : Label) → IsUniverse s.labels
     → map (λ state. string_bytes state.name) states ≡ reported_names s.labels asked

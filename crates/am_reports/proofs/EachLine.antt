@@ -1,4 +1,4 @@
--- A line more of what is said of some things, each with its position.
+-- One more line in the lines about things.
 use Rattle.std.proofs.Common.{◌≡◌, ◌+◌, ◌≤◌, ℕ, zero, suc, List, [], ◌∷◌, ◌++◌, length, take}
 use Rattle.std.proofs.Common.{Some, slice_get, subst, refl, sym, ap, ◌∙◌, append_assoc, arith}
 use Rattle.std.specs.List.{AllZip}
@@ -6,7 +6,7 @@ use Rattle.std.proofs.lemmas.List.{take_all, append-nil}
 use Rattle.std.proofs.lemmas.Option.{same_Some}
 use Rattle.am_reports.specs.LintSections.{each_line}
 
--- what is said of each is as long
+-- there are as many findings as things
 pub same_length : {X F : Type 0} (R : X → F → Type 0) (xs : List X) (found : List F)
     → AllZip R xs found → length found ≡ length xs
 same_length R [] [] all = refl
@@ -54,7 +54,7 @@ module _ {X F : Type 0} (line : ℕ → X → F → List ℕ) where
       ∙ sym (append_assoc (line k y g) (each_line line (k + 1) (take i xs) (take i found))
       (line (k + suc i) x finding))
 
-  -- the text of what is said of those up to a position, with the line of the one that stands there
+  -- the lines up to a position, and then the line of the thing at that position
   pub one_said : (i : ℕ) (xs : List X) (found : List F) (x : X) (finding : F)
       (now next : List ℕ) → slice_get xs i ≡ Some x → slice_get found i ≡ Some finding
       → now ≡ each_line line 0 (take i xs) (take i found) → next ≡ now ++ line i x finding

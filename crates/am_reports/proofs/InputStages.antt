@@ -1,5 +1,5 @@
--- Behind inputs that are accepted the first fault is that of the later stages. Without a universe
--- file no label is declared.
+-- If the inputs are accepted, the first fault is that of the later stages. Without a universe file,
+-- no label is declared.
 use Rattle.std.proofs.Common.{◌≡◌, ℕ, List, [], ◌++◌, Option, Some, None, false, is_some, ap, inr}
 use Rattle.am_universe.specs.declared.place.Place.{Place}
 use Rattle.am_labels.specs.Space.{Space}

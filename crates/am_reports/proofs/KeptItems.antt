@@ -1,4 +1,4 @@
--- What is so of the items of a list that a test keeps.
+-- Facts about the items of a list that a test keeps.
 use Rattle.std.proofs.Common.{◌≡◌, Bool, true, false, cond, List, [], ◌∷◌, map, length, refl, subst}
 use Rattle.std.proofs.Common.{inl, arith}
 use Rattle.std.specs.List.{AllByRecursion, IsDistinct, filter}
@@ -6,7 +6,7 @@ use Rattle.am_universe.proofs.ListLemmas.{IsIn, IsIn-map, IsIn-unmap, AllByRecur
 use Rattle.am_universe.proofs.ListLemmas.{AllByRecursion-at}
 use Rattle.am_labels.proofs.Passing.{passes_from_kept}
 
--- keys that are distinct are so where fewer items are kept
+-- distinct keys stay distinct if fewer items are kept
 module _ {X K : Type 0} (same : K → K → Bool) (key : X → K) (test : X → Bool) where
   other_keys : (P : K → Type 0) (xs : List X) → AllByRecursion P (map key xs)
       → AllByRecursion P (map key (filter test xs))
@@ -32,7 +32,7 @@ module _ {X K : Type 0} (same : K → K → Bool) (key : X → K) (test : X → 
       one_kept (test x) x (filter test xs)
       (other_keys (λ k. same (key x) k ≡ false) xs distinct.0) (distinct_kept xs distinct.1)
 
--- a list of no length has no item, and one without items has no length
+-- a list of length 0 has no item, and a list without items has length 0
 pub none_in : {X : Type 0} (xs : List X) (x : X) → length xs ≡ 0 → IsIn xs x → ⊥
 none_in [] x none there = absurd there
 none_in (y ∷ xs) x none there = absurd (omega (arith, none))

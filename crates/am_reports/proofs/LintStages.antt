@@ -1,4 +1,4 @@
--- Where the first fault of `lint` stands, among its inputs and behind them.
+-- The stage of the first fault of `lint`, among those of its inputs and those after them.
 use Rattle.std.proofs.Common.{◌++◌, List, inl, inr, refl}
 use Rattle.am_universe.specs.declared.place.Place.{Place}
 use Rattle.am_labels.specs.Space.{Space}
@@ -55,7 +55,7 @@ module _ (inputs : LintInputs) (s : Space) (w : World) (place : Place) (r : Refu
   said : says s (One w.config)
   said = (w, accepts, refl)
 
-  -- what is declared is refused
+  -- a label that the universe file declares is refused
   pub declared_refused : IsDeclaredRefusal a s (One w.config) place r
       → IsFirstFaultOfCall (later_stages inputs) place r
   declared_refused refused =
@@ -63,7 +63,7 @@ module _ (inputs : LintInputs) (s : Space) (w : World) (place : Place) (r : Refu
       (declared_first says a s (One w.config) place r said refused)
 
   module _ (whole : AreDeclaredWhole a s (One w.config) s.labels) where
-    -- none is made for every alert, or for ordinary ones
+    -- no universe is made for every alert, or none for ordinary ones
     pub routes_refused : IsRoutesRefusal inputs.ascii s w.config place r
         → IsFirstFaultOfCall (later_stages inputs) place r
     routes_refused (inl refused) =
@@ -99,7 +99,7 @@ module _ (inputs : LintInputs) (s : Space) (w : World) (place : Place) (r : Refu
           },
         ))
 
-    -- or a silence
+    -- a silence is refused
     pub silences_refused : IsSilencesRefusal a (undeclared s) w place r
         → IsFirstFaultOfCall (later_stages inputs) place r
     silences_refused refused =

@@ -1,4 +1,4 @@
--- What routes and impossible lists ask of is first asked of in one of their files.
+-- What routes and impossible lists ask about is first asked about in one of their files.
 use Rattle.std.proofs.Common.{◌≡◌, ℕ, List, [], ◌∷◌, ◌++◌, Bool, true, false, map, fold, refl}
 use Rattle.std.proofs.Common.{inl, inr, sym, subst, Contains}
 use Rattle.std.specs.Prelude.{if◌then◌else◌, ⊤}
@@ -118,7 +118,7 @@ labels_placed (Pair old new) lists =
 
 -- ---- The files.
 
--- the places of the matchers that are looked at
+-- the places of the matchers of routes and impossible lists
 abbrev pub places_of : Configurations → List Place
 places_of (One c) = report_places
 places_of (Pair old new) = compare_places

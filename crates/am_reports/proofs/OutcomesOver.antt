@@ -31,7 +31,7 @@ use Rattle.am_reports.specs.LaterStages.{TooManyStatesFor}
 use Rattle.am_reports.specs.AllOutcomes.{AreAllOutcomes, IsOutcome, fates}
 use Rattle.am_reports.proofs.RoutesAsked.{stands_as}
 
--- the labels of one space, beside what another one calls impossible
+-- a space with these labels and these impossible lists
 abbrev pub beside : List (List Condition) → List Label → Space
 beside lists u = record { labels = u; impossible = lists }
 

@@ -1,5 +1,5 @@
--- What the routes of configurations and impossible lists ask of, and what is so of a space by its
--- impossible lists alone.
+-- What routes and impossible lists ask about, and what is true of a space by its impossible lists
+-- alone.
 use Rattle.std.proofs.Common.{◌≡◌, ℕ, List, [], ◌++◌, Bool, Some, slice_get, length, subst, inl}
 use Rattle.std.proofs.Common.{inr}
 use Rattle.std.specs.List.{AllZip, range_with_len}
@@ -26,7 +26,7 @@ use Rattle.am_reports.specs.Configurations.{labels_of_routes}
 use Rattle.am_reports.specs.Made.{StandsForAll, UnprovedFor, IsMadeRefusal}
 use Rattle.am_reports.specs.Made.{IsRoutesRefusal}
 
--- impossible lists are among what decides
+-- the matchers of the impossible lists are among those that decide
 pub lists_decide : (s : Space) (k : Configurations)
     → AreAmong (impossible_conditions s.impossible) (routing_conditions s k)
 lists_decide s (One c) = last_among (route_conditions c.root) (impossible_conditions s.impossible)
@@ -59,7 +59,8 @@ unproved_as a k s t place r same found = record {
   refusal = found.refusal;
 }
 
--- none is made beside a space, for the same reason as beside another with the same lists
+-- if no universe is made for a space, none is made for another one with the same lists, for the
+-- same reason
 pub refused_as : (a : Alphabet) (k : Configurations) (s t : Space) (place : Place) (r : Refusal)
     → s.impossible ≡ t.impossible → IsMadeRefusal a s k place r → IsMadeRefusal a t k place r
 refused_as a k s t place r same (inl full) =
@@ -81,7 +82,7 @@ routes_refused_as ascii c s t place r same (inl refused) =
 routes_refused_as ascii c s t place r same (inr refused) =
     inr (refused_as Ascii (One c) s t place r same refused)
 
--- a universe stands for every alert beside the one as beside the other
+-- a universe that stands for every alert with one space does so with the other
 pub stands_as : (a : Alphabet) (k : Configurations) (s t : Space) (u : List Label)
     → s.impossible ≡ t.impossible → StandsForAll a s k u → StandsForAll a t k u
 stands_as a k s t u same stands = record {
@@ -95,7 +96,7 @@ stands_as a k s t u same stands = record {
       AddsNeeded a (of_lists lists) (routing_conditions made k) u) same stands.adds;
 }
 
--- and what is said of routes is so of the alerts of the one as of the other
+-- what is said about routes for the alerts of one space is true for those of the other
 pub said_as : (ascii : Bool) (c : Configuration) (s t : Space) (findings notes : ℕ)
     (lines : List ℕ) → s.impossible ≡ t.impossible → SaysOfRoutes ascii s c findings notes lines
     → SaysOfRoutes ascii t c findings notes lines

@@ -1,4 +1,4 @@
--- Routes that are found over universes that stand for alerts, are found so for these alerts.
+-- What is found about routes over universes that stand for alerts is true of these alerts.
 use Rattle.std.proofs.Common.{◌≡◌, List, Bool, false, Option, Some, None, is_none, IfSome}
 use Rattle.std.proofs.Common.{sym, subst, ◌∙◌}
 use Rattle.std.specs.Prelude.{Vec, length}
@@ -22,12 +22,13 @@ use Rattle.am_lint.proofs.FoundOver.{found_over_ascii, found_over_unicode}
 use Rattle.am_reports.specs.Configurations.{One}
 use Rattle.am_reports.specs.Made.{StandsForAll}
 
--- each route is found so, by choices of some labels and, over every alert, of those of a universe
+-- what is found about each route is true, with choices of some labels and, for every alert, of
+-- those of a universe
 abbrev pub AreFoundSo : Bool → Space → List Label → Configuration → List FoundRoute → Type 0
 AreFoundSo ascii s v c found =
     (u : List Label) × AllZip (IsFoundSo ascii s u v c) (all_routes c) found
 
--- a space with these labels, beside what another calls impossible
+-- a space with these labels and the impossible lists of another space
 abbrev pub IsSpaceWith : Space → List Label → Space → Type 0
 IsSpaceWith s u o = (o.labels ≡ u) × (o.impossible ≡ s.impossible)
 

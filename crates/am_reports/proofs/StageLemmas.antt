@@ -1,4 +1,4 @@
--- Where the first fault behind the inputs stands.
+-- The stage of the first fault after those of the inputs.
 use Rattle.std.proofs.Common.{List, [], ◌∷◌, ◌++◌, inl, inr, subst, sym, Contains}
 use Rattle.std.specs.Prelude.{⊤}
 use Rattle.am_universe.specs.declared.place.Place.{Place}
@@ -51,7 +51,7 @@ module _ (Accepts : Space → Configurations → Type 0) where
     each_accepts [] = tt
     each_accepts (place ∷ later) = (tt, each_accepts later)
 
-    -- one of these stages refuses it
+    -- the first fault is at one of these stages
     first_among : (at_places : List Place) (s : Space) (k : Configurations) (place : Place)
         (r : Refusal) → IsIn at_places place → Accepts s k → Refuses place s k r
         → IsFirstFaultOfCall (at_each stage_at at_places) place r
@@ -75,7 +75,7 @@ module _ (Accepts : Space → Configurations → Type 0) where
       → AllAccept (made_stages Accepts at_places a)
   made_accept at_places a = (tt, each_accepts (unproved_at a) at_places)
 
-  -- what is declared is refused
+  -- the first fault for a label that the universe file declares
   pub declared_first : (a : Alphabet) (s : Space) (k : Configurations) (place : Place)
       (r : Refusal) → Accepts s k → IsDeclaredRefusal a s k place r
       → IsFirstFaultOfCall (declared_stages Accepts (places_of k) a) place r
@@ -90,7 +90,7 @@ module _ (Accepts : Space → Configurations → Type 0) where
       (later_stage Accepts (IncompleteFor a) places.Universe ∷ []) place r
       (first_among (undecided_at a) (places_of k) s k place r there accepts found)
 
-  -- none is made over an alphabet
+  -- the first fault if no universe is made over an alphabet
   pub made_first : (a : Alphabet) (s : Space) (k : Configurations) (place : Place) (r : Refusal)
       → Accepts s k → IsMadeRefusal a s k place r
       → IsFirstFaultOfCall (made_stages Accepts (places_of k) a) place r
@@ -107,7 +107,7 @@ module _ (Accepts : Space → Configurations → Type 0) where
             accepts found,
       )
 
-  -- one of the made stages comes behind those of what is declared
+  -- the stages that make a universe come after those that check the declared labels
   pub first_behind_declared : (at_places : List Place) (a : Alphabet) (later : List Stage)
       (place : Place) (r : Refusal) → IsFirstFaultOfCall later place r
       → IsFirstFaultOfCall (declared_stages Accepts at_places a ++ later) place r
@@ -120,7 +120,7 @@ module _ (Accepts : Space → Configurations → Type 0) where
   first_behind_made at_places a later place r =
       behind (made_stages Accepts at_places a) later place r (made_accept at_places a)
 
--- the outcomes are refused
+-- the first fault if the outcomes are refused
 module _ (Accepts : Space → Configurations → Type 0) (a : Alphabet) where
   abbrev Whole : Space → Configurations → Type 0
   Whole = AcceptsWhole a Accepts

@@ -1,4 +1,4 @@
--- A call that answers something beside the text that it writes.
+-- A call that returns an answer and also writes a text.
 use Rattle.std.proofs.Common.{ℕ, List, Result, Ok, Err, ◌≡◌, IfOk, refl}
 use Rattle.std.specs.Prelude.{⊤}
 use Rattle.std.specs.Result.{result_and}

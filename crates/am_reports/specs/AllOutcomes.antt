@@ -1,4 +1,4 @@
--- What becomes of every alert that counts, under one configuration or under two. (This project's
+-- The outcomes of every alert that counts, under one configuration or under two. (This project's
 -- own.)
 use Rattle.std.specs.Prelude.{◌≡◌, ℕ, List, Bool, map, Contains}
 use Rattle.std.specs.List.{AllByRecursion, IsDistinct}
@@ -11,25 +11,26 @@ use Rattle.am_outcomes.specs.Outcomes.{fate, same_fate, outcomes_of}
 use Rattle.am_reports.specs.Configurations.{Configurations, each_of}
 use Rattle.am_reports.specs.Made.{StandsForAll}
 
--- The label set that is shown of an outcome is one of an alert that counts, and this is its fate.
+-- The label set that is shown for an outcome is that of an alert that counts, and it has the fate
+-- of the outcome.
 abbrev pub IsOutcome :
     Bool → Space → List Label → List Configuration → List (List ℕ) × List ℕ → Type 0
 IsOutcome ascii s u cs outcome =
     Counts ascii s (label_set_of u outcome.1)
     × (fate cs (label_set_of u outcome.1) ≡ outcome.0)
 
--- The fates of outcomes, which are the receivers under each configuration.
+-- The fates of outcomes. A fate is the receivers under each configuration.
 abbrev pub fates : List (List (List ℕ) × List ℕ) → List (List (List ℕ))
 fates outcomes = map (λ outcome. outcome.0) outcomes
 
--- Outcomes are those of every alert that counts. The labels are those of a universe that stands for
--- all of these. The outcomes stand in declared order of the first choices that have them, and of
--- each that first choice is shown. What is shown is so; each alert that counts has the fate of one
--- of the outcomes; and no two of them have the same.
+-- The outcomes are those of every alert that counts. The labels are those of a universe that stands
+-- for all of these alerts. The outcomes are in declared order of the first choices that have them,
+-- and each is shown with that first choice. What is shown is true; each alert that counts has the
+-- fate of one of the outcomes; and no two outcomes have the same fate.
 -- Source: own choice.
--- Example: let alerts of the team `db` go to the receiver at position 1, and others to that at 0.
--- Then there are two outcomes, whatever labels the alerts have. The one is 0, shown with `{}`, and
--- the other is 1, shown with `{team="db"}`.
+-- Example: if alerts of the team `db` go to the receiver at position 1 and all others to the one at
+-- 0, there are two outcomes, whatever labels the alerts have. One is 0, shown with `{}`, and the
+-- other is 1, shown with `{team="db"}`.
 pub record AreAllOutcomes (ascii : Bool) (s : Space) (k : Configurations) (labels : List Label)
     (outcomes : List (List (List ℕ) × List ℕ)) : Type 0 where
   pub stands : StandsForAll (alphabet_of ascii) s k labels

@@ -1,4 +1,4 @@
--- What `compare` is handed, when that is accepted, and the order of its faults. (This project's
+-- The inputs of `compare`, when they are accepted, and the order of their faults. (This project's
 -- own.)
 use Rattle.std.specs.Prelude.{ℕ, List, [], ◌∷◌, Bool, Option}
 use Rattle.am_universe.specs.declared.place.Place.{Place}
@@ -11,22 +11,22 @@ use Rattle.am_universe_command.specs.UniverseInputs.{SaysUniverseIfAny, universe
 use Rattle.am_reports.specs.Configurations.{Configurations, One, Pair}
 
 -- The bytes of a universe file, if there is one, and those of the old and the new configuration
--- file; and whether ordinary alerts count alone.
+-- file; and whether only ordinary alerts count.
 pub record CompareInputs : Type 0 where
   pub universe : Option (List ℕ)
   pub old : List ℕ
   pub new : List ℕ
   pub ascii : Bool
 
--- The files are accepted: they say the space, which without a universe file has no labels and in
--- which nothing is impossible, and both configurations.
+-- The files are accepted: they say the space and both configurations. Without a universe file the
+-- space has no labels, and nothing is impossible in it.
 pub record AcceptsCompareInputs (inputs : CompareInputs) (s : Space) (old new : Configuration)
     : Type 0 where
   pub says_universe : SaysUniverseIfAny inputs.universe s
   pub says_old : FileSaysConfig inputs.old old
   pub says_new : FileSaysConfig inputs.new new
 
--- A configuration file whose faults stand at a place of its own.
+-- The stage of a configuration file whose faults are at the given place.
 abbrev pub config_stage_at : Place → List ℕ → Stage
 config_stage_at place bytes = record {
   place = place;
@@ -41,11 +41,11 @@ compare_input_stages inputs =
     ∷ config_stage_at places.New inputs.new
     ∷ []
 
--- They say an old and a new configuration.
+-- The inputs are accepted, and the configurations are the old and the new one that they say.
 abbrev pub AcceptsCompare : CompareInputs → Space → Configurations → Type 0
 AcceptsCompare inputs s (One c) = ⊥
 AcceptsCompare inputs s (Pair old new) = AcceptsCompareInputs inputs s old new
 
--- The places of matchers that are looked at, in the order in which their faults come.
+-- The places where the matchers of routes and impossible lists stand, in the order of their faults.
 abbrev pub compare_places : List Place
 compare_places = places.Old ∷ places.New ∷ places.Universe ∷ []

@@ -19,14 +19,15 @@ use Rattle.am_reports.specs.AllOutcomes.{AreAllOutcomes, fates}
 
 -- An alert goes to receivers of the same names under both configurations.
 -- Source: own choice.
--- Example: where the new configuration declares the same receivers in another order and has the
--- same routes, each alert does.
+-- Example: if the new configuration has the same routes and declares the same receivers in another
+-- order, each alert does.
 abbrev pub GoesTheSameWay : Configuration → Configuration → LabelMap → Type 0
 GoesTheSameWay old new alert =
     names_of old (receivers alert old) ≡ names_of new (receivers alert new)
 
--- The label set that is shown of a change is one of an alert that counts. It goes to these
--- receivers under the old configuration and under the new one, and their names differ.
+-- The label set that is shown for a change is that of an alert that counts. The alert goes to the
+-- receivers of the change under the old configuration and under the new one, and their names
+-- differ.
 abbrev pub IsChange : Bool → Space → List Label → Configuration → Configuration
     → List (List ℕ) × List ℕ → Type 0
 IsChange ascii s u old new change =
@@ -34,11 +35,11 @@ IsChange ascii s u old new change =
     × (fate (old ∷ new ∷ []) (label_set_of u change.1) ≡ change.0)
     × (GoesTheSameWay old new (label_set_of u change.1) → ⊥)
 
--- The text is a comparison of two configurations, for the alerts of a space or the ordinary ones of
--- them: a line for each outcome that is a change, and how many changes there are. What is shown of
--- each change is so; each alert that counts goes to receivers of the same names under both
--- configurations, or its fate is that of one of the changes; and no change is told twice. There is
--- none exactly where every alert that counts goes to receivers of the same names under both.
+-- The text is a comparison of two configurations, for all alerts of a space or only the ordinary
+-- ones: a line for each outcome that is a change, and the number of changes. What is shown for each
+-- change is true. Each alert that counts goes to receivers of the same names under both
+-- configurations, or has the fate of one of the changes. No two changes have the same fate. There
+-- is no change exactly if every alert that counts goes to receivers of the same names under both.
 -- Source: own choice.
 -- Example: `"db-mail" -> "web-pager" {team="web"}` says that `{team="web"}` goes to `db-mail` under
 -- the old configuration, and to `web-pager` under the new one.
@@ -57,12 +58,12 @@ pub record IsComparison (ascii : Bool) (s : Space) (old new : Configuration) (ch
   pub counted : changes ≡ length (changes_of old new outcomes)
   pub text : report ≡ changes_text labels old new outcomes
 
--- The inputs are accepted, at the labels that the universe file declares nothing is lacking, and
--- the text is a comparison of the configurations, for every alert that is possible; with `--ascii`
--- for every one of these whose values are printable ASCII.
+-- The inputs are accepted, no label that the universe file declares lacks a value, and the text is
+-- a comparison of the configurations for every possible alert; with `--ascii`, for every possible
+-- alert whose values are printable ASCII.
 -- Source: own choice.
--- Example: where the top-level route stands alone, and has the receiver `a` in the old file and `b`
--- in the new one, the report is the lines `"a" -> "b" {}` and `# 1 change`.
+-- Example: if both files have only the top-level route, with the receiver `a` in the old file and
+-- `b` in the new one, the report is the lines `"a" -> "b" {}` and `# 1 change`.
 pub record ComparesFiles (inputs : CompareInputs) (changes : ℕ) (report : List ℕ)
     : Type 0 where
   pub space : Space
@@ -72,9 +73,9 @@ pub record ComparesFiles (inputs : CompareInputs) (changes : ℕ) (report : List
   pub whole : AreDeclaredWhole (alphabet_of inputs.ascii) space (Pair old new) space.labels
   pub compares : IsComparison inputs.ascii space old new changes report
 
--- What `compare` owes. It answers how many changes there are.
+-- What `compare` owes. It returns the number of changes.
 -- Source: own choice.
--- Example: where neither configuration is JSON, the first fault is the `not-json` of the old one.
+-- Example: if neither configuration is JSON, the first fault is the `not-json` of the old one.
 abbrev pub compare_promise : CompareInputs → Promise ℕ
 compare_promise inputs = record {
   stages = compare_input_stages inputs

@@ -1,4 +1,4 @@
--- The configurations that a call is about, and what they ask of labels. (This project's own.)
+-- The configurations of a call, and the labels that they ask about. (This project's own.)
 use Rattle.std.specs.Prelude.{ℕ, List, [], ◌∷◌, ◌++◌, Bool, if◌then◌else◌}
 use Rattle.std.specs.List.{list_any}
 use Rattle.am_universe.specs.declared.place.Place.{Place}
@@ -15,26 +15,27 @@ use Rattle.am_asked.specs.Placed.{placed_in_routes, placed_in_lists}
 use Rattle.am_universe_command.specs.Universes.{origin_place}
 use Rattle.am_every_alert.specs.Deciding.{coverage_conditions}
 
--- One configuration; or an old one, and a new one that is compared with it.
+-- One configuration, or an old one and a new one that is compared with it.
 pub data Configurations : Type 0 where
   One : Configuration → Configurations
   Pair : Configuration → Configuration → Configurations
 
--- Each of them, in order.
+-- The configurations, in order.
 abbrev pub each_of : Configurations → List Configuration
 each_of (One c) = c ∷ []
 each_of (Pair old new) = old ∷ new ∷ []
 
--- The matchers that decide to which receivers a label set goes under each of them, and whether it
--- is possible: those of the routes, and of the impossible lists.
+-- The matchers that decide to which receivers a label set goes under each configuration, and
+-- whether it is possible: those of the routes, and those of the impossible lists.
 -- Source: own choice.
--- Example: of an old configuration whose routes ask for `team="db"`, and a new one whose routes ask
--- for `team="web"`, they are these two, where nothing is impossible.
+-- Example: if the routes of an old configuration ask for `team="db"`, those of a new one ask for
+-- `team="web"`, and nothing is impossible, they are these two matchers.
 abbrev pub routing_conditions : Space → Configurations → List Condition
 routing_conditions s (One c) = coverage_conditions s c
 routing_conditions s (Pair old new) = route_conditions old.root ++ coverage_conditions s new
 
--- The labels that their routes and impossible lists ask of, each with where it is first asked of.
+-- The labels that the routes and the impossible lists ask about, each with what first asks about
+-- it.
 abbrev pub labels_of_routes : Configurations → List (List Condition) → List AskedLabel
 labels_of_routes (One c) impossible =
     asked_labels (placed_in_routes c ++ placed_in_lists impossible)
@@ -42,15 +43,15 @@ labels_of_routes (Pair old new) impossible =
     asked_labels
     (placed_in_routes old ++ (placed_in_routes new ++ placed_in_lists impossible))
 
--- The routes of a configuration ask of a label of this name.
+-- Whether the routes of a configuration ask about a label of this name.
 abbrev pub asks_of : Configuration → List ℕ → Bool
 asks_of c name = list_any (λ l. same_text l.name name) (labels_of_routes (One c) [])
 
--- The file in which the matcher stands that is the first on a label of this name, where that is one
--- of a route or of an impossible list. Of two configurations it is the old one, if its routes ask
--- of such a label at all.
+-- The file that has the first matcher on a label of this name, if that is a matcher of a route or
+-- of an impossible list. If it is one of a route, and there are two configurations, the file is the
+-- old one if the routes of the old configuration ask about the label, and else the new one.
 -- Source: own choice.
--- Example: where both configurations have `team=~"\bdb"`, the place is `old`.
+-- Example: if both configurations have `team=~"\bdb"`, the place is `old`.
 abbrev pub first_place : Configurations → List ℕ → Origin → Place
 first_place (One c) name origin = origin_place origin
 first_place (Pair old new) name (origin_is.Route path) =

@@ -1,4 +1,4 @@
--- What may be refused once the inputs are read, in order. (This project's own.)
+-- What may be refused after the inputs are read, in order. (This project's own.)
 use Rattle.std.specs.Prelude.{◌≡◌, ◌⊎◌, List, [], ◌∷◌, ◌++◌, ⊤}
 use Rattle.am_universe.specs.declared.kind.Kind.TheVariants as kinds
 use Rattle.am_universe.specs.declared.place.Place.{Place}
@@ -13,10 +13,11 @@ use Rattle.am_reports.specs.Configurations.{Configurations, each_of}
 use Rattle.am_reports.specs.Made.{StandsForAll, NoRoomFor, UnprovedFor, IncompleteFor}
 use Rattle.am_reports.specs.Made.{UndecidedFor, IsDeclaredRefusal, IsMadeRefusal, AreDeclaredWhole}
 
--- A universe is made, and with it more states have to be told apart than there is room for.
+-- A universe can be made, but with it more states have to be told apart than there is room for.
 -- Source: own choice.
--- Example: it is so where 21 children of the top-level route have `continue` and ask of 21 labels,
--- each with one matcher `=`, since of 21 matchers each may hold or not; with 20 of them it is not.
+-- Example: there are too many if 21 children of the top-level route have `continue` and ask about
+-- 21 labels, each with one matcher `=`, since each of the 21 matchers may hold or not. With 20 of
+-- them there are not.
 pub record TooManyStatesFor (a : Alphabet) (s : Space) (k : Configurations) (r : Refusal)
     : Type 0 where
   pub labels : List Label
@@ -25,14 +26,16 @@ pub record TooManyStatesFor (a : Alphabet) (s : Space) (k : Configurations) (r :
       HaveManyStates (record { labels = labels; impossible = s.impossible }) (each_of k)
   pub refusal : r ≡ refusal_here kinds.Limit
 
--- What is made, or what is found over it, is refused at a place, for one of these reasons.
+-- The call is refused at this place, since no universe can be made or since there are too many
+-- states.
 abbrev pub IsRefusalBehind : Alphabet → Space → Configurations → Place → Refusal → Type 0
 IsRefusalBehind a s k place r =
     IsMadeRefusal a s k place r
     ⊎ ((place ≡ places.Universe) × TooManyStatesFor a s k r)
 
--- The outcomes of what is said are refused at a place: for what the universe file declares; or,
--- where that is whole, for what is made, or what is found over it.
+-- The call is refused at this place for a label that the universe file declares; or no such label
+-- lacks a value, and the call is refused since no universe can be made or since there are too many
+-- states.
 abbrev pub IsOutcomesRefusal : Alphabet → Space → Configurations → Place → Refusal → Type 0
 IsOutcomesRefusal a s k place r =
     IsDeclaredRefusal a s k place r
@@ -40,8 +43,8 @@ IsOutcomesRefusal a s k place r =
 
 -- ---- Stages.
 
--- The inputs are accepted, and for what they say there is such a refusal. `Accepts` is that they
--- say a space and configurations.
+-- The inputs are accepted, and what they say is refused, as `Refuses` has it; and the stage of such
+-- refusals. `Accepts` holds of the space and the configurations that accepted inputs say.
 abbrev pub RefusesWhatIsSaid : (Space → Configurations → Type 0)
     → (Space → Configurations → Refusal → Type 0) → Refusal → Type 0
 RefusesWhatIsSaid Accepts Refuses r =
@@ -55,20 +58,20 @@ later_stage Accepts Refuses place = record {
   refuses = RefusesWhatIsSaid Accepts Refuses;
 }
 
--- The inputs are accepted, and at the labels that the universe file declares nothing is lacking.
--- Behind the stages of looking at these labels it is so.
+-- The inputs are accepted, and no label that the universe file declares lacks a value. The stages
+-- after those that check these labels rely on this.
 abbrev pub AcceptsWhole :
     Alphabet → (Space → Configurations → Type 0) → Space → Configurations → Type 0
 AcceptsWhole a Accepts s k = Accepts s k × AreDeclaredWhole a s k s.labels
 
--- A stage at each place.
+-- A stage for each place.
 abbrev pub at_each : (Place → Stage) → List Place → List Stage
 at_each stage [] = []
 at_each stage (place ∷ later) = stage place ∷ at_each stage later
 
--- The stages of looking at the labels that the universe file declares; those of making a universe
--- over an alphabet; and the one of telling states apart. `at_places` are the files in which a
--- matcher may stand.
+-- The stages that check the labels that the universe file declares; those that make a universe over
+-- an alphabet; and the one that tells states apart. `at_places` are the files in which a matcher
+-- may stand.
 abbrev pub declared_stages :
     (Space → Configurations → Type 0) → List Place → Alphabet → List Stage
 declared_stages Accepts at_places a =
@@ -85,10 +88,10 @@ made_stages Accepts at_places a =
 abbrev pub states_stage : (Space → Configurations → Type 0) → Alphabet → Stage
 states_stage Accepts a = later_stage Accepts (TooManyStatesFor a) places.Universe
 
--- And all of these, for the outcomes of what is said.
+-- All of these stages in order, for a call that finds outcomes.
 -- Source: own choice.
--- Example: where the universe file lacks a value of a label, and there is no room for the labels
--- that the routes ask of, the first fault is `incomplete`.
+-- Example: if the universe file lacks a value of a label, and there is no room for the labels that
+-- the routes ask about, the first fault is `incomplete`.
 abbrev pub outcome_stages :
     (Space → Configurations → Type 0) → List Place → Alphabet → List Stage
 outcome_stages Accepts at_places a =

@@ -1,4 +1,5 @@
--- What `lint` is handed, when that is accepted, and the order of its faults. (This project's own.)
+-- The inputs of `lint`, when they are accepted, and the order of their faults. (This project's
+-- own.)
 use Rattle.std.specs.Prelude.{◌≡◌, ℕ, List, ◌∷◌, Bool, Option}
 use Rattle.am_labels.specs.Space.{Space}
 use Rattle.am_eval.specs.Files.{Files}
@@ -9,14 +10,14 @@ use Rattle.am_universe_command.specs.UniverseInputs.{SaysUniverseIfAny, universe
 use Rattle.am_reports.specs.Configurations.{Configurations, One, Pair}
 
 -- The bytes of a universe file, if there is one; the other files, with the instant; and whether
--- ordinary alerts count alone.
+-- only ordinary alerts count.
 pub record LintInputs : Type 0 where
   pub universe : Option (List ℕ)
   pub files : Files
   pub ascii : Bool
 
--- The inputs are accepted: the universe file says the space, which without one has no labels and in
--- which nothing is impossible, and the other files say the world at the instant.
+-- The inputs are accepted: the universe file says the space, and the other files say the world at
+-- the instant. Without a universe file the space has no labels, and nothing is impossible in it.
 pub record AcceptsLintInputs (inputs : LintInputs) (s : Space) (w : World) : Type 0 where
   pub says_universe : SaysUniverseIfAny inputs.universe s
   pub accepts_world : AcceptsWorld inputs.files w
@@ -24,7 +25,7 @@ pub record AcceptsLintInputs (inputs : LintInputs) (s : Space) (w : World) : Typ
 abbrev pub lint_input_stages : LintInputs → List Stage
 lint_input_stages inputs = universe_stage_if_any inputs.universe ∷ world_stages inputs.files
 
--- They say one configuration.
+-- The inputs are accepted, and the configuration is the one that they say.
 abbrev pub AcceptsLint : LintInputs → Space → Configurations → Type 0
 AcceptsLint inputs s (One c) = (w : World) × AcceptsLintInputs inputs s w × (w.config ≡ c)
 AcceptsLint inputs s (Pair old new) = ⊥

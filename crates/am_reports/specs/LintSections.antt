@@ -1,4 +1,4 @@
--- What the sections of a report say of the rules, of the silences and of the values of a world, for
+-- What the sections of a report say about the rules, the silences and the values of a world, for
 -- every alert. (This project's own.)
 use Rattle.std.specs.Prelude.{◌≡◌, ◌+◌, ℕ, List, [], ◌∷◌, ◌++◌, Bool, Option, length, if◌then◌else◌}
 use Rattle.std.specs.List.{AllZip}
@@ -23,17 +23,17 @@ use Rattle.am_unseen.specs.Unseen.{unseen_values}
 use Rattle.am_unseen.specs.UnseenText.{unseen_lines}
 use Rattle.am_reports.specs.Sections.{Section}
 
--- What is said of each of some things, with its position, in lines.
+-- The lines about things. Each is made from the position of a thing, the thing, and its finding.
 abbrev pub each_line : {X F : Type 0} → (ℕ → X → F → List ℕ) → ℕ → List X → List F → List ℕ
 each_line line i [] found = []
 each_line line i (x ∷ xs) [] = []
 each_line line i (x ∷ xs) (finding ∷ found) =
     line i x finding ++ each_line line (i + 1) xs found
 
--- The section says of each rule what is so: nothing where by it some alert inhibits another, and
--- else that it is idle, and why.
+-- What the section says about each rule is true: nothing if some alert inhibits another by the
+-- rule, and else that the rule is idle, and why.
 -- Source: own choice.
--- Example: where both sides of the one rule ask for `team="db"` alone, and `equal` has no name, it
+-- Example: if both sides of the only rule ask for just `team="db"`, and `equal` has no name, there
 -- is one finding.
 pub record SaysOfRules (a : Alphabet) (s : Space) (rules : List Rule) (section : Section)
     : Type 0 where
@@ -43,9 +43,9 @@ pub record SaysOfRules (a : Alphabet) (s : Space) (rules : List Rule) (section :
   pub findings : section.findings ≡ count_idle_rules found
   pub notes : section.notes ≡ 0
 
--- The section says of each silence what is so.
+-- What the section says about each silence is true.
 -- Source: own choice.
--- Example: of a silence that is over it says nothing.
+-- Example: it says nothing about a silence that is over.
 pub record SaysOfSilences (a : Alphabet) (s : Space) (w : World) (given : Bool)
     (section : Section) : Type 0 where
   pub found : List (Option SilenceFinding)
@@ -54,7 +54,7 @@ pub record SaysOfSilences (a : Alphabet) (s : Space) (w : World) (given : Bool)
   pub findings : section.findings ≡ count_silence_findings found
   pub notes : section.notes ≡ count_silence_notes found
 
--- The section says which values matchers name that no alert has, where a file of alerts is given.
+-- The section on the values that matchers name and that no alert has, if a file of alerts is given.
 -- Source: own choice.
 -- Example: without a file of alerts it has no line.
 abbrev pub values_section : Bool → World → Section
@@ -66,8 +66,8 @@ values_section given w = record {
 
 -- ---- Why there is no such section.
 
--- The first rule that is refused stands in the configuration file, and the first silence in its
--- own; there the refusal points to it.
+-- The refusal points to the first rule that is refused, in the configuration file; or to the first
+-- silence that is refused, in the file of silences.
 abbrev pub IsRulesRefusal : Alphabet → Space → List Rule → Place → Refusal → Type 0
 IsRulesRefusal a s rules place r =
     (position : ℕ) × IsFirstRefusedRule a s rules position r.kind × (place ≡ places.Config)

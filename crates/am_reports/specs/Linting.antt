@@ -21,8 +21,8 @@ use Rattle.am_reports.specs.Sections.{Section, report_text, all_findings}
 use Rattle.am_reports.specs.LintSections.{SaysOfRules, SaysOfSilences, values_section}
 use Rattle.am_reports.specs.LintSections.{IsRulesRefusal, IsSilencesRefusal}
 
--- The inputs are accepted, at the labels that the universe file declares nothing is lacking, and
--- what they say is refused for this.
+-- The inputs are accepted, no label that the universe file declares lacks a value, and what the
+-- inputs say is refused for this reason.
 pub record RefusesWhole (inputs : LintInputs)
     (Refuses : Space → World → Place → Refusal → Type 0) (place : Place) (r : Refusal)
     : Type 0 where
@@ -32,8 +32,8 @@ pub record RefusesWhole (inputs : LintInputs)
   pub whole : AreDeclaredWhole (alphabet_of inputs.ascii) space (One world.config) space.labels
   pub refuses : Refuses space world place r
 
--- The stage of the rules, and that of the silences. Of a universe file that is given only what it
--- calls impossible counts here, and not the labels that it declares.
+-- The stage of the rules, and that of the silences. If there is a universe file, its impossible
+-- lists count here, but the labels that it declares do not.
 abbrev pub whole_stage :
     LintInputs → (Space → World → Place → Refusal → Type 0) → Place → Stage
 whole_stage inputs Refuses place = record {
@@ -49,9 +49,9 @@ finding_stages inputs =
     ∷ whole_stage inputs (λ s. IsSilencesRefusal a (undeclared s)) places.Silences
     ∷ []
 
--- The stages behind the inputs: of looking at the labels that the universe file declares; of making
--- a universe for every alert that counts, and one for ordinary alerts; and of looking at the rules
--- and at the silences.
+-- The stages after those of the inputs: they check the labels that the universe file declares, make
+-- a universe for every alert that counts and one for ordinary alerts, and look at the rules and at
+-- the silences.
 abbrev pub later_stages : LintInputs → List Stage
 later_stages inputs =
     let a = alphabet_of inputs.ascii in
@@ -60,11 +60,11 @@ later_stages inputs =
     ++ (made_stages whole report_places a
     ++ (made_stages whole report_places Ascii ++ finding_stages inputs))
 
--- The text is a report on a world, for every alert that counts: what its sections say of routes and
--- receivers, of rules, of silences and of values is so. It has so many findings.
+-- The text is a report on a world, for every alert that counts, with this number of findings. What
+-- its sections say about routes and receivers, rules, silences and values is true.
 -- Source: own choice.
--- Example: of a configuration whose routes and receivers all have an ordinary alert, without rules,
--- silences and alerts, it is `# 0 findings, 0 notes`.
+-- Example: if some ordinary alert ends at each route, each receiver gets one, and there are no
+-- rules, silences and alerts, the report is `# 0 findings, 0 notes`.
 pub record IsLintReport (inputs : LintInputs) (s : Space) (w : World) (findings : ℕ)
     (report : List ℕ) : Type 0 where
   pub routes : Section
@@ -82,19 +82,18 @@ pub record IsLintReport (inputs : LintInputs) (s : Space) (w : World) (findings 
   pub text : let values = values_section (is_some inputs.files.alerts) w in
       report ≡ report_text (routes ∷ rules ∷ silences ∷ values ∷ [])
 
--- At the labels that a space declares nothing is lacking, and the text is a report.
+-- No label that the space declares lacks a value, and the text is such a report.
 pub record IsLinted (inputs : LintInputs) (s : Space) (w : World) (findings : ℕ)
     (report : List ℕ) : Type 0 where
   pub whole : AreDeclaredWhole (alphabet_of inputs.ascii) s (One w.config) s.labels
   pub reports : IsLintReport inputs s w findings report
 
--- The inputs are accepted, at the labels that the universe file declares nothing is lacking, and
--- the text is a report of what is wrong with the configuration, for every alert that is possible;
--- with `--ascii` for every one of these whose values are printable ASCII. Whether it has a finding
--- is told.
+-- The inputs are accepted, no label that the universe file declares lacks a value, and the text is
+-- a report of what is wrong with the configuration, for every possible alert; with `--ascii`, for
+-- every possible alert whose values are printable ASCII. `found` tells whether there is a finding.
 -- Source: own choice.
--- Example: where the top-level route stands alone and has the receiver `a`, and there is a receiver
--- `b` beside it, the report is the lines `receiver "b" unmatched: no route names it` and
+-- Example: if the top-level route stands alone and has the receiver `a`, and a receiver `b` is
+-- declared too, the report is the lines `receiver "b" unmatched: no route names it` and
 -- `# 1 finding, 0 notes`.
 pub record LintsFiles (inputs : LintInputs) (found : Bool) (report : List ℕ) : Type 0 where
   pub space : Space
@@ -104,9 +103,9 @@ pub record LintsFiles (inputs : LintInputs) (found : Bool) (report : List ℕ) :
   pub is_found : found ≡ nat_lt 0 findings
   pub linted : IsLinted inputs space world findings report
 
--- What `lint` owes. It answers whether there is a finding.
+-- What `lint` owes. It returns whether there is a finding.
 -- Source: own choice.
--- Example: where the configuration is no JSON, the first fault is its `not-json`.
+-- Example: if the configuration is not JSON, the first fault is its `not-json`.
 abbrev pub lint_promise : LintInputs → Promise Bool
 lint_promise inputs = record {
   stages = lint_input_stages inputs ++ later_stages inputs;

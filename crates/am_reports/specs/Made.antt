@@ -1,4 +1,4 @@
--- Universes that are made in memory for the routes of one configuration or of two, and why none is
+-- Universes that are made in memory for the routes of one or two configurations, and why none is
 -- made. (This project's own.)
 use Rattle.std.specs.Prelude.{◌≡◌, ◌⊎◌, ℕ, List, [], ◌++◌, Some, slice_get, take, codes, decimal}
 use Rattle.std.specs.Prelude.{Contains, Bool, ⊤}
@@ -27,12 +27,12 @@ use Rattle.am_idle.specs.Lists.{undeclared}
 use Rattle.am_reports.specs.Configurations.{Configurations, One, routing_conditions}
 use Rattle.am_reports.specs.Configurations.{labels_of_routes, first_place}
 
--- A universe stands for every alert over an alphabet, beside the impossible lists of a space: it is
--- complete for the routes and these lists, its own texts are over the alphabet, and it has nothing
--- that is not needed for that.
+-- A universe stands for every alert over an alphabet, with the impossible lists of a space: it is
+-- complete for the matchers of the routes and of these lists, its texts are over the alphabet, and
+-- it has nothing that is not needed for that.
 -- Source: own choice.
--- Example: for one route with `team="db"`, over each alphabet, that with `team`, which may be
--- absent or `db`, does; it does not where `team` may be `web` too.
+-- Example: for one route with `team="db"`, the universe in which `team` may be absent or `db` does
+-- so over each alphabet. It does not if `team` may also be `web`.
 pub record StandsForAll (a : Alphabet) (s : Space) (k : Configurations) (u : List Label)
     : Type 0 where
   pub universe : IsUniverse u
@@ -42,20 +42,20 @@ pub record StandsForAll (a : Alphabet) (s : Space) (k : Configurations) (u : Lis
   pub adds : let made : Space = record { labels = u; impossible = s.impossible } in
       AddsNeeded a (undeclared s) (routing_conditions made k) u
 
--- None is made, since there is no room for the labels that are asked of.
+-- No universe is made, since there is no room for the labels that are asked about.
 -- Source: own choice.
--- Example: it is so where 65 routes ask of 65 labels, each with one matcher `=`.
+-- Example: this is so if 65 routes ask about 65 labels, each with one matcher `=`.
 abbrev pub NoRoomFor : Alphabet → Space → Configurations → Refusal → Type 0
 NoRoomFor a s k r =
     HaveNoRoom a (undeclared s) (labels_of_routes k s.impossible)
     × (r ≡ refusal_here kinds.Limit)
 
--- None is made, since some labels are unproved, though there is room for the others. The first
--- matcher that asks of the first of these labels stands in this file, and there the refusal points
--- to it.
+-- No universe is made, since some labels are unproved, though there is room for the others. The
+-- refusal is at the file of the first matcher on the first of these labels, and points to the route
+-- or list of that matcher.
 -- Source: own choice.
--- Example: where the first child of the top-level route has `team=~"\bdb"`, and no matcher before
--- it is on `team`, the pointer is `/route/routes/0`.
+-- Example: if the first child of the top-level route has `team=~"\bdb"`, and no matcher before it
+-- is on `team`, the pointer is `/route/routes/0`.
 pub record UnprovedFor (a : Alphabet) (s : Space) (k : Configurations) (place : Place)
     (r : Refusal) : Type 0 where
   pub unproved : List ℕ
@@ -70,18 +70,19 @@ pub record UnprovedFor (a : Alphabet) (s : Space) (k : Configurations) (place : 
 
 -- ---- Labels that a universe file declares.
 
--- A space has a value for each class of texts that a label of it may have: it is complete there,
--- for the routes and the impossible lists; and so it is at each of some labels.
+-- A label of a space lacks no value for the matchers of the routes and of the impossible lists: the
+-- space has a value for each class of texts that the label may have. And so for each of some
+-- labels.
 abbrev pub IsDeclaredWhole : Alphabet → Space → Configurations → Label → Type 0
 IsDeclaredWhole a s k label = IsSpaceCompleteAt a s (routing_conditions s k) label.name
 
 abbrev pub AreDeclaredWhole : Alphabet → Space → Configurations → List Label → Type 0
 AreDeclaredWhole a s k labels = AllByRecursion (IsDeclaredWhole a s k) labels
 
--- A space is refused, since it lacks a value at one of its labels, and at none before it.
+-- The space is refused, since one of its labels lacks a value. No label before it does.
 -- Source: own choice.
--- Example: where `team` may be `db` or `web`, and a route asks for `team="db"`, it lacks none;
--- where it may be `db` alone, the refusal is `incomplete` at `/labels/0`.
+-- Example: if `team` may be `db` or `web`, and a route asks for `team="db"`, it lacks no value. If
+-- it may only be `db`, the refusal is `incomplete` at `/labels/0`.
 pub record IncompleteFor (a : Alphabet) (s : Space) (k : Configurations) (r : Refusal)
     : Type 0 where
   pub position : ℕ
@@ -92,10 +93,10 @@ pub record IncompleteFor (a : Alphabet) (s : Space) (k : Configurations) (r : Re
   pub refusal : r
       ≡ record { kind = kinds.Incomplete; pointer = codes "/labels/" ++ decimal position }
 
--- It is refused, since a matcher on one of its labels takes a pattern, and it was not found which
--- texts these tell apart. The first matcher on that label stands in this file.
+-- The space is refused, since a matcher on one of its labels takes a pattern, and the classes of
+-- that label could not be computed. The first matcher on the label stands in this file.
 -- Source: own choice.
--- Example: where `team` is declared and a route has `team=~"\bdb"`, over Unicode.
+-- Example: `team` is declared, and a route has `team=~"\bdb"`, over Unicode.
 pub record UndecidedFor (a : Alphabet) (s : Space) (k : Configurations) (place : Place)
     (r : Refusal) : Type 0 where
   pub position : ℕ
@@ -109,7 +110,7 @@ pub record UndecidedFor (a : Alphabet) (s : Space) (k : Configurations) (place :
   pub stands : place ≡ first_place k asked.name asked.first
   pub refusal : r ≡ record { kind = kinds.Unproved; pointer = origin_pointer asked.first }
 
--- What is made, or what is declared, is refused at a place, for one of these reasons.
+-- What is to be made, or what is declared, is refused at this place for one of these reasons.
 abbrev pub IsMadeRefusal : Alphabet → Space → Configurations → Place → Refusal → Type 0
 IsMadeRefusal a s k place r =
     ((place ≡ places.Universe) × NoRoomFor a s k r) ⊎ UnprovedFor a s k place r
@@ -118,12 +119,12 @@ abbrev pub IsDeclaredRefusal : Alphabet → Space → Configurations → Place �
 IsDeclaredRefusal a s k place r =
     ((place ≡ places.Universe) × IncompleteFor a s k r) ⊎ UndecidedFor a s k place r
 
--- None is made for the alerts that count, or none for ordinary ones.
+-- No universe is made for the alerts that count, or none for ordinary alerts.
 abbrev pub IsRoutesRefusal : Bool → Space → Configuration → Place → Refusal → Type 0
 IsRoutesRefusal ascii s c place r =
     IsMadeRefusal (alphabet_of ascii) s (One c) place r ⊎ IsMadeRefusal Ascii s (One c) place r
 
--- A label lacks nothing, by its state; and the refusal of the label at a position, by the same.
+-- Whether a label is known to lack no value, by its state; and how it is refused, by its state.
 abbrev pub IsSettledState : Completeness → Type 0
 IsSettledState (state_is.Complete classes) = ⊤
 IsSettledState (state_is.Lacks text) = ⊥

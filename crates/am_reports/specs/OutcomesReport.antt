@@ -13,8 +13,8 @@ use Rattle.am_reports.specs.LaterStages.{outcome_stages}
 use Rattle.am_reports.specs.Made.{AreDeclaredWhole}
 use Rattle.am_reports.specs.AllOutcomes.{AreAllOutcomes}
 
--- The text is a report of the outcomes of a configuration, for the alerts of a space or the
--- ordinary ones of them: a line for each outcome.
+-- The text is a report of the outcomes of a configuration, for all alerts of a space or only the
+-- ordinary ones: a line for each outcome, and then `# end`.
 -- Source: own choice.
 -- Example: `"db-mail" {team="db"}` says that `{team="db"}` goes to `db-mail`.
 pub record IsOutcomesReport (ascii : Bool) (s : Space) (c : Configuration) (report : List ℕ)
@@ -24,11 +24,11 @@ pub record IsOutcomesReport (ascii : Bool) (s : Space) (c : Configuration) (repo
   pub are : AreAllOutcomes ascii s (One c) labels outcomes
   pub text : report ≡ outcomes_text labels c outcomes
 
--- The inputs are accepted, at the labels that the universe file declares nothing is lacking, and
--- the text is a report of the outcomes of the configuration, for every alert that is possible; with
--- `--ascii` for every one of these whose values are printable ASCII.
+-- The inputs are accepted, no label that the universe file declares lacks a value, and the text is
+-- a report of the outcomes of the configuration, for every possible alert; with `--ascii`, for
+-- every possible alert whose values are printable ASCII.
 -- Source: own choice.
--- Example: where the top-level route stands alone and has the receiver `a`, the report is the lines
+-- Example: if the top-level route stands alone and has the receiver `a`, the report is the lines
 -- `"a" {}` and `# end`.
 pub record ReportsOutcomes (inputs : ReportInputs) (report : List ℕ) : Type 0 where
   pub space : Space
@@ -39,7 +39,7 @@ pub record ReportsOutcomes (inputs : ReportInputs) (report : List ℕ) : Type 0 
 
 -- What `outcomes` owes.
 -- Source: own choice.
--- Example: where the configuration is no JSON, the first fault is its `not-json`.
+-- Example: if the configuration is not JSON, the first fault is its `not-json`.
 abbrev pub outcomes_promise : ReportInputs → Promise ⊤
 outcomes_promise inputs = record {
   stages = report_input_stages inputs

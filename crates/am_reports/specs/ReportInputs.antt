@@ -1,4 +1,4 @@
--- What a report on one configuration is made of, when that is accepted, and the order of its
+-- The inputs of a report on one configuration, when they are accepted, and the order of their
 -- faults. (This project's own.)
 use Rattle.std.specs.Prelude.{ℕ, List, [], ◌∷◌, Bool, Option}
 use Rattle.am_universe.specs.declared.place.Place.{Place}
@@ -10,14 +10,14 @@ use Rattle.am_universe_command.specs.UniverseInputs.{SaysUniverseIfAny, universe
 use Rattle.am_reports.specs.Configurations.{Configurations, One, Pair}
 
 -- The bytes of a universe file, if there is one, and those of the configuration file; and whether
--- ordinary alerts count alone.
+-- only ordinary alerts count.
 pub record ReportInputs : Type 0 where
   pub universe : Option (List ℕ)
   pub config : List ℕ
   pub ascii : Bool
 
--- The files are accepted: they say the space, which without a universe file has no labels and in
--- which nothing is impossible, and the configuration.
+-- The files are accepted: they say the space and the configuration. Without a universe file the
+-- space has no labels, and nothing is impossible in it.
 pub record AcceptsReportInputs (inputs : ReportInputs) (s : Space) (c : Configuration)
     : Type 0 where
   pub says_universe : SaysUniverseIfAny inputs.universe s
@@ -27,11 +27,11 @@ abbrev pub report_input_stages : ReportInputs → List Stage
 report_input_stages inputs =
     universe_stage_if_any inputs.universe ∷ config_stage inputs.config ∷ []
 
--- They say one configuration.
+-- The inputs are accepted, and the configuration is the one that they say.
 abbrev pub AcceptsReport : ReportInputs → Space → Configurations → Type 0
 AcceptsReport inputs s (One c) = AcceptsReportInputs inputs s c
 AcceptsReport inputs s (Pair old new) = ⊥
 
--- The places of matchers that are looked at, in the order in which their faults come.
+-- The places where the matchers of routes and impossible lists stand, in the order of their faults.
 abbrev pub report_places : List Place
 report_places = places.Config ∷ places.Universe ∷ []

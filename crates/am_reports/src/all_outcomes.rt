@@ -1,9 +1,9 @@
-//! What becomes of every alert.
+//! The outcomes of every alert.
 //!
 //! The space is made in memory, over all texts or over those of printable ASCII. Its universe is
 //! complete for the routes of all configurations of the call together, and for the impossible
 //! lists. So each alert has the receivers of a choice, under both configurations at once, and each
-//! choice is an alert. The labels stand in the order in which the files first ask about them, the
+//! choice is an alert. The labels are in the order in which the files first ask about them, the
 //! old configuration before the new one.
 
 ghost use Rattle.std.specs.Prelude.{◌≡◌, ◌≢◌, IfOk, IfErr, option_copied};
@@ -27,7 +27,7 @@ use am_outcomes::{Outcomes, find_outcomes};
 use am_universe::{Fault, Kind, Place, Universe};
 use std::alloc::Global;
 
-/// Outcomes, and the space of whose choices they are.
+/// Outcomes, and the space whose choices have them.
 #[derive(Drop)]
 pub(crate) struct AllOutcomes {
     pub space: Space,

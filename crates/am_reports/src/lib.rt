@@ -7,7 +7,7 @@
 //! stand for every alert itself.
 #![tactic(auto)]
 
-// What is handed in.
+// The inputs.
 mod compare_inputs;
 mod lint_inputs;
 mod report_inputs;
@@ -16,7 +16,7 @@ pub use compare_inputs::CompareInputs;
 pub use lint_inputs::LintInputs;
 pub use report_inputs::ReportInputs;
 
-// The universes that stand for the alerts, and what becomes of these.
+// The universes that stand for the alerts, and the outcomes.
 mod all_outcomes;
 mod configs;
 mod made;

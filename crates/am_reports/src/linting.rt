@@ -44,7 +44,7 @@ use std::alloc::Global;
 /// `Memory` may come at any point. After any fault but `Write` the sink is unchanged; after `Write`
 /// it has taken a prefix of the report.
 pub fn lint<W: Sink>(alloc: Global, inputs: &LintInputs<'_>, out: &mut W) -> Result<bool, Fault>
-    // What the report says of each route, receiver, rule, silence and value is so.
+    // What the report says about each route, receiver, rule, silence and value is true.
     ensures kept { IsKept (lint_promise inputs.now) W.taken W.failures out.old out.new result }
 {
     let read = read_lint_inputs(alloc, inputs)?;

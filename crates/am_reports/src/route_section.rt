@@ -24,7 +24,7 @@ use am_universe::{Fault, Universe};
 use std::alloc::{AllocError, Global};
 
 /// Makes the section on the routes and receivers of a configuration, for every alert of a space
-/// that declares no label; if `ascii`, for the ordinary ones alone.
+/// that declares no label; if `ascii`, only for the ordinary ones.
 pub(crate) fn route_section(
     alloc: Global,
     ascii: bool,
@@ -49,7 +49,7 @@ pub(crate) fn route_section(
     Ok(section)
 }
 
-/// A universe for every alert, unless printable ASCII counts alone.
+/// Makes a universe for every alert, unless only printable ASCII counts.
 fn every_universe(
     alloc: Global,
     ascii: bool,

@@ -7,7 +7,7 @@ use am_lint::push_count;
 use std::alloc::{AllocError, Global};
 use std::marker::Model;
 
-/// A section of a report: its lines, and how many findings and notes they tell.
+/// A section of a report: its lines, and their numbers of findings and notes.
 #[derive(Drop)]
 pub(crate) struct Section {
     pub lines: String,
@@ -28,7 +28,7 @@ impl Model for Section {
     } };
 }
 
-/// A report, and how many findings it has.
+/// A report, and the number of its findings.
 #[derive(Drop)]
 pub(crate) struct LintReport {
     pub text: String,

@@ -1,4 +1,4 @@
--- The numbers of texts lead to the states of texts.
+-- The number of a text leads to a state of the text.
 use Rattle.std.proofs.Common.{◌≡◌, ℕ, ◌<◌, true, List, [], ◌∷◌, ◌++◌, length, inl, inr, Some}
 use Rattle.std.proofs.Common.{slice_get, slice_index, string_bytes, vec_len, sym, ◌∙◌, subst, arith}
 use Rattle.std.specs.List.{list_all}
@@ -20,17 +20,17 @@ use Rattle.am_scan.proofs.StepLemmas.{scanned_is_byte}
 
 module _ (scan : PatternScan) (columns : List Column) (classes : List ℕ) (states : List PatternState) (rows : List Row)
     (bytes : length classes ≡ 256) (own : AreClasses scan columns classes) (are : AreRows scan columns states rows) where
-  -- At a number stands the state of a text.
+  -- The state with a number follows a text.
   abbrev StandsFor : ℕ → List ℕ → Type 0
   StandsFor number text = (state : PatternState) × (slice_get states number ≡ Some state) × Follows scan state text
 
-  -- A number at which a state stands has a row.
+  -- A number that has a state has a row.
   row_at : (number : ℕ) (state : PatternState) → slice_get states number ≡ Some state → (row : Row) × (slice_get rows number ≡ Some row) × IsRow scan columns states state row
   row_at number state at =
       let row = get_within rows number (let inside = slice_get_within states number state at in omega (arith, are.count)) in
       (row.0, row.1, are.each number state row.0 at row.1)
 
-  -- One byte more in front leads to the state of the longer text.
+  -- One more byte before the text leads to the state of the longer text.
   step : (number b : ℕ) (text : List ℕ) → is_scanned scan.ascii b ≡ true → b < 256 → StandsFor number text →
       StandsFor (next_in (slice_get rows number) (slice_index classes b)) (b ∷ text)
   step number b text scanned small here =
@@ -43,27 +43,27 @@ module _ (scan : PatternScan) (columns : List Column) (classes : List ℕ) (stat
       (slice_get-get_or row.0.next.items class 0 (omega (arith, row.0.next.ok.0))) in
       subst (λ o. StandsFor (next_in o class) (b ∷ text)) (sym row.1) (next.0, next.1, next.2 b text column.2 here.2)
 
-  -- At the number of each scanned text stands a state of the text.
+  -- The number of each scanned text has a state that follows the text.
   stands_for : (text : List ℕ) → list_all (is_scanned scan.ascii) text ≡ true → StandsFor (number_in rows classes text) text
   stands_for [] h = let first = get_within states 0 are.some in (first.0, first.1, are.first first.0 first.1)
   stands_for (b ∷ text) h =
       let parts = and_parts (is_scanned scan.ascii b) _ h in
       step _ b text parts.0 (scanned_is_byte scan.ascii b parts.0) (stands_for text parts.1)
 
-  -- So what is said of the number is so of the text.
+  -- So what is said about the number holds for the text.
   pub found_in-exact : (text : List ℕ) → IsScanned scan.ascii text → found_in rows (number_in rows classes text) ≡ finds (string_bytes scan.pattern) text
   found_in-exact text scanned = grind (arith, common_steps, stands_for, row_at)
 
--- What was at a place stays within.
+-- A position that was within the list still is.
 pub grows_within : (old new : List PatternState) (k : ℕ) → Grows old new → k < length old → k < length new
 grows_within old new k grows h = let there = get_within old k h in slice_get_within new k there.0 (grows k there.0 there.1)
 
--- What is at a place that was within was there.
+-- The state at a position that was within the list was there before.
 pub grown_back : (old new : List PatternState) (k : ℕ) (state : PatternState) → Grows old new → k < length old
     → slice_get new k ≡ Some state → slice_get old k ≡ Some state
 grown_back old new k state grows h at = let there = get_within old k h in there.1 ∙ sym (grows k there.0 there.1) ∙ at
 
--- A row stays one where states are added.
+-- A row stays a row when states are added.
 pub IsRow_kept : (scan : PatternScan) (columns : List Column) (old new : List PatternState) (state : PatternState) (row : Row) → Grows old new →
     IsRow scan columns old state row → IsRow scan columns new state row
 IsRow_kept scan columns old new state row grows h = record {
@@ -72,11 +72,11 @@ IsRow_kept scan columns old new state row grows h = record {
   found = h.found;
 }
 
--- A number stays one where states are added.
+-- A number of a state stays one when states are added.
 pub IsNumber_kept : (old new : List PatternState) (state : PatternState) (number : ℕ) → Grows old new → IsNumber old state number → IsNumber new state number
 IsNumber_kept old new state number grows h = (h.0, grows number h.0 h.1, h.2)
 
--- One byte more has its class.
+-- One more byte has its class.
 pub AreClasses-more : (scan : PatternScan) (old new : List Column) (classes all : List ℕ) (byte class : ℕ) → AreClasses scan old classes →
     GrowsColumns old new → length classes ≡ byte → all ≡ classes ++ class ∷ [] →
     (is_scanned scan.ascii byte ≡ true → (column : Column) × (slice_get new class ≡ Some column) × IsColumn scan.nfa scan.sight byte column) →

@@ -1,4 +1,4 @@
--- A closed list says of each state whether it leads to a match.
+-- A closed list says for each state whether it leads to a match.
 use Rattle.std.proofs.Common.{◌≡◌, ℕ, suc, ◌+◌, ◌<◌, ◌≤◌, ◌⊎◌, All, ◌++◌, Bool, true, false, ◌&&◌, ◌||◌, cond, eqb, List, [], ◌∷◌, length, vec_len, slice_index, slice_index_or, slice_get, Option, Some, None, is_some, refl, sym, inl, inr, ap, ◌∙◌, arith, eqb-true}
 use Rattle.std.proofs.lemmas.Bool.{or_cases, or_left, or_right, cases_Bool, cases_eq, both_ways}
 use Rattle.std.proofs.lemmas.List.Folds.{list_any-append}
@@ -18,12 +18,12 @@ use Rattle.am_scan.specs.Sight.{kind_beside, IsScanned}
 use Rattle.am_scan.specs.Closure.{leads, leads_on, accepts, contains, reads_byte, AcceptsReads, IsClosed}
 use Rattle.am_scan.proofs.SightLemmas.{IsSeen, holds-kinds}
 
--- one of two gives something where the first or the second does
+-- one of two results is there if the first or the second is
 pub is_some-option_or : {A : Type 0} (o p : Option A) → is_some (option_or o p) ≡ (is_some o || is_some p)
 is_some-option_or None p = refl
 is_some-option_or (Some x) p = refl
 
--- what is given under a test alone
+-- a result that is given only under a condition
 pub is_some-cond : {A : Type 0} (b : Bool) (o : Option A) → is_some (cond b o None) ≡ (b && is_some o)
 is_some-cond true o = refl
 is_some-cond false o = refl
@@ -31,7 +31,7 @@ is_some-cond false o = refl
 module _ (nfa : Nfa) (sight : Sight) (ascii : Bool) (seen : IsSeen nfa sight ascii) (hay : List ℕ) (scanned : IsScanned ascii hay) (i : ℕ) (after before : Option ℕ) (reads : ℕ → Bool) (accepted : List Bool)
     (after_is : after ≡ kind_beside sight (slice_get hay i)) (before_is : before ≡ kind_beside sight (byte_before hay i))
     (read_is : (q : ℕ) → q < vec_len nfa.states → reads q ≡ leads_on nfa hay q i) where
-  -- by the kind of the state, where those of a lower rank are known
+  -- for each form of state, if the states of lower rank are known
   by_state : (q : ℕ) → q < vec_len nfa.states → (state : State) → state_of nfa q ≡ state →
       ((r : ℕ) → IsBelow nfa.ranks.items r q → slice_index_or accepted r false ≡ leads nfa hay r i) →
       accepts after before accepted (reads q) state
@@ -44,7 +44,7 @@ module _ (nfa : Nfa) (sight : Sight) (ascii : Bool) (seen : IsSeen nfa sight asc
   by_state q inside Fail is h = refl
   by_state q inside state is h = grind (arith, common_steps)
 
-  -- a state is accepted exactly where it leads to a match
+  -- a state is accepted exactly if it leads to a match
   pub leads_where_accepted : IsClosed nfa after before reads accepted → (q : ℕ) → q < vec_len nfa.states →
       slice_index_or accepted q false ≡ leads nfa hay q i
   leads_where_accepted closed q inside =
@@ -58,14 +58,14 @@ module _ (nfa : Nfa) (sight : Sight) (ascii : Bool) (seen : IsSeen nfa sight asc
       ∙ sym (ap is_some (run_unfold nfa hay (length hay) r i)) ∙ ap (leads nfa hay r) (sym e))
       q i refl inside
 
--- a state that reads a byte is accepted where reading it leads to a match
+-- a state that reads a byte is accepted exactly if reading it leads to a match
 accepts_reading : (after before : Option ℕ) (accepted : List Bool) (reads : Bool) (state : State) → reads_byte state ≡ true →
     accepts after before accepted reads state ≡ reads
 accepts_reading after before accepted reads (ByteRange t) h = refl
 accepts_reading after before accepted reads (Sparse from to) h = refl
 accepts_reading after before accepted reads state h = absurd cc
 
--- what is contained is at a place
+-- a number that a list contains is at some position
 place_of : (numbers : List ℕ) (n : ℕ) → contains numbers n ≡ true → (k : ℕ) × (k < length numbers) × (slice_index numbers k ≡ n)
 place_of [] n h = absurd cc
 place_of (m ∷ numbers) n h = elim (or_cases (eqb m n) (contains numbers n) h) [
@@ -73,8 +73,8 @@ place_of (m ∷ numbers) n h = elim (or_cases (eqb m n) (contains numbers n) h) 
   | inr later ↦ (let p = place_of numbers n later in (suc p.0, omega (arith, p.1), p.2))
 ]
 
--- Accepted states are closed where those that read are accepted as reading leads on, and those that
--- do not by the states that are accepted.
+-- A list of accepted states is closed if the states that read a byte are accepted as `reads` says,
+-- and the others as the accepted states say.
 pub IsClosed-rounds : (nfa : Nfa) (after before : Option ℕ) (reads : ℕ → Bool) (accepted : List Bool) (idle : List ℕ) →
     length accepted ≡ vec_len nfa.states → AcceptsReads nfa reads accepted →
     ((q : ℕ) → q < vec_len nfa.states → reads_byte (state_of nfa q) ≡ false → contains idle q ≡ true) →
@@ -84,21 +84,21 @@ pub IsClosed-rounds : (nfa : Nfa) (after before : Option ℕ) (reads : ℕ → B
 IsClosed-rounds nfa after before reads accepted idle len own all each =
     grind (arith, common_steps, cases_Bool, accepts_reading, place_of)
 
--- Numbers are those of the states that read no byte, among the last k.
+-- Numbers are those of the states that read no byte, among the last `k`.
 pub record AreIdle (nfa : Nfa) (idle : List ℕ) (k : ℕ) : Type 0 where
   pub alone : All (λ q. (q < vec_len nfa.states) × (reads_byte (state_of nfa q) ≡ false)) idle
   pub all : (q : ℕ) → q < vec_len nfa.states → vec_len nfa.states ≤ q + k → reads_byte (state_of nfa q) ≡ false → contains idle q ≡ true
 
--- a number more is contained
+-- a list with one more number contains that number and the earlier ones
 contains_pushed : (idle : List ℕ) (id q : ℕ) → (contains idle q ≡ true) ⊎ (id ≡ q) → contains (idle ++ id ∷ []) q ≡ true
 contains_pushed idle id q h = grind (arith, common_steps, list_any-append, or_left, or_right)
 
--- one state more that reads no byte
+-- one more state, which reads no byte
 pub AreIdle-more : (nfa : Nfa) (idle all : List ℕ) (id k : ℕ) → AreIdle nfa idle k → all ≡ idle ++ id ∷ [] → (id + k) + 1 ≡ vec_len nfa.states →
     reads_byte (state_of nfa id) ≡ false → AreIdle nfa all (k + 1)
 AreIdle-more nfa idle all id k h is e idling = grind (arith, common_steps, contains_pushed, cases_eq)
 
--- or that reads one
+-- one more state, which reads a byte
 pub AreIdle-same : (nfa : Nfa) (idle : List ℕ) (id k : ℕ) → AreIdle nfa idle k → (id + k) + 1 ≡ vec_len nfa.states →
     reads_byte (state_of nfa id) ≡ true → AreIdle nfa idle (k + 1)
 AreIdle-same nfa idle id k h e reading = grind (arith, common_steps, both_ways, cases_eq)

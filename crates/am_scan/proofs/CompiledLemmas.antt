@@ -1,4 +1,4 @@
--- What is compiled of an anchored pattern searches for the pattern.
+-- What is compiled from an anchored pattern searches for the pattern.
 use Rattle.std.proofs.Common.{◌≡◌, ℕ, List, length, Option, Some, None, is_some, refl, sym, ap, ◌∙◌, arith}
 use Rattle.std.specs.Prelude.{chars}
 use Rattle.std.proofs.lemmas.Grind.{common_steps}
@@ -24,7 +24,7 @@ module _ (nfa : Nfa) (hir : Hir) (implements : Implements nfa (meaning hir)) (p 
   unfolding find_str
   by_tree text = grind (arith, common_steps, first_between_cong)
 
-  -- by what the grammar answers
+  -- by what the grammar reads, if it reads anything
   read_by : (o : Option (Nested Re × Names)) → read default_config (chars (anchored_pattern p)) ≡ o → IsSearchFor nfa p
   unfolding Reads pattern_reading
   read_by None e text bytes = absurd (rw e at reads)

@@ -1,18 +1,18 @@
--- The element at a place of a list: with more elements, of a front, and as an element.
+-- The element at a position of a list: in a longer list, in a prefix, and among all elements.
 use Rattle.std.proofs.Common.{◌≡◌, ℕ, zero, suc, ◌+◌, ◌<◌, List, [], ◌∷◌, ◌++◌, Some, slice_get, length, map, take, get_or, Contains, ◌⊎◌, inl, inr, refl, ap, subst, sym, ◌∙◌, arith}
 use Rattle.std.specs.List.{AllByRecursion}
 use Rattle.std.proofs.lemmas.List.{take_more, take_all, map-append}
 use Rattle.std.proofs.lemmas.Option.{get_or_from_slice_get, slice_get_within, same_Some}
 use Rattle.std.proofs.lemmas.Grind.{common_steps}
 
--- At a place of two lists in a row is one of the first, or of the second.
+-- The element at a position of two joined lists is from the first list or from the second.
 pub get_append : {X : Type 0} (xs ys : List X) (x : X) (k : ℕ) → slice_get (xs ++ ys) k ≡ Some x
     → (slice_get xs k ≡ Some x) ⊎ ((m : ℕ) × (k ≡ length xs + m) × (slice_get ys m ≡ Some x))
 get_append [] ys x k e = inr (k, omega arith, e)
 get_append (z ∷ xs) ys x zero e = inl e
 get_append (z ∷ xs) ys x (suc k) e = grind (arith, common_steps, get_append xs ys x k e)
 
--- At a place of a list with one element more is one of the list, or the last.
+-- The element at a position of a list with one more element is from the list, or is the last.
 pub get_pushed : {X : Type 0} (xs : List X) (y x : X) (k : ℕ) → slice_get (xs ++ y ∷ []) k ≡ Some x
     → (slice_get xs k ≡ Some x) ⊎ ((k ≡ length xs) × (y ≡ x))
 get_pushed [] y x zero e = inr (refl, same_Some y x e)
@@ -20,82 +20,82 @@ get_pushed [] y x (suc k) e = absurd cc
 get_pushed (z ∷ xs) y x zero e = inl e
 get_pushed (z ∷ xs) y x (suc k) e = grind (arith, common_steps, get_pushed xs y x k e)
 
--- What is at a place stays there.
+-- An element stays at its position when elements are added after it.
 pub get_kept : {X : Type 0} (xs ys : List X) (x : X) (k : ℕ) → slice_get xs k ≡ Some x
     → slice_get (xs ++ ys) k ≡ Some x
 get_kept [] ys x k e = absurd cc
 get_kept (z ∷ xs) ys x zero e = e
 get_kept (z ∷ xs) ys x (suc k) e = get_kept xs ys x k e
 
--- What is at a place is as far behind another list.
+-- An element moves up by the length of a list that is put before it.
 pub get_behind : {X : Type 0} (xs ys : List X) (x : X) (k : ℕ) → slice_get ys k ≡ Some x
     → slice_get (xs ++ ys) (length xs + k) ≡ Some x
 get_behind [] ys x k e = let same : 0 + k ≡ k = omega arith in rw same e
 get_behind (z ∷ xs) ys x k e = grind (arith, common_steps, get_behind xs ys x k e)
 
--- The last is behind all others.
+-- The position of an added element is the number of the elements before it.
 pub get_last : {X : Type 0} (xs : List X) (y : X) → slice_get (xs ++ y ∷ []) (length xs) ≡ Some y
 get_last [] y = refl
 get_last (x ∷ xs) y = get_last xs y
 
--- At a place of a front that is one longer is one of the front, or the next element.
+-- The element at a position of a prefix that is one longer is from the prefix, or is the next one.
 pub get_front : {X : Type 0} (xs : List X) (i : ℕ) (y x : X) (k : ℕ) → i < length xs
     → y ≡ get_or xs i y → slice_get (take (i + 1) xs) k ≡ Some x
     → (slice_get (take i xs) k ≡ Some x) ⊎ (y ≡ x)
 get_front xs i y x k below is e = grind (arith, common_steps, take_more, get_pushed)
 
--- At a place of a list is what is at the place of its longest front.
+-- The prefix of full length has the same element at each position as the list.
 pub get_whole : {X : Type 0} (xs : List X) (n k : ℕ) (x : X) → n ≡ length xs
     → slice_get xs k ≡ Some x → slice_get (take n xs) k ≡ Some x
 get_whole xs n k x all e = subst (λ zs. slice_get zs k ≡ Some x) (sym (take_all n xs (omega (arith, all)))) e
 
--- What is at a place is an element.
+-- What is at a position of a list is an element of it.
 pub contains_from_get : {X : Type 0} (xs : List X) (x : X) (k : ℕ) → slice_get xs k ≡ Some x
     → Contains xs x
 contains_from_get xs x k e = (k, slice_get_within xs k x e, get_or_from_slice_get xs k x x e)
 
--- What holds at each place holds of all.
+-- What holds at each position holds for all elements.
 pub all_from_places : {X : Type 0} (P : X → Type 0) (xs : List X)
     → ((k : ℕ) (x : X) → slice_get xs k ≡ Some x → P x) → AllByRecursion P xs
 all_from_places P [] h = tt
 all_from_places P (x ∷ xs) h = (h 0 x refl, all_from_places P xs (λ k y e. h (suc k) y e))
 
--- What holds of all holds at each place.
+-- What holds for all elements holds at each position.
 pub all_at_place : {X : Type 0} (P : X → Type 0) (xs : List X) (k : ℕ) (x : X)
     → AllByRecursion P xs → slice_get xs k ≡ Some x → P x
 all_at_place P [] k x h e = absurd cc
 all_at_place P (y ∷ xs) zero x h e = subst P (same_Some y x e) h.0
 all_at_place P (y ∷ xs) (suc k) x h e = all_at_place P xs k x h.1 e
 
--- A front that is one longer has one more at its end, each element under a function.
+-- A prefix that is one longer has one more element at its end, also under a function.
 pub map_front : {X Y : Type 0} (f : X → Y) (xs : List X) (i : ℕ) (y : X) → i < length xs
     → y ≡ get_or xs i y → map f (take (i + 1) xs) ≡ map f (take i xs) ++ f y ∷ []
 map_front f xs i y below is = grind (arith, common_steps, take_more, map-append)
 
--- Functions that agree at each place make one list.
+-- Functions that agree on the element at each position give the same list.
 pub map_same : {X Y : Type 0} (f g : X → Y) (xs : List X)
     → ((k : ℕ) (x : X) → slice_get xs k ≡ Some x → f x ≡ g x) → map f xs ≡ map g xs
 map_same f g [] h = refl
 map_same f g (x ∷ xs) h = let here = h 0 x refl in let rest = map_same f g xs (λ k y e. h (suc k) y e) in cc
 
--- One element more is one more under a function.
+-- One more element is one more result of a function.
 pub map_pushed : {X Y : Type 0} (f : X → Y) (xs all : List X) (x : X) (y : Y) → all ≡ xs ++ x ∷ []
     → f x ≡ y → map f all ≡ map f xs ++ y ∷ []
 map_pushed f xs all x y is e = grind (arith, common_steps, map-append)
 
--- Within a list there is something at each place.
+-- A list has an element at each position below its length.
 pub get_within : {X : Type 0} (xs : List X) (k : ℕ) → k < length xs
     → (x : X) × (slice_get xs k ≡ Some x)
 get_within [] k h = absurd (omega arith)
 get_within (x ∷ xs) zero h = (x, refl)
 get_within (x ∷ xs) (suc k) h = get_within xs k (omega arith)
 
--- A front that is one longer has one more at its end.
+-- A prefix that is one longer has one more element at its end.
 pub take_front : {X : Type 0} (xs : List X) (i : ℕ) (y : X) → i < length xs → y ≡ get_or xs i y
     → take (i + 1) xs ≡ take i xs ++ y ∷ []
 take_front xs i y below is = take_more xs i y below ∙ ap (λ z. take i xs ++ z ∷ []) (sym is)
 
--- What relates the elements of two lists of one length at each place relates them with one more.
+-- A relation between the elements of two lists of one length holds with one more element in each.
 pub each_pushed : {X Y : Type 0} (R : X → Y → Type 0) (xs : List X) (ys : List Y) (x : X) (y : Y) → length xs ≡ length ys
     → ((k : ℕ) (a : X) (b : Y) → slice_get xs k ≡ Some a → slice_get ys k ≡ Some b → R a b) → R x y
     → (k : ℕ) (a : X) (b : Y) → slice_get (xs ++ x ∷ []) k ≡ Some a → slice_get (ys ++ y ∷ []) k ≡ Some b → R a b

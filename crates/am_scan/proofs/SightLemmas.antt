@@ -1,4 +1,4 @@
--- An assertion sees of the bytes beside it no more than their kinds.
+-- An assertion sees no more of the bytes beside it than their kinds.
 use Rattle.std.proofs.Common.{◌≡◌, ℕ, zero, suc, ◌+◌, ◌-◌, ◌<◌, ◌≤◌, Bool, true, false, ◌&&◌, ◌||◌, cond, eqb, Option, Some, None, is_some, refl, sym, arith, List, [], ◌∷◌, length, slice_get, ap, ◌∙◌, ⊎_elim, subst, ltb-true, rules}
 use Rattle.std.specs.List.{list_all}
 use Rattle.std.proofs.lemmas.Bool.{and_parts, cases_Bool, cases_lt, cond_both, or_parts}
@@ -22,7 +22,7 @@ use Rattle.regex_nfa.specs.States.{state_at}
 use Rattle.am_scan.specs.Sight.{kind_beside, sees, sees_state, is_scanned, IsScanned}
 use Rattle.am_scan.specs.declared.sight.Sight.{Sight}
 
--- what stands on a side, if anything does, is of ASCII
+-- the byte on a side, if there is one, is of ASCII
 abbrev IsAsciiSide : Option ℕ → Type 0
 IsAsciiSide o = (b : ℕ) → o ≡ Some b → b < 128
 
@@ -30,17 +30,17 @@ IsAsciiSide o = (b : ℕ) → o ≡ Some b → b < 128
 abbrev known_by : Bool → Bool → ℕ → ℕ
 known_by lines words b = cond (lines && (eqb b 10 || eqb b 13)) b (cond (words && is_word_byte b) 97 0)
 
--- a byte is a line feed exactly where its kind is
+-- a byte is a line feed exactly if its kind is
 lf_byte : (lines words : Bool) (b : ℕ) → lines ≡ true → eqb (known_by lines words b) 10 ≡ eqb b 10
 lf_byte false words b e = absurd cc
 lf_byte true words b e = grind (arith, common_steps, cond_both, or_parts)
 
--- and a carriage return
+-- a byte is a carriage return exactly if its kind is
 cr_byte : (lines words : Bool) (b : ℕ) → lines ≡ true → eqb (known_by lines words b) 13 ≡ eqb b 13
 cr_byte false words b e = absurd cc
 cr_byte true words b e = grind (arith, common_steps, cond_both, or_parts)
 
--- a byte is of a word exactly where its kind is
+-- a byte is of a word exactly if its kind is
 word_byte : (lines words : Bool) (b : ℕ) → words ≡ true → is_word_byte (known_by lines words b) ≡ is_word_byte b
 word_byte lines false b e = absurd cc
 word_byte lines true b e = search (rules, cond_both)
@@ -50,32 +50,32 @@ kind_is_ascii : (lines words : Bool) (b : ℕ) → b < 128 → known_by lines wo
 kind_is_ascii lines words b small = grind (arith, common_steps, cond_both)
 
 module _ (sight : Sight) where
-  -- there is a byte where there is a kind
+  -- there is a kind exactly if there is a byte
   edge-kind : (o : Option ℕ) → is_some (kind_beside sight o) ≡ is_some o
   edge-kind None = refl
   edge-kind (Some b) = refl
 
-  -- a side shows a line feed exactly where its kind does
+  -- the byte on a side is a line feed exactly if its kind is
   lf-kind : sight.lines ≡ true → (o : Option ℕ) → is_some_and (kind_beside sight o) (λ b. eqb b 10) ≡ is_some_and o (λ b. eqb b 10)
   lf-kind lines None = refl
   lf-kind lines (Some b) = lf_byte sight.lines sight.words b lines
 
-  -- a side shows a carriage return exactly where its kind does
+  -- the byte on a side is a carriage return exactly if its kind is
   cr-kind : sight.lines ≡ true → (o : Option ℕ) → is_some_and (kind_beside sight o) (λ b. eqb b 13) ≡ is_some_and o (λ b. eqb b 13)
   cr-kind lines None = refl
   cr-kind lines (Some b) = cr_byte sight.lines sight.words b lines
 
-  -- a side shows a byte of a word exactly where its kind does
+  -- the byte on a side is of a word exactly if its kind is
   word_byte-kind : sight.words ≡ true → (o : Option ℕ) → is_some_and (kind_beside sight o) is_word_byte ≡ is_some_and o is_word_byte
   word_byte-kind words None = refl
   word_byte-kind words (Some b) = word_byte sight.lines sight.words b words
 
-  -- a side of ASCII shows a character of a word exactly where its kind does
+  -- the character on a side of ASCII is of a word exactly if its kind is
   word_char-kind : sight.words ≡ true → (o : Option ℕ) → IsAsciiSide o → is_some_and (kind_beside sight o) is_word_char ≡ is_some_and o is_word_char
   word_char-kind words None ascii = refl
   word_char-kind words (Some b) ascii = search (rules, is_word_char-ascii, kind_is_ascii, word_byte)
 
-  -- between two characters of one byte an assertion holds exactly where it does between their kinds
+  -- an assertion holds between two characters of one byte exactly if it holds between their kinds
   holds_between-kinds : (l : look.Look) (a b : Option ℕ) → sees sight l ≡ true →
       (sight.words ≡ true → IsAsciiSide a × IsAsciiSide b) →
       holds_between l (record { byte = a; char = a }) (record { byte = b; char = b })
@@ -100,7 +100,7 @@ module _ (sight : Sight) where
   holds_between-kinds WordStartHalfUnicode a b h ascii = simp (edge-kind, word_char-kind h a (ascii h).0)
   holds_between-kinds WordEndHalfUnicode a b h ascii = simp (edge-kind, word_char-kind h b (ascii h).1)
 
-  -- where words are not seen, no assertion asks for characters
+  -- if words are not seen, no assertion asks about characters
   not_unicode : (l : look.Look) → sees sight l ≡ true → sight.words ≡ false → is_unicode_look l ≡ false
   not_unicode Start h none = refl
   not_unicode End h none = refl
@@ -117,16 +117,16 @@ scanned_at ascii (x ∷ xs) zero b h e = let same : x ≡ b = cc in ap (is_scann
 scanned_at ascii (x ∷ xs) (suc k) b h e = scanned_at ascii xs k b (and_parts (is_scanned ascii x) _ h).1 e
 
 module _ (hay : List ℕ) (i : ℕ) where
-  -- where no byte stands the text has ended
+  -- a position without a byte is at or after the end of the text
   past_end : slice_get hay i ≡ None → length hay ≤ i
   past_end e =
       ⊎_elim (λ inside. absurd (none-some _ (sym e ∙ slice_get-get_or hay i 0 inside))) (λ past. past) (cases_lt i (length hay))
 
-  -- a character that ends at a place ends within the text
+  -- a character that ends at a position ends within the text
   fits : (n c : ℕ) → char_of_len_before hay n i ≡ Some c → i ≤ length hay
   fits n c e = grind (arith, common_steps, cond_some, and_parts, char_at_fits)
 
-  -- so none ends behind it
+  -- so no character ends after the text
   char_before_past : length hay < i → char_before hay i ≡ None
   unfolding char_before
   char_before_past past =
@@ -137,12 +137,12 @@ module _ (hay : List ℕ) (i : ℕ) where
       ⊎_elim (not_of 3 c) (λ four. not_of 4 c four.1)
       (option_or_cases _ _ c rest.1)) (option_or_cases _ _ c others.1)) (option_or_cases _ _ c e))
 
-  -- in a text of ASCII the character at a place is the byte there
+  -- in a text of ASCII, the character at a position is the byte there
   char_at_is : (o : Option ℕ) → slice_get hay i ≡ o → IsAsciiSide o → char_at hay i ≡ o
   char_at_is None e ascii = char_at_past hay i (past_end e)
   char_at_is (Some b) e ascii = char_at_ascii hay i b e (ascii b refl)
 
--- and so is that before it
+-- and the character before a position is the byte before it
 char_before_is : (hay : List ℕ) (i : ℕ) (o : Option ℕ) → byte_before hay i ≡ o → IsAsciiSide o → char_before hay i ≡ o
 char_before_is hay i (Some b) e ascii = char_before_ascii hay i b e (ascii b refl)
 char_before_is hay zero None e ascii = char_before-zero hay
@@ -156,7 +156,7 @@ pub record IsSeen (nfa : Nfa) (sight : Sight) (ascii : Bool) : Type 0 where
   pub all : list_all (sees_state sight) nfa.states.items ≡ true
   pub words_in_ascii : sight.words ≡ true → ascii ≡ true
 
--- where all states are seen, the state with each number is
+-- if what is seen is enough for all states, it is enough for the state with each number
 seen_at : (sight : Sight) (states : List State) → list_all (sees_state sight) states ≡ true → (q : ℕ) → sees_state sight (state_at states q) ≡ true
 unfolding sees_state
 seen_at sight [] h q = refl
@@ -164,12 +164,12 @@ seen_at sight (s ∷ states) h zero = (and_parts _ _ h).0
 seen_at sight (s ∷ states) h (suc q) = seen_at sight states (and_parts (sees_state sight s) _ h).1 q
 
 module _ (nfa : Nfa) (sight : Sight) (ascii : Bool) (seen : IsSeen nfa sight ascii) where
-  -- what is seen is enough for the assertion that a state asks
+  -- what is seen is enough for the assertion of the state with a number
   sees_look : (q : ℕ) (l : look.Look) (next : ℕ) → state_at nfa.states.items q ≡ Look l next → sees sight l ≡ true
   unfolding sees_state
   sees_look q l next e = sym (ap (sees_state sight) e) ∙ seen_at sight nfa.states.items seen.all q
 
-  -- so it holds exactly where it does between the kinds
+  -- so the assertion holds exactly if it holds between the kinds
   pub holds-kinds : (hay : List ℕ) (i : ℕ) → IsScanned ascii hay → (q : ℕ) (l : look.Look) (next : ℕ) → state_at nfa.states.items q ≡ Look l next →
       holds l hay i
       ≡ holds_between l (record { byte = kind_beside sight (byte_before hay i); char = kind_beside sight (byte_before hay i) })

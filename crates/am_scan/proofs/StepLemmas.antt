@@ -1,4 +1,4 @@
--- How the state of a text follows from that of the text behind its first byte.
+-- How the state of a text follows from the state of the text after its first byte.
 use Rattle.std.proofs.Common.{◌≡◌, ℕ, zero, suc, ◌+◌, ◌-◌, ◌<◌, Bool, true, false, ◌&&◌, ◌||◌, List, rules}
 use Rattle.std.proofs.Common.{[], ◌∷◌, length, drop, vec_len, slice_index_or, slice_get, Option}
 use Rattle.std.proofs.Common.{Some, None, is_some, option_map, option_and_then, refl, sym, ap}
@@ -21,33 +21,33 @@ use Rattle.am_scan.specs.Scan.{FollowsText}
 use Rattle.am_scan.proofs.SightLemmas.{IsSeen}
 use Rattle.am_scan.proofs.ClosureLemmas.{is_some-cond, leads_where_accepted}
 
--- the element at a place stands first where all before it is dropped
+-- when all elements before a position are dropped, the element at the position comes first
 pub slice_get-drop : (xs : List ℕ) (i : ℕ) → slice_get (drop i xs) 0 ≡ slice_get xs i
 slice_get-drop xs zero = refl
 slice_get-drop [] (suc i) = refl
 slice_get-drop (x ∷ xs) (suc i) = slice_get-drop xs i
 
--- the element at a place is the first of what stands from there on
+-- the element at a position is the first element from there on
 pub here : (hay : List ℕ) (i : ℕ) (text : List ℕ) → drop i hay ≡ text → slice_get hay i ≡ slice_get text 0
 here hay i text e = sym (slice_get-drop hay i) ∙ ap (λ xs. slice_get xs 0) e
 
--- behind the first byte stands the rest
+-- after the first byte comes the rest
 pub rest : (hay : List ℕ) (i byte : ℕ) (text : List ℕ) → drop i hay ≡ byte ∷ text → drop (i + 1) hay ≡ text
 rest hay i byte text e = sym (drop-drop 1 i hay) ∙ ap (drop 1) e
 
--- a character begins at a place exactly where one begins in what stands from there on
+-- a character begins at a position exactly if one begins at the front of what follows from there on
 same_boundary : (hay : List ℕ) (i : ℕ) (text : List ℕ) → drop i hay ≡ text → is_boundary hay i ≡ is_boundary text 0
 unfolding is_boundary
 same_boundary hay i text e = rw (here hay i text e) refl
 
--- either way round
+-- the order of two truths does not matter
 or_comm : (x y : Bool) → (x || y) ≡ (y || x)
 or_comm true true = refl
 or_comm true false = refl
 or_comm false true = refl
 or_comm false false = refl
 
--- a search gives something where its first place does, or the later ones
+-- a search finds something if it does so at its first position or at a later one
 pub is_some-first : (i : ℕ) (o : Option Trace) (later : Option Match) →
     is_some (option_or (option_map (λ t. record { start = i; trace = t }) o) later) ≡ (is_some o || is_some later)
 is_some-first i None later = refl
@@ -58,25 +58,25 @@ pub FollowsText-end : (nfa : Nfa) (sight : Sight) (ascii : Bool) → FollowsText
 unfolding first_from is_boundary
 FollowsText-end nfa sight ascii = grind (arith, common_steps, byte_below-length, here)
 
--- what is scanned is a byte
+-- a scanned number is a byte
 pub scanned_is_byte : (ascii : Bool) (b : ℕ) → is_scanned ascii b ≡ true → b < 256
 scanned_is_byte true b h = let small = ltb-true b 128 h in omega arith
 scanned_is_byte false b h = ltb-true b 256 h
 
--- so a scanned text is of bytes
+-- so a scanned text has only bytes
 bytes_of_scanned : (ascii : Bool) (text : List ℕ) → IsScanned ascii text → All (λ b. b < 256) text
 bytes_of_scanned ascii text scanned = grind (arith, common_steps, scanned_is_byte)
 
 module _ (nfa : Nfa) (sight : Sight) (ascii : Bool) (seen : IsSeen nfa sight ascii) (first : Option ℕ) (starts : Bool) (reads : ℕ → Bool) (later : Bool) (text : List ℕ)
     (follows : FollowsText nfa sight ascii first starts reads later text) (accepted : List Bool) where
-  -- what is accepted leads to a match wherever the text stands behind such a byte
+  -- a state is accepted exactly if it leads to a match wherever the text comes after such a byte
   leads_there : (before : Option ℕ) → IsClosed nfa first before reads accepted → (hay : List ℕ) (i : ℕ) → IsScanned ascii hay → drop i hay ≡ text →
       before ≡ kind_beside sight (byte_before hay i) → (q : ℕ) → q < vec_len nfa.states → slice_index_or accepted q false ≡ leads nfa hay q i
   leads_there before closed hay i scanned e before_is =
       leads_where_accepted nfa sight ascii seen hay scanned i first before reads accepted (follows.kind ∙ ap (kind_beside sight) (sym (here hay i text e)))
       before_is (follows.each hay i scanned e) closed
 
-  -- a match begins where the text does, or later
+  -- a match begins at the start of the text, or later
   from_here : (before : Option ℕ) → IsClosed nfa first before reads accepted →
       (hay : List ℕ) (i : ℕ) → IsScanned ascii hay → drop i hay ≡ text → before ≡ kind_beside sight (byte_before hay i) →
       (later || (starts && slice_index_or accepted nfa.start false)) ≡ is_some (first_from (start_at nfa hay) (suc (length text)) i)
@@ -84,13 +84,13 @@ module _ (nfa : Nfa) (sight : Sight) (ascii : Bool) (seen : IsSeen nfa sight asc
   from_here before closed hay i scanned e before_is =
       search (rules, or_comm, same_boundary, leads_there, is_some-cond, is_some-first)
 
-  -- what a byte leads to, where all that it may lead to is known
+  -- whether a byte leads to a match, if this is known of each state to which it may lead
   goes : (hay : List ℕ) (i : ℕ) (o : Option ℕ) → ((r : ℕ) → o ≡ Some r → slice_index_or accepted r false ≡ leads nfa hay r i) →
       is_some_and o (λ r. slice_index_or accepted r false) ≡ is_some (option_and_then (λ r. run nfa hay (length hay) r i) o)
   goes hay i None h = refl
   goes hay i (Some r) h = h r refl
 
-  -- one byte more in front
+  -- one more byte before the text
   pub FollowsText-step : (byte : ℕ) (next : ℕ → Bool) → IsClosed nfa first (Some (kind_of sight byte)) reads accepted →
       ((q : ℕ) → q < vec_len nfa.states → next q ≡ goes_on nfa accepted q byte) →
       FollowsText nfa sight ascii (Some (kind_of sight byte)) (is_boundary (byte ∷ []) 0) next

@@ -12,52 +12,53 @@ use Rattle.am_scan.specs.Column.{IsColumn}
 use Rattle.am_scan.specs.Scan.{Follows}
 use Rattle.am_scan.specs.Numbers.{number_in}
 
--- Each of some bytes, of those that are scanned, has its column in its class.
+-- The class of each scanned byte is the position of its column.
 abbrev pub AreClasses : PatternScan → List Column → List ℕ → Type 0
 AreClasses scan columns classes =
     (b class : ℕ) → slice_get classes b ≡ Some class → is_scanned scan.ascii b ≡ true
     → (column : Column) × (slice_get columns class ≡ Some column)
     × IsColumn scan.nfa scan.sight b column
 
--- Columns stay in their places.
+-- Each column keeps its position.
 abbrev pub GrowsColumns : List Column → List Column → Type 0
 GrowsColumns old new =
     (k : ℕ) (column : Column) → slice_get old k ≡ Some column → slice_get new k ≡ Some column
 
--- States stay in their places.
+-- Each state keeps its position.
 abbrev pub Grows : List PatternState → List PatternState → Type 0
 Grows old new =
     (k : ℕ) (state : PatternState) → slice_get old k ≡ Some state → slice_get new k ≡ Some state
 
--- A byte in front leads from a state to another.
+-- A byte of a column, put before a text, leads from one state to another.
 -- Source: own choice.
--- Example: in texts that `d` or `db` begin, `d` leads from the state of `b` to that of `db`.
+-- Example: for the pattern `db`, `d` leads from the state of `b` to that of `db`.
 abbrev pub LeadsTo : PatternScan → Column → PatternState → PatternState → Type 0
 LeadsTo scan column state next =
     (byte : ℕ) (text : List ℕ) → IsColumn scan.nfa scan.sight byte column
     → Follows scan state text → Follows scan next (byte ∷ text)
 
--- Of each column, the state to which a byte of it leads.
+-- For each column, the state to which a byte of it leads.
 abbrev pub AreNext : PatternScan → List Column → PatternState → List PatternState → Type 0
 AreNext scan columns state nexts =
     (k : ℕ) (column : Column) (next : PatternState) → slice_get columns k ≡ Some column
     → slice_get nexts k ≡ Some next → LeadsTo scan column state next
 
--- At a number stands a state that serves for this one: what this one follows, that one does.
+-- The state with a number serves for a given one: it follows every text that the given one follows.
 abbrev pub IsNumber : List PatternState → PatternState → ℕ → Type 0
 IsNumber states state number =
     (other : PatternState) × (slice_get states number ≡ Some other)
     × ((scan : PatternScan) (text : List ℕ) → Follows scan state text → Follows scan other text)
 
--- So at each of some numbers, for the state in its place.
+-- The same for some numbers, each with the state at its position.
 abbrev pub AreNumbers : List PatternState → List PatternState → List ℕ → Type 0
 AreNumbers states these numbers =
     (k : ℕ) (state : PatternState) (number : ℕ) → slice_get these k ≡ Some state
     → slice_get numbers k ≡ Some number → IsNumber states state number
 
--- A row says what becomes of the texts of a state.
+-- A row says where the texts of a state lead, and whether the pattern finds them.
 -- Source: own choice.
--- Example: to `db` the row of the empty text leads with `b` to that of `b`, and does not find it.
+-- Example: for the pattern `db`, the row of the empty text leads by `b` to the state of `b`, and
+-- says that the pattern does not find the empty text.
 pub record IsRow (scan : PatternScan) (columns : List Column) (states : List PatternState)
     (state : PatternState) (row : Row) : Type 0 where
   pub count : vec_len row.next ≡ length columns
@@ -77,25 +78,25 @@ pub record AreRows (scan : PatternScan) (columns : List Column) (states : List P
       → slice_get rows k ≡ Some row → IsRow scan columns states state row
 
 -- The number to which a text leads.
--- Source: own choice; so does an automaton read a word, here from its end.
--- Example: that of the empty text is 0.
+-- Source: own choice; an automaton reads a word in this way, but here from the end.
+-- Example: the empty text leads to 0.
 unfoldable pub number_of : PatternAutomaton → List ℕ → ℕ
 number_of automaton text = number_in automaton.rows.items automaton.classes.items text
 
 -- The class of a byte.
 -- Source: own choice.
--- Example: to `db` the bytes `x` and `y` are of one class.
+-- Example: for the pattern `db`, the bytes `x` and `y` have the same class.
 unfoldable pub class_of : PatternAutomaton → ℕ → ℕ
 class_of automaton b = slice_index automaton.classes.items b
 
--- The automaton reads texts of ASCII alone.
+-- The automaton reads only texts of ASCII.
 -- Source: own choice.
--- Example: so does that of `\bdb`, or there is none.
+-- Example: the automaton of `\bdb` does. For other texts, this pattern has none.
 unfoldable pub is_ascii : PatternAutomaton → Bool
 is_ascii automaton = automaton.ascii
 
 -- The text of the pattern, without the anchors.
 -- Source: own choice.
--- Example: of the automaton that was made of `db|web` it is `db|web`.
+-- Example: for the automaton of `db|web`, it is `db|web`.
 unfoldable pub pattern_of : PatternAutomaton → List ℕ
 pattern_of automaton = string_bytes automaton.pattern

@@ -14,27 +14,28 @@ use Rattle.regex_nfa.specs.declared.state.State.TheVariants.{ByteRange, Sparse, 
 use Rattle.regex_nfa.specs.declared.state.State.TheVariants.{Match, Fail}
 use Rattle.am_labels.specs.Pattern.{finds}
 
--- The first match from the start of the compiled pattern at a position where a character begins.
+-- The first match of the compiled pattern, from its start state, at a position where a character
+-- begins.
 -- Source: own choice.
--- Example: inside a character of several bytes there is none.
+-- Example: inside a character of several bytes there is no match.
 abbrev pub start_at : Nfa → List ℕ → Rest
 start_at nfa hay i = if is_boundary hay i then run nfa hay (length hay) nfa.start i else None
 
--- The compiled pattern matches somewhere in exactly the texts that the pattern finds.
+-- The compiled pattern matches somewhere in a text exactly if the pattern finds the text.
 -- Source: own choice.
--- Example: what is compiled of `^(?:db)$` is such for `db`.
+-- Example: what is compiled from `^(?:db)$` does so for the pattern `db`.
 abbrev pub IsSearchFor : Nfa → List ℕ → Type 0
 IsSearchFor nfa p =
     (text : List ℕ) → All (λ b. b < 256) text
     → is_some (first_between (start_at nfa text) 0 (length text)) ≡ finds p text
 
--- The state leads to a match from the position.
+-- A state leads to a match from a position.
 -- Source: own choice.
--- Example: `Match` does from every position.
+-- Example: `Match` does so from every position.
 abbrev pub leads : Nfa → List ℕ → ℕ → ℕ → Bool
 leads nfa hay q i = is_some (run nfa hay (length hay) q i)
 
--- Reading the byte at the position leads the state to a match.
+-- A state leads to a match by reading the byte at a position.
 -- Source: own choice.
 -- Example: at the end of a text there is no byte, so no state does.
 abbrev pub leads_on : Nfa → List ℕ → ℕ → ℕ → Bool
@@ -42,7 +43,7 @@ leads_on nfa hay q i =
     let go = run nfa hay (length hay) in
     is_some (read nfa.transitions.items hay (length hay) go (state_of nfa q) i)
 
--- The state reads a byte.
+-- A state reads a byte.
 -- Source: own choice.
 -- Example: a split reads none.
 abbrev pub reads_byte : State → Bool
@@ -50,10 +51,11 @@ reads_byte (ByteRange t) = true
 reads_byte (Sparse from to) = true
 reads_byte _ = false
 
--- Whether a state leads to a match, by which states do; `reads` says whether reading a byte does,
--- and `after` and `before` which kinds of bytes stand beside the position.
+-- Whether a state leads to a match, if `accepted` says which states do. `reads` says whether the
+-- state does so by reading a byte, and `after` and `before` are the kinds of the bytes beside the
+-- position.
 -- Source: own choice.
--- Example: a split does where one of its two targets does.
+-- Example: a split does if one of its two targets does.
 abbrev pub accepts : Option ℕ → Option ℕ → List Bool → Bool → State → Bool
 accepts after before accepted reads (ByteRange t) = reads
 accepts after before accepted reads (Sparse from to) = reads
@@ -67,28 +69,29 @@ accepts after before accepted reads (Look l next) =
 accepts after before accepted reads Match = true
 accepts after before accepted reads Fail = false
 
--- A number is among some.
+-- A number is one of some numbers.
 -- Source: own choice.
--- Example: 2 is among 1 and 2.
+-- Example: 2 is one of 1 and 2.
 abbrev pub contains : List ℕ → ℕ → Bool
 contains numbers n = list_any (λ m. m == n) numbers
 
--- Of the states that read a byte those are accepted that reading it leads to a match.
+-- A state that reads a byte is accepted exactly if `reads` says that this leads to a match.
 abbrev pub AcceptsReads : Nfa → (ℕ → Bool) → List Bool → Type 0
 AcceptsReads nfa reads accepted =
     (q : ℕ) → q < vec_len nfa.states → reads_byte (state_of nfa q) ≡ true
     → slice_index_or accepted q false ≡ reads q
 
--- Each state is accepted exactly where it leads to a match by those that are accepted.
+-- A list of accepted states is closed: a state is accepted exactly if it leads to a match by the
+-- accepted states.
 -- Source: own choice.
--- Example: without `Match` among those that are accepted it is not so.
+-- Example: a list that does not accept `Match` is not closed.
 pub record IsClosed (nfa : Nfa) (after before : Option ℕ) (reads : ℕ → Bool)
     (accepted : List Bool) : Type 0 where
   pub len : length accepted ≡ vec_len nfa.states
   pub each : (q : ℕ) → q < vec_len nfa.states
       → slice_index_or accepted q false ≡ accepts after before accepted (reads q) (state_of nfa q)
 
--- Reading the byte leads the state to one that is accepted.
+-- A state goes to an accepted state by reading the byte.
 -- Source: own choice.
 -- Example: a state that reads no byte goes nowhere.
 abbrev pub goes_on : Nfa → List Bool → ℕ → ℕ → Bool

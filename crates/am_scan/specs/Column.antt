@@ -1,4 +1,4 @@
--- What a pattern makes of a byte.
+-- How a pattern treats a byte.
 use Rattle.std.specs.Prelude.{◌≡◌, ℕ, zero, suc, Bool, false, List, [], ◌∷◌, ◌++◌}
 use Rattle.std.specs.Prelude.{Option, Some, None, map, filter, vec_len, slice_index_or}
 use Rattle.regex_hir.specs.Text.{is_boundary}
@@ -10,34 +10,35 @@ use Rattle.am_scan.specs.declared.column.Edge.{Edge}
 use Rattle.am_scan.specs.declared.column.Column.{Column}
 use Rattle.am_scan.specs.Sight.{kind_of}
 
--- The step from a state, if it goes somewhere.
+-- The step from a state, if there is one.
 abbrev pub edge_from : ℕ → Option ℕ → List Edge
 edge_from q None = []
 edge_from q (Some r) = record { from = q; to = r } ∷ []
 
--- The steps on which the first states read a byte.
+-- The steps on which the first states of a pattern read a byte.
 -- Source: own choice.
--- Example: of two states that each read `a` and go to the other, `a` takes two steps.
+-- Example: if two states each read `a` and go to the other, `a` takes two steps.
 abbrev pub first_edges : Nfa → ℕ → ℕ → List Edge
 first_edges nfa b zero = []
 first_edges nfa b (suc q) =
     first_edges nfa b q ++ edge_from q (next_on nfa.transitions.items (state_of nfa q) b)
 
--- The steps on which any states do.
+-- The steps on which all states of a pattern read a byte.
 abbrev pub edges_of : Nfa → ℕ → List Edge
 edges_of nfa b = first_edges nfa b (vec_len nfa.states)
 
--- The states from which steps lead to one that is accepted.
+-- The states from which steps lead to an accepted state.
 -- Source: own choice.
--- Example: of steps from 1 to 2 and from 2 to 3 the first alone, where state 2 is accepted.
+-- Example: if only state 2 is accepted, the steps from 1 to 2 and from 2 to 3 give state 1 alone.
 abbrev pub sources : List Bool → List Edge → List ℕ
 sources accepted edges =
     map (λ e. e.from) (filter (λ e. slice_index_or accepted e.to false) edges)
 
--- A column says what the pattern makes of the byte: the steps on which it is read, the byte by
--- which assertions know it, and whether a character begins with it.
+-- A column says how the pattern treats a byte: the steps on which the byte is read, its kind, and
+-- whether a character begins with it.
 -- Source: own choice.
--- Example: to `db` the bytes `x` and `y` have the same column, and `d` and `b` have others.
+-- Example: for the pattern `db`, the bytes `x` and `y` have the same column, and `d` and `b` have
+-- others.
 pub record IsColumn (nfa : Nfa) (sight : Sight) (b : ℕ) (column : Column) : Type 0 where
   pub edges : column.edges.items ≡ edges_of nfa b
   pub kind : column.kind ≡ kind_of sight b

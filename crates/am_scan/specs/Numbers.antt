@@ -1,4 +1,4 @@
--- The numbers to which texts lead in a table, read from their end.
+-- The numbers to which texts lead in a table. Texts are read from their end.
 use Rattle.std.specs.Prelude.{ℕ, Bool, false, List, [], ◌∷◌, Option, Some, None}
 use Rattle.std.specs.Prelude.{slice_get, slice_index}
 use Rattle.am_scan.specs.declared.row.Row.{Row}
@@ -8,9 +8,9 @@ abbrev pub next_in : Option Row → ℕ → ℕ
 next_in None class = 0
 next_in (Some row) class = slice_index row.next.items class
 
--- The number of a text: that of the empty text is 0, and a byte in front leads on by its class.
--- Source: own choice; so does an automaton read a word, here from its end.
--- Example: in a table that leads from 0 by the class of `a` to 1, that of `a` is 1.
+-- The number of a text. The empty text has 0, and a byte before a text leads on by its class.
+-- Source: own choice; an automaton reads a word in this way, but here from the end.
+-- Example: if a table leads from 0 to 1 by the class of `a`, the text `a` has the number 1.
 abbrev pub number_in : List Row → List ℕ → List ℕ → ℕ
 number_in rows classes [] = 0
 number_in rows classes (b ∷ text) =

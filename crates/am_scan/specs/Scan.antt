@@ -1,4 +1,4 @@
--- What is known of a text of which only the end has been read.
+-- What is known about a text of which only the end has been read.
 use Rattle.std.specs.Prelude.{◌≡◌, ℕ, ◌+◌, ◌<◌, Bool, List, length, drop, Option, is_some}
 use Rattle.std.specs.Prelude.{vec_len, slice_get}
 use Rattle.regex_hir.specs.Find.{first_from}
@@ -10,11 +10,11 @@ use Rattle.am_scan.specs.declared.sight.Sight.{Sight}
 use Rattle.am_scan.specs.declared.pattern_scan.PatternScan.{PatternScan}
 use Rattle.am_scan.specs.declared.pattern_state.PatternState.{PatternState}
 
--- What a state says is so of the text, at the end of whatever scanned text it stands: the kind of
--- its first byte; whether a character begins there; which states reading that byte leads to a
--- match; and whether a match begins at a character behind the first byte.
+-- What a state says about a text holds at the end of every scanned text that ends with it: the kind
+-- of its first byte; whether a character begins there; which states lead to a match by reading that
+-- byte; and whether a match begins at a character after the first byte.
 -- Source: own choice.
--- Example: of the empty text there is no first byte, no state reads on, and no match begins later.
+-- Example: the empty text has no first byte, no state reads on, and no match begins later.
 pub record FollowsText (nfa : Nfa) (sight : Sight) (ascii : Bool) (first : Option ℕ)
     (starts : Bool) (reads : ℕ → Bool) (later : Bool) (text : List ℕ) : Type 0 where
   pub kind : first ≡ kind_beside sight (slice_get text 0)
@@ -24,9 +24,9 @@ pub record FollowsText (nfa : Nfa) (sight : Sight) (ascii : Bool) (first : Optio
   pub others : (hay : List ℕ) (i : ℕ) → IsScanned ascii hay → drop i hay ≡ text
       → later ≡ is_some (first_from (start_at nfa hay) (length text) (i + 1))
 
--- A state is that of a text, under a pattern.
+-- A state follows a text: it is the state of the text, for a pattern.
 -- Source: own choice.
--- Example: the state with which a scan begins is that of the empty text.
+-- Example: the state with which a scan begins follows the empty text.
 unfoldable pub Follows : PatternScan → PatternState → List ℕ → Type 0
 Follows scan state text =
     FollowsText scan.nfa scan.sight scan.ascii state.first state.starts

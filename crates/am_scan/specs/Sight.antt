@@ -10,38 +10,39 @@ use Rattle.regex_nfa.specs.declared.state.State.{State}
 use Rattle.regex_nfa.specs.declared.state.State.TheVariants.{Look}
 use Rattle.am_scan.specs.declared.sight.Sight.{Sight}
 
--- A byte is scanned: any is, or, where texts of ASCII alone are scanned, one of ASCII.
+-- A byte is scanned: if `ascii`, only the bytes of ASCII are, and else every byte is.
 -- Source: RFC 20, section 4: ASCII has the codes below 128.
--- Example: the bytes of `é` are scanned in all texts, and not in those of ASCII.
+-- Example: the bytes of `é` are scanned in all texts, but not in texts of ASCII.
 abbrev pub is_scanned : Bool → ℕ → Bool
 is_scanned ascii b = nat_lt b (if ascii then 128 else 256)
 
--- A text is scanned: its bytes are.
+-- A text is scanned if its bytes are.
 -- Source: own choice.
--- Example: of `e` and `é` the first alone is scanned, where those of ASCII are.
+-- Example: if only texts of ASCII are scanned, `e` is, and `é` is not.
 abbrev pub IsScanned : Bool → List ℕ → Type 0
 IsScanned ascii text = IsTrue (list_all (is_scanned ascii) text)
 
--- The byte by which a byte is known. Where lines are seen, a line feed and a carriage return are
--- known by themselves; where words are, `a` stands for letters, digits and `_`; 0 for all others.
+-- The kind of a byte. If lines are seen, a line feed and a carriage return are each a kind of their
+-- own. If words are seen, letters, digits and `_` are of the kind `a`. All other bytes are of the
+-- kind 0.
 -- Source: own choice.
--- Example: where words alone are seen, `7` is known by `a`, and a line feed by 0.
+-- Example: if only words are seen, the kind of `7` is `a`, and the kind of a line feed is 0.
 abbrev pub kind_of : Sight → ℕ → ℕ
 kind_of sight b =
     if sight.lines && (b == 10 || b == 13) then b
     else if sight.words && is_word_byte b then 97
     else 0
 
--- The same of what stands beside a position, where a byte does.
+-- The kind of the byte beside a position, if there is one.
 -- Source: own choice.
--- Example: at the edge of a text it is nothing.
+-- Example: at the edge of a text there is none.
 abbrev pub kind_beside : Sight → Option ℕ → Option ℕ
 kind_beside sight = option_map (kind_of sight)
 
--- What is seen is enough for the assertion: the edge of a text always is, the end of a line where
--- lines are seen, and what has to do with words where words are.
+-- What is seen is enough for an assertion. For the edge of a text it always is; for the edge of a
+-- line, if lines are seen; and for words, if words are seen.
 -- Source: own choice.
--- Example: for `^` nothing need be seen, and for `\b` words.
+-- Example: `^` needs nothing to be seen, and `\b` needs words.
 abbrev pub sees : Sight → look.Look → Bool
 sees sight Start = true
 sees sight End = true
@@ -51,9 +52,9 @@ sees sight StartCrlf = sight.lines
 sees sight EndCrlf = sight.lines
 sees sight _ = sight.words
 
--- What is seen is enough for the assertion of the state, if it has one.
+-- What is seen is enough for the assertion of a state, if it has one.
 -- Source: own choice.
--- Example: for a state that reads a byte nothing need be seen.
+-- Example: a state that reads a byte needs nothing to be seen.
 unfoldable pub sees_state : Sight → State → Bool
 sees_state sight (Look l next) = sees sight l
 sees_state sight _ = true

@@ -1,16 +1,16 @@
 ghost use Rattle.std.specs.Prelude.{◌≡◌, Some, IsTrue};
 
-/// Which states of a compiled pattern lead to a match where a text begins.
+/// Which states of a compiled pattern lead to a match from the start of a text.
 #[derive(Drop)]
 pub(crate) struct Closure {
-    /// The byte by which the byte in front is known; `None` at the edge of the text.
+    /// The kind of the byte before the text; `None` at the edge of the text.
     pub(crate) before: Option<u8>,
-    /// Of each state, whether it leads to a match.
+    /// For each state, whether it leads to a match.
     pub(crate) accepted: Vec<bool>,
 }
 
 impl Closure {
-    /// Whether the byte in front is known by this one.
+    /// Whether the byte before the text is of this kind.
     pub(crate) fn is_behind(&self, kind: u8) -> bool
         ensures { IsTrue result → self.now.before ≡ Some kind }
     {

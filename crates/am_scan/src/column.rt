@@ -15,19 +15,19 @@ pub(crate) struct Edge {
     pub(crate) to: StateId,
 }
 
-/// What a pattern makes of a byte.
+/// How a pattern treats a byte.
 #[derive(Drop)]
 pub(crate) struct Column {
-    /// The steps that reading the byte takes.
+    /// The steps that reading the byte may take.
     pub(crate) edges: Vec<Edge>,
-    /// The byte by which assertions know the byte.
+    /// The kind of the byte, which is all that assertions see of it.
     pub(crate) kind: u8,
     /// Whether a character begins with the byte.
     pub(crate) starts: bool,
 }
 
 impl Column {
-    /// What the pattern makes of this byte.
+    /// Finds how the pattern treats this byte.
     pub(crate) fn of(alloc: Global, nfa: &Nfa, sight: Sight, byte: u8) -> Result<Column, AllocError>
         ensures { IfOk result (λ column. IsColumn nfa.now sight byte column) }
     {
@@ -56,7 +56,7 @@ fn is_start(byte: u8) -> bool
     byte < 0x80 || byte > 0xBF
 }
 
-/// The steps that reading a byte takes, in the order of the states.
+/// Returns the steps that reading a byte may take, in the order of the states.
 fn edges_of(alloc: Global, nfa: &Nfa, byte: u8) -> Result<Vec<Edge>, AllocError>
     ensures { IfOk result (λ edges. edges.items ≡ edges_of nfa.now byte) }
 {
@@ -69,7 +69,7 @@ fn edges_of(alloc: Global, nfa: &Nfa, byte: u8) -> Result<Vec<Edge>, AllocError>
     Ok(edges)
 }
 
-/// Whether steps are the same, one by one.
+/// Whether two lists have the same steps in the same order.
 fn same_edges(edges: &[Edge], others: &[Edge]) -> bool
     ensures { IsTrue result → edges.now ≡ others.now }
 {

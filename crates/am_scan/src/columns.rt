@@ -10,17 +10,17 @@ use crate::column::Column;
 use crate::pattern_scan::PatternScan;
 use std::alloc::{AllocError, Global};
 
-/// What a pattern makes of all bytes.
+/// How a pattern treats each byte.
 #[derive(Drop)]
 pub(crate) struct Columns {
-    /// What it makes of a byte; no two of these are the same.
+    /// The columns of the scanned bytes. No two of them are the same.
     pub(crate) columns: Vec<Column>,
-    /// Of each byte, the place of its column. Bytes that are not scanned have any.
+    /// For each byte, the position of its column. For a byte that is not scanned, it means nothing.
     pub(crate) classes: Vec<u8>,
 }
 
 impl Columns {
-    /// What a pattern makes of all bytes. `None` where there are more classes than bytes.
+    /// Finds how a pattern treats each byte. Returns `None` if there are more classes than bytes.
     pub(crate) fn of(alloc: Global, scan: &PatternScan) -> Result<Option<Columns>, AllocError>
         ensures count { IfOk result (λ found. IfSome found
             (λ made. vec_len made.classes ≡ 256)) }
@@ -39,8 +39,9 @@ impl Columns {
     }
 }
 
-/// The place of the column of a byte, which is listed if it is not yet. A byte that is not scanned
-/// has none, so any place will do. `None` where the place is no byte.
+/// Returns the position of the column of a byte, and adds the column if it is not listed yet. A
+/// byte that is not scanned has no column, so any position will do. Returns `None` if the position
+/// does not fit in a byte.
 fn class_of(
     alloc: Global,
     scan: &PatternScan,
@@ -64,7 +65,7 @@ fn class_of(
     Ok(Some(class))
 }
 
-/// The place of a column, which is listed if it is not yet.
+/// Returns the position of a column, and adds the column if it is not listed yet.
 fn place_of(columns: &mut Vec<Column>, column: Column) -> Result<usize, AllocError>
     ensures grows { GrowsColumns columns.old.items columns.new.items }
     ensures place { IfOk result (λ place. (other : Column)
@@ -82,7 +83,7 @@ fn place_of(columns: &mut Vec<Column>, column: Column) -> Result<usize, AllocErr
     Ok(place)
 }
 
-/// Whether a byte is scanned, where texts of ASCII alone are or any.
+/// Whether a byte is scanned. If `ascii`, only the bytes of ASCII are, and else every byte is.
 fn is_scanned(ascii: bool, byte: u8) -> bool
     ensures { result ≡ is_scanned ascii byte }
 {

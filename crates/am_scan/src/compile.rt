@@ -8,8 +8,8 @@ use regex_nfa::Nfa;
 use regex_syntax::{Config, ErrorKind, Parsed};
 use std::alloc::{AllocError, Global};
 
-/// Compiles a pattern that is anchored at both ends. `None` where the grammar does not read it, or
-/// it is too large. Fails only if memory runs out.
+/// Compiles a pattern, anchored at both ends. Returns `None` if the grammar does not read it, or it
+/// is too large. Fails only if memory runs out.
 pub(crate) fn compile_anchored(alloc: Global, pattern: &str) -> Result<Option<Nfa>, AllocError>
     ensures { IfOk result (λ found. IfSome found (λ nfa. IsSearchFor nfa pattern.now)) }
 {
@@ -27,8 +27,8 @@ pub(crate) fn compile_anchored(alloc: Global, pattern: &str) -> Result<Option<Nf
     }
 }
 
-/// Reads a text by the grammar of patterns. `None` where it does not read it. Fails only if memory
-/// runs out.
+/// Reads a text by the grammar of patterns. Returns `None` if the grammar does not read it. Fails
+/// only if memory runs out.
 fn read_pattern(alloc: Global, source: &str) -> Result<Option<Parsed>, AllocError>
     ensures { IfOk result (λ found. IfSome found (λ parsed. Reads default_config source.now
         parsed.hir (map (option_map string_bytes) parsed.names.items))) }
@@ -42,7 +42,7 @@ fn read_pattern(alloc: Global, source: &str) -> Result<Option<Parsed>, AllocErro
     }
 }
 
-/// The text that is compiled for a pattern.
+/// Returns the text that is compiled for a pattern.
 fn anchored_pattern(alloc: Global, pattern: &str) -> Result<String, AllocError>
     ensures { IfOk result (λ source. string_bytes source ≡ anchored_pattern pattern.now) }
 {

@@ -13,8 +13,8 @@ use crate::row::Row;
 use std::alloc::{AllocError, Global};
 use std::collections::HashMap;
 
-/// What becomes of texts at each state of a pattern that a text leads to; the first is that of the
-/// empty text. `None` where there are too many.
+/// Returns a row for each state to which a text leads. The first row is that of the empty text.
+/// Returns `None` if there are too many states, or a closure is not found.
 pub(crate) fn explored(
     alloc: Global,
     scan: &PatternScan,
@@ -41,12 +41,12 @@ pub(crate) fn explored(
 #[derive(Drop)]
 struct Exploration {
     states: Vec<PatternState>,
-    // Where the state of a hash is, so that most states are looked up and not sought.
+    // The position of the state with a hash, so that most states are found without a search.
     places: HashMap<u64, u32>,
 }
 
 impl Exploration {
-    /// The state of the empty text alone.
+    /// Begins with the state of the empty text alone.
     fn new(alloc: Global, scan: &PatternScan) -> Result<Exploration, AllocError>
         ensures first { IfOk result (λ e. (state : PatternState)
             → slice_get e.states.items 0 ≡ Some state → Follows scan.now state []) }
@@ -58,7 +58,8 @@ impl Exploration {
         })
     }
 
-    /// What becomes of the texts of a state.
+    /// Returns the row of the state at `at`, and adds the states to which it leads. Returns `None`
+    /// if there are too many states, or a closure is not found.
     fn row(
         &mut self,
         alloc: Global,
@@ -85,8 +86,8 @@ impl Exploration {
         Ok(Some(Row { next, found }))
     }
 
-    /// The numbers of states, each of which is added if it is not there yet. `None` where there are
-    /// too many.
+    /// Returns the numbers of states, and adds each state that is not there yet. Returns `None` if
+    /// there are too many.
     fn numbers_of(
         &mut self,
         alloc: Global,
@@ -108,8 +109,8 @@ impl Exploration {
         Ok(Some(numbers))
     }
 
-    /// The number of a state, which is added if it is not there yet. `None` where there are too
-    /// many.
+    /// Returns the number of a state, and adds the state if it is not there yet. Returns `None` if
+    /// there are too many.
     fn number_of(&mut self, state: PatternState) -> Result<Option<u32>, AllocError>
         ensures grows { Grows self.old.states.items self.new.states.items }
         ensures number { IfOk result (λ found. IfSome found
@@ -121,7 +122,7 @@ impl Exploration {
         self.add(state)
     }
 
-    /// The number of a known state that serves for this one, where one is found.
+    /// Returns the number of a known state that serves for this one, if one is found.
     fn place_of(&self, state: &PatternState) -> Option<u32>
         ensures { IfSome result (λ number. IsNumber self.now.states.items state.now number) }
     {
@@ -134,8 +135,8 @@ impl Exploration {
         }
     }
 
-    /// Adds a state, and answers its number. `None`, and nothing is added, where there are too
-    /// many.
+    /// Adds a state, and returns its number. If there are too many, adds nothing and returns
+    /// `None`.
     fn add(&mut self, state: PatternState) -> Result<Option<u32>, AllocError>
         ensures grows { Grows self.old.states.items self.new.states.items }
         ensures number { IfOk result (λ found. IfSome found

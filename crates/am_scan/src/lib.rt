@@ -1,23 +1,23 @@
-//! What a pattern makes of a text, read byte by byte from its end.
+//! How a pattern treats a text that is read byte by byte from its end.
 //!
-//! A [`PatternAutomaton`] is a pattern as a table. It gives each text a number, and that number is
-//! all that matters of a text of which only the end has been read: whether the pattern finds the
+//! A [`PatternAutomaton`] is a pattern as a table. It gives each text a number. When only the end
+//! of a text has been read, that number is all that matters about it: whether the pattern finds the
 //! whole text, with any bytes before the end, depends on nothing else. So texts with one number
 //! need not be told apart, and whoever follows all numbers has followed all texts.
 #![tactic(auto)]
 
-// How much there may be.
+// The limits of patterns.
 pub mod limits;
 
-// From the text of a pattern to what is run.
+// Compiling the text of a pattern.
 mod compile;
 
-// What the assertions of a pattern see of bytes, and what all of it makes of them.
+// What the assertions of a pattern see of bytes, and how the whole pattern treats them.
 mod column;
 mod columns;
 mod sight;
 
-// What a text leaves behind, and numbers by which that is looked up.
+// What is known after the end of a text was read, and hashes to look that up.
 mod closure;
 mod hashing;
 mod pattern_state;

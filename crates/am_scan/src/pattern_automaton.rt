@@ -27,11 +27,11 @@ use std::alloc::{AllocError, Global};
 #[derive(Drop)]
 pub struct PatternAutomaton {
     pattern: String,
-    /// Whether texts of ASCII alone are read.
+    /// Whether only texts of ASCII are read.
     ascii: bool,
     /// The class of each byte. Bytes of one class lead to the same numbers.
     classes: Vec<u8>,
-    /// What becomes of the texts of each number.
+    /// For each number, the row of its texts.
     rows: Vec<Row>,
     ghost exact: { (text : List ℕ) → IsScanned ascii text
         → found_in rows.items (number_in rows.items classes.items text)

@@ -22,12 +22,12 @@ use std::alloc::{AllocError, Global};
 #[derive(Drop)]
 pub(crate) struct PatternScan {
     pub(crate) pattern: String,
-    /// Whether texts of ASCII alone are scanned.
+    /// Whether only texts of ASCII are scanned.
     pub(crate) ascii: bool,
     pub(crate) nfa: Nfa,
     /// What the assertions of the pattern see.
     pub(crate) sight: Sight,
-    /// The states that read no byte, the last first, since most lead on to later ones.
+    /// The states that read no byte, from last to first, because most of them lead to later ones.
     idle: Vec<StateId>,
     ghost faithful: { IsSearchFor nfa (string_bytes pattern) },
     ghost seen: { list_all (sees_state sight) nfa.states.items ≡ true },
@@ -43,10 +43,10 @@ impl PatternScan {
     ghost use Rattle.am_scan.specs.Scan.{Follows};
     ghost use Rattle.am_scan.specs.Automaton.{AreNext};
 
-    /// Compiles a pattern, to scan texts of ASCII alone or any. `None` where it cannot be followed:
-    /// the engine's grammar does not read it, it is too large, or it asks whether a word begins or
-    /// ends (as `\b` does) in texts that may have other characters than those of ASCII. Fails only
-    /// if memory runs out.
+    /// Compiles a pattern, to scan only texts of ASCII if `ascii`, and else any text. Returns
+    /// `None` if the pattern cannot be followed: the engine's grammar does not read it, it is too
+    /// large, or it asks whether a word begins or ends (as `\b` does) in texts that may have other
+    /// characters than those of ASCII. Fails only if memory runs out.
     pub(crate) fn of(
         alloc: Global,
         pattern: &str,
@@ -89,8 +89,8 @@ impl PatternScan {
         }
     }
 
-    /// The state of a text with one byte more in front. `closure` says which states lead to a match
-    /// behind a byte of that kind.
+    /// Returns the state of a text with one more byte before it. `column` says how the pattern
+    /// treats that byte, and `closure` which states lead to a match after a byte of its kind.
     fn step(
         &self,
         alloc: Global,
@@ -114,8 +114,8 @@ impl PatternScan {
         })
     }
 
-    /// The states of a text with one byte more in front, one for each column. `None` as at
-    /// [`PatternScan::closure`].
+    /// Returns the states of a text with one more byte before it, one for each column. Returns
+    /// `None` if [`PatternScan::closure`] does.
     pub(crate) fn next_states(
         &self,
         alloc: Global,
@@ -141,8 +141,8 @@ impl PatternScan {
         Ok(Some(nexts))
     }
 
-    /// Whether the pattern finds the whole text that was read. `None` as at
-    /// [`PatternScan::closure`].
+    /// Whether the pattern finds the whole text that was read. Returns `None` if
+    /// [`PatternScan::closure`] does.
     pub(crate) fn finds(
         &self,
         alloc: Global,
@@ -158,7 +158,7 @@ impl PatternScan {
         Ok(Some(self.matches_from(state, closure.accepted.as_slice())))
     }
 
-    /// Whether a match begins where the text of the state does, or later.
+    /// Whether a match begins at the start of the state's text, or later.
     fn matches_from(&self, state: &PatternState, accepted: &[bool]) -> bool
         requires { length accepted.now ≡ vec_len self.now.nfa.states }
         ensures { result ≡ (state.now.later
@@ -167,8 +167,8 @@ impl PatternScan {
         state.later || (state.starts && accepted[self.nfa.start as usize])
     }
 
-    /// Which states lead to a match behind a byte of this kind. Most often it is known already,
-    /// from the column before.
+    /// Finds which states lead to a match after a byte of this kind. Usually the previous column
+    /// has shown this already.
     fn closure_behind(
         &self,
         alloc: Global,
@@ -190,8 +190,9 @@ impl PatternScan {
         self.closure(alloc, state, Some(kind))
     }
 
-    /// Of each state, whether it leads to a match where the text of `state` begins, behind a byte
-    /// of this kind. `None` where this is not found in as many rounds as there are states.
+    /// Finds for each state whether it leads to a match from the start of the state's text, after a
+    /// byte of kind `before`. Looks at the states in rounds until nothing changes. Returns `None`
+    /// if something still changes after one round for each state that reads no byte, and one more.
     fn closure(
         &self,
         alloc: Global,
@@ -214,8 +215,8 @@ impl PatternScan {
         Ok(None)
     }
 
-    /// Looks once at each state that reads no byte: whether it leads to a match by what is known of
-    /// the others. Whether something has changed.
+    /// Looks once at each state that reads no byte, and notes whether it leads to a match, by what
+    /// is known of the others. Returns whether something has changed.
     fn accept_more(&self, state: &PatternState, before: Option<u8>, accepted: &mut [bool]) -> bool
         requires len { length accepted.old ≡ vec_len self.now.nfa.states }
         requires reads { AcceptsReads self.now.nfa (contains state.now.reads.items) accepted.old }
@@ -258,7 +259,7 @@ impl PatternScan {
     }
 }
 
-/// The states that read no byte, the last first.
+/// Returns the states that read no byte, from last to first.
 fn idle_states(alloc: Global, nfa: &Nfa) -> Result<Vec<StateId>, AllocError>
     ensures alone { IfOk result (λ idle. All (λ q. (q < vec_len nfa.now.states)
         × (reads_byte (state_of nfa.now q) ≡ false)) idle.items) }
@@ -283,7 +284,7 @@ fn reads_byte(state: State) -> bool
     matches!(state, State::ByteRange(_) | State::Sparse { .. })
 }
 
-/// Marks places.
+/// Sets the marks at these positions.
 fn mark(places: &[StateId], marks: &mut [bool])
     ensures { (q : ℕ) → q < length marks.old → slice_index_or marks.new q false
         ≡ (slice_index_or marks.old q false || contains places.now q) }
@@ -295,7 +296,7 @@ fn mark(places: &[StateId], marks: &mut [bool])
     }
 }
 
-/// The states from which these steps lead to one that is accepted.
+/// Returns the states from which one of these steps leads to an accepted state.
 fn sources(alloc: Global, edges: &[Edge], accepted: &[bool]) -> Result<Vec<StateId>, AllocError>
     ensures { IfOk result (λ reads. reads.items ≡ sources accepted.now edges.now) }
 {

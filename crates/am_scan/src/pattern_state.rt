@@ -3,16 +3,16 @@ ghost use Rattle.std.specs.Prelude.{◌≡◌, ℕ, List, IsTrue};
 use crate::hashing::hash_with;
 use regex_nfa::StateId;
 
-/// What a pattern makes of a text of which only the end has been read.
+/// All that matters to a pattern about a text of which only the end has been read.
 #[derive(Drop)]
 pub(crate) struct PatternState {
-    /// The byte by which the text's first byte is known; `None` where the text is empty.
+    /// The kind of the text's first byte; `None` if the text is empty.
     pub(crate) first: Option<u8>,
-    /// Whether a character begins where the text does, or the text is empty.
+    /// Whether a character begins at the start of the text, or the text is empty.
     pub(crate) starts: bool,
-    /// The states that reading the first byte leads to a match.
+    /// The states that lead to a match by reading the first byte.
     pub(crate) reads: Vec<StateId>,
-    /// Whether a match begins at a character behind the first byte.
+    /// Whether a match begins at a character after the first byte.
     pub(crate) later: bool,
 }
 
@@ -20,8 +20,8 @@ impl PatternState {
     ghost use Rattle.am_scan.specs.declared.pattern_scan.PatternScan.{PatternScan};
     ghost use Rattle.am_scan.specs.Scan.{Follows};
 
-    /// Whether two states are the same. `true` promises that each text that has led to one may as
-    /// well have led to the other; `false` promises nothing.
+    /// Whether two states are the same. `true` promises that each text of one state is also a text
+    /// of the other; `false` promises nothing.
     pub(crate) fn same(&self, other: &PatternState) -> bool
         ensures { IsTrue result → (scan : PatternScan) (text : List ℕ)
             → Follows scan self.now text → Follows scan other.now text }
@@ -32,7 +32,7 @@ impl PatternState {
             && self.reads.as_slice() == other.reads.as_slice()
     }
 
-    /// A number by which states are told apart fast. Nothing is promised of it.
+    /// Returns a number by which states are told apart fast. Nothing is promised about it.
     pub(crate) fn hash(&self) -> u64 {
         let mut hash: u64 = match self.first {
             Some(byte) => u64::from(byte) + 1,

@@ -1,7 +1,7 @@
-/// What becomes of the texts that a state of a pattern stands for.
+/// Where the texts of a state of a pattern lead, and whether the pattern finds them.
 #[derive(Drop)]
 pub(crate) struct Row {
-    /// Of the bytes of each class, the number of the state to which one of them in front leads.
+    /// For each class, the number of the state to which a byte of that class before the text leads.
     pub(crate) next: Vec<u32>,
     /// Whether the pattern finds these texts.
     pub(crate) found: bool,

@@ -18,7 +18,7 @@ pub(crate) struct Sight {
 }
 
 impl Sight {
-    /// What the assertions of these states see, and no more.
+    /// Returns what the assertions of these states see, and no more.
     pub(crate) fn of(states: &[State]) -> Sight {
         let words_alone = Sight {
             lines: false,
@@ -34,7 +34,7 @@ impl Sight {
         }
     }
 
-    /// The byte by which a byte is known.
+    /// Returns the kind of a byte: a byte that stands for all that look the same to the assertions.
     pub(crate) fn kind_of(self, byte: u8) -> u8
         ensures { result ≡ kind_of self byte }
     {
@@ -85,7 +85,7 @@ pub(crate) fn holds(look: Look, before: Option<u8>, after: Option<u8>) -> bool
     holds_between(look, side_of(before), side_of(after))
 }
 
-/// What an assertion sees on the side of a byte that is a character.
+/// Returns what an assertion sees on one side, where the byte there is a character.
 fn side_of(byte: Option<u8>) -> Side
     ensures { seen result ≡ record { byte = byte; char = byte } }
 {

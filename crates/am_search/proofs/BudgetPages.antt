@@ -1,4 +1,4 @@
--- What the pages of a search under a budget are: what came before the stop, and what is left.
+-- Pages of a search under a budget: the answers before the stop, and the answers that are left.
 use Rattle.std.proofs.Common.{◌≡◌, ◌⊎◌, ℕ, zero, suc, ◌+◌, ◌<◌, ◌≤◌, Bool, true, false, not, nat_eq, List, [], ◌∷◌, ◌++◌, length, take, drop, slice_get, Option, Some, None, IfSome, length-append, ap, sym, subst, ◌∙◌, refl, inl, inr, arith, append-nil, rules}
 use Rattle.std.specs.List.{filter, flat_map, starts_with}
 use Rattle.std.proofs.lemmas.Bool.{false≢true, false_from_ne_true, cases_Bool, cases_lt}
@@ -98,7 +98,7 @@ module _ (sizes : List ℕ) (verdict : List ℕ → Verdict) (start : Start) (k 
         | inr less ↦ not_back p c (before_begins p q c less given.begins)
       ]
 
-  -- the answers, cut at the prefix
+  -- the answers are those given before the prefix, and then those given from it on
   module _ (truth : List ℕ → Bool) (law : IsJudge sizes truth verdict) where
     pub answers_cut : answers_from sizes truth start
         ≡ given_by sizes verdict start (take k (visited sizes verdict start)) ++ given_by sizes verdict start (drop k (visited sizes verdict start))
@@ -107,7 +107,7 @@ module _ (sizes : List ℕ) (verdict : List ℕ → Verdict) (start : Start) (k 
         ∙ ap (given_by sizes verdict start) (sym (take-append-drop k (visited sizes verdict start)))
         ∙ flat_map-append (given_at sizes verdict start) (take k (visited sizes verdict start)) (drop k (visited sizes verdict start))
 
-    -- those before it are what was given, and the others are left
+    -- the answers before the prefix were given, and the others are left
     pub given_before : given_by sizes verdict start (take k (visited sizes verdict start)) ≡ filter (λ c. comes_before c p) (answers_from sizes truth start)
     given_before =
         let early : List (List ℕ) = given_by sizes verdict start (take k (visited sizes verdict start)) in
@@ -127,7 +127,7 @@ module _ (sizes : List ℕ) (verdict : List ℕ → Verdict) (start : Start) (k 
         ∙ sym (filter-append (λ c. not (comes_before c p)) early late)
         ∙ ap (filter (λ c. not (comes_before c p))) (sym answers_cut)
 
-    -- where the prefix comes after the first choice, these are the answers from the prefix on
+    -- if the prefix comes after the first choice, the answers left are those from the prefix on
     pub left_at : comes_before begun.first p ≡ true → given_by sizes verdict start (drop k (visited sizes verdict start)) ≡ answers_from sizes truth (At p)
     left_at less =
         let here = visited_is p (got_at (visited sizes verdict start) k p at_k) in
@@ -185,13 +185,13 @@ module _ (sizes : List ℕ) (verdict : List ℕ → Verdict) (start : Start) (k 
 
 -- ---- What a page under a budget is.
 
--- where nothing stops the search, its answers are all that there are
+-- if nothing stops the search, it gives all answers
 all_given : (sizes : List ℕ) (truth : List ℕ → Bool) (verdict : List ℕ → Verdict) (start : Start) (budget : Option ℕ) → IsJudge sizes truth verdict
     → stop_of sizes verdict start budget ≡ None → given_under sizes verdict start budget ≡ answers_from sizes truth start
 all_given sizes truth verdict start None law none = visited_give sizes truth verdict start law
 all_given sizes truth verdict start (Some k) law none = grind (arith, common_steps, take_all, past_length, visited_give)
 
--- the answers under a budget are the first of all
+-- the answers under a budget are the first of all answers
 given_first : (sizes : List ℕ) (truth : List ℕ → Bool) (verdict : List ℕ → Verdict) (start : Start) (budget : Option ℕ) → IsJudge sizes truth verdict
     → (rest : List (List ℕ)) × (answers_from sizes truth start ≡ given_under sizes verdict start budget ++ rest)
 given_first sizes truth verdict start None law = ([], sym (visited_give sizes truth verdict start law) ∙ sym (append-nil (given_under sizes verdict start None)))
@@ -203,12 +203,12 @@ given_first sizes truth verdict start (Some k) law =
           ∙ flat_map-append (given_at sizes verdict start) (take k all) (drop k all),
     )
 
--- a page that is cut by its limit is that of all answers
+-- a page that is cut by its limit is also the page of all answers
 same_part : (ending : Trailer) (xs later : List (List ℕ)) (n : ℕ) → 0 < n → n < length xs → page_ending ending xs (Some n) ≡ page_of (xs ++ later) (Some n)
 same_part ending xs later n some more = search (rules, page_of_part, take-append-le, get_or_append_left, length-append)
 
 module _ (sizes : List ℕ) (truth : List ℕ → Bool) (verdict : List ℕ → Verdict) (start : Start) (law : IsJudge sizes truth verdict) where
-  -- without a stop, or cut by the limit, the page is the one without a budget
+  -- if nothing stops the search, or the limit cuts the page, it is the page without a budget
   pub same_unstopped : (limit budget : Option ℕ) → stop_of sizes verdict start budget ≡ None → page_under sizes verdict start limit budget ≡ page_from sizes truth start limit
   same_unstopped limit budget none = grind (arith, common_steps, all_given)
 
@@ -221,7 +221,7 @@ module _ (sizes : List ℕ) (truth : List ℕ → Bool) (verdict : List ℕ → 
       ap (page_ending ending xs) is ∙ same_part ending xs front.0 n some more
       ∙ ap (λ l. page_of l (Some n)) (sym front.1) ∙ ap (page_of (answers_from sizes truth start)) (sym is)
 
-  -- which page it is
+  -- it is the page without a budget, or the search stopped at a prefix
   pub data UnderKind (limit budget : Option ℕ) : Type 0 where
     without : page_under sizes verdict start limit budget ≡ page_from sizes truth start limit → UnderKind limit budget
     stopped : (k : ℕ) (p : List ℕ) → budget ≡ Some k → slice_get (visited sizes verdict start) k ≡ Some p
@@ -263,7 +263,7 @@ never_stopped sizes truth start limit p some e = grind (arith, common_steps, kin
 -- ---- Laws of pages under a budget.
 
 module _ (sizes : List ℕ) (truth : List ℕ → Bool) (verdict : List ℕ → Verdict) (start : Start) (limit budget : Option ℕ) (law : IsJudge sizes truth verdict) (some : IfSome limit (λ n. 0 < n)) where
-  -- a page that does not stop is the one without a budget
+  -- a page that does not stop is the page without a budget
   pub same_next : (c : List ℕ) → (page_under sizes verdict start limit budget).trailer ≡ Next c → page_under sizes verdict start limit budget ≡ page_from sizes truth start limit
   same_next c e = elim (under_kind sizes truth verdict start law limit budget some) [
     | without same ↦ same
@@ -276,7 +276,7 @@ module _ (sizes : List ℕ) (truth : List ℕ → Bool) (verdict : List ℕ → 
     | stopped k p is at_k ends has ↦ let no : Stopped p ≡ End = sym ends ∙ e in cc
   ]
 
-  -- one that stops at a prefix has the answers before it
+  -- a page that stops at a prefix has the answers before that prefix
   pub stopped_before : (p : List ℕ) → (page_under sizes verdict start limit budget).trailer ≡ Stopped p
       → (page_under sizes verdict start limit budget).choices ≡ filter (λ c. comes_before c p) (answers_from sizes truth start)
   stopped_before p e = grind (arith, common_steps, under_kind, never_stopped, given_before)
@@ -290,7 +290,7 @@ module _ (sizes : List ℕ) (truth : List ℕ → Bool) (verdict : List ℕ → 
     without_rest same =
         page_rest sizes truth start (page_under sizes verdict start limit budget) (record { limit = limit; at_least_one = some; from_start = same })
 
-    -- the page, and what its trailer leaves
+    -- the answers are those of the page, and then those that its trailer leaves
     pub rest_under : answers_from sizes truth start ≡ (page_under sizes verdict start limit budget).choices ++ rest_after sizes truth (page_under sizes verdict start limit budget).trailer
     rest_under = elim (under_kind sizes truth verdict start law limit budget some) [
       | without same ↦ without_rest same

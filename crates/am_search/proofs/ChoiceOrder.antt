@@ -53,7 +53,7 @@ pub filter_same : {X : Type 0} (f g : X → Bool) (xs : List X) → ((y : X) →
 filter_same f g [] h = refl
 filter_same f g (x ∷ xs) h = filter_step f x xs (g x) (h x (inl refl)) ∙ ap (λ l. cond (g x) (x ∷ l) l) (filter_same f g xs (λ y i. h y (inr i)))
 
--- what a filter keeps
+-- a filter keeps only members that pass the test
 in_cond : {X : Type 0} (test : X → Bool) (x y : X) (l : List X) (b : Bool) → test x ≡ b → IsIn (cond b (x ∷ l) l) y → ((x ≡ y) × (test y ≡ true)) ⊎ IsIn l y
 in_cond test x y l true e (inl s) = inl (s, sym (ap test s) ∙ e)
 in_cond test x y l true e (inr i) = inr i
@@ -63,23 +63,23 @@ pub in_filter : {X : Type 0} (test : X → Bool) (xs : List X) (y : X) → IsIn 
 in_filter test [] y h = absurd h
 in_filter test (x ∷ xs) y h = grind (arith, common_steps, in_cond, in_filter test xs y)
 
--- and what it does keep
+-- a filter keeps all members that pass the test
 pub into_filter : {X : Type 0} (test : X → Bool) (xs : List X) (x : X) → IsIn xs x → test x ≡ true → IsIn (filter test xs) x
 into_filter test [] x i h = absurd i
 into_filter test (y ∷ xs) x (inl e) h = subst (λ l. IsIn l x) (sym (filter_step test y xs true (ap test e ∙ h))) (inl e)
 into_filter test (y ∷ xs) x (inr i) h = grind (arith, common_steps, into_filter test xs x i h)
 
--- what is at a place is one of them
+-- what is at an index of a list is a member
 pub got_at : {X : Type 0} (xs : List X) (k : ℕ) (x : X) → slice_get xs k ≡ Some x → IsIn xs x
 got_at xs k x e = IsIn-from_Contains xs x (k, slice_get_within xs k x e, get_or_from_slice_get xs k x x e)
 
--- where none passes, none is found
+-- if none passes, none is found
 pub none_found : {X : Type 0} (test : X → Bool) (xs : List X) → ((x : X) → IsIn xs x → test x ≡ false)
     → find test xs ≡ None
 none_found test [] none = refl
 none_found test (x ∷ xs) none = rw (none x (inl refl)) (none_found test xs (λ y i. none y (inr i)))
 
--- the first that passes is one of them
+-- the first that passes is a member
 found_cond : (test : List ℕ → Bool) (x : List ℕ) (xs : List (List ℕ)) (b : Bool) → IfSome (find test xs) (λ f. IsIn xs f) → IfSome (cond b (Some x) (find test xs)) (λ f. IsIn (x ∷ xs) f)
 found_cond test x xs true h = inl refl
 found_cond test x xs false h = grind (arith, common_steps)
@@ -101,11 +101,11 @@ pub ascends_rest : (x : List ℕ) (xs : List (List ℕ)) → Ascends (x ∷ xs) 
 unfolding IsStrictlySortedBy
 ascends_rest x xs s = s.1
 
--- all are at or after the first of them
+-- all members are at or after the first one
 pub from_first : (x : List ℕ) (xs : List (List ℕ)) → Ascends (x ∷ xs) → at_or_after (Some x) (x ∷ xs) ≡ x ∷ xs
 from_first x xs s = grind (arith, common_steps, filter_step, not_itself, filter_all, not_back, above_first)
 
--- what comes after the first of them
+-- all members but the first one come after it
 after_first : (x : List ℕ) (xs : List (List ℕ)) → Ascends (x ∷ xs) → filter (comes_before x) (x ∷ xs) ≡ xs
 after_first x xs s = filter_step (comes_before x) x xs false (not_itself x) ∙ filter_all (comes_before x) xs (λ y i. above_first x xs y s i)
 
@@ -113,20 +113,20 @@ from_later : (x : List ℕ) (xs : List (List ℕ)) (o : Option (List ℕ)) → A
 from_later x xs None s h = refl
 from_later x xs (Some f) s h = filter_step (λ d. not (comes_before d f)) x xs false (ap not (above_first x xs f s h))
 
--- one of them, and what comes after it
+-- from a member on: the member, and those that come after it
 pub from_member : (xs : List (List ℕ)) (c : List ℕ) → Ascends xs → IsIn xs c → at_or_after (Some c) xs ≡ c ∷ filter (comes_before c) xs
 from_member [] c s i = absurd i
 from_member (x ∷ xs) c s (inl e) = grind (arith, common_steps, from_first, after_first)
 from_member (x ∷ xs) c s (inr i) =
     grind (arith, common_steps, above_first, from_later, from_member xs c, ascends_rest, filter_step, not_back)
 
--- from the first that comes after a choice on, all do
+-- from the first member after a choice on, all come after the choice
 pub from_found : (xs : List (List ℕ)) (c : List ℕ) → Ascends xs → at_or_after (find (comes_before c) xs) xs ≡ filter (comes_before c) xs
 from_found [] c s = refl
 from_found (x ∷ xs) c s =
     grind (arith, common_steps, from_found xs c, ascends_rest, from_first, filter_all, before_trans, above_first, from_later, found_in, filter_step)
 
--- a member, and what is from the first after it on
+-- from a member on: the member, and those from the first after it on
 pub member_then_rest : (xs : List (List ℕ)) (c : List ℕ) → Ascends xs → IsIn xs c → at_or_after (Some c) xs ≡ c ∷ at_or_after (find (comes_before c) xs) xs
 member_then_rest xs c s i = from_member xs c s i ∙ ap (λ l. c ∷ l) (sym (from_found xs c s))
 
@@ -140,13 +140,13 @@ after_nth [] n s h = absurd (omega arith)
 after_nth (x ∷ xs) zero s h = after_first x xs s
 after_nth (x ∷ xs) (suc n) s h = search (rules, above_first, in_at, filter_step, not_back, after_nth xs n, ascends_rest)
 
--- after the last of the first n come the others
+-- after the last of the first `n` come the others
 pub after_taken : (xs : List (List ℕ)) (n : ℕ) → Ascends xs → 0 < n → n < length xs → filter (comes_before (get_or xs (n - 1) [])) xs ≡ drop n xs
 after_taken xs n s some h =
     let same : suc (n - 1) ≡ n = omega arith in
     after_nth xs (n - 1) s (omega arith) ∙ ap (λ k. drop k xs) same
 
--- the first n are those that the last of them does not come before
+-- the members up to the index `n` are those that the member at `n` does not come before
 up_to_nth : (xs : List (List ℕ)) (n : ℕ) → Ascends xs → n < length xs → filter (λ d. not (comes_before (get_or xs n []) d)) xs ≡ take (suc n) xs
 up_to_nth [] n s h = absurd (omega arith)
 up_to_nth (x ∷ xs) zero s h = search (rules, filter_step, not_itself, filter_none, above_first)

@@ -29,7 +29,7 @@ pub taken_off : (r : Option ℕ) (old before after : List ℕ) (p : ℕ)
 taken_off None old before after p last none e = grind (arith, common_steps, length_push)
 taken_off (Some q) old before after p last none e = grind (arith, common_steps, same_from_push)
 
--- a choice that begins with a prefix has its positions
+-- a choice that begins with a prefix has the positions of the prefix
 pub begins_at : (c prefix : List ℕ) (i : ℕ) → starts_with nat_eq c prefix ≡ true → i < length prefix
     → slice_index c i ≡ slice_index prefix i
 begins_at c [] i e h = absurd (omega arith)
@@ -40,13 +40,14 @@ begins_at (q ∷ c) (p ∷ prefix) (suc i) e h = search (rules, begins_at c pref
 -- ---- Conflicts.
 
 module _ (ns : List ℕ) (truth : List ℕ → Bool) where
-  -- a conflict of a length_push prefix that leaves its last label out is one of the prefix
+  -- a conflict of a prefix with one more position is one of the prefix, if it leaves out that label
   pub jump : (labels : Labels) (prefix : List ℕ) (p : ℕ)
       → IsConflict ns truth labels (prefix ++ p ∷ [])
       → has_label labels (length prefix) ≡ false → IsConflict ns truth labels prefix
   jump labels prefix p h out = search (rules, get_or_append_left, cases_eq, length_push)
 
-  -- what is to blame for one position more is to blame, as far as it stands before, for all of them
+  -- the labels to blame so far, and the earlier labels to blame for one more position, are to blame
+  -- for all of these positions
   pub up_to_next : (old labels new : Labels) (prefix : List ℕ) (p : ℕ)
       → IsConflictUpTo ns truth old prefix p → IsConflict ns truth labels (prefix ++ p ∷ [])
       → ((i : ℕ) → has_label new i
@@ -55,7 +56,7 @@ module _ (ns : List ℕ) (truth : List ℕ → Bool) where
   up_to_next old labels new prefix p before here is =
       search (rules, cases_lt, get_or_append_left, length_push, get_or_push)
 
-  -- what is to blame for all positions of the label behind a prefix is a conflict
+  -- labels to blame for all positions of the label after a prefix are a conflict
   pub up_to_all : (labels : Labels) (prefix : List ℕ) (size : ℕ) → length prefix < length ns
       → slice_index ns (length prefix) ≤ size → IsConflictUpTo ns truth labels prefix size
       → IsConflict ns truth labels prefix
@@ -63,7 +64,7 @@ module _ (ns : List ℕ) (truth : List ℕ → Bool) where
 
   -- ---- The first true choice.
 
-  -- the first list in which one is found has the first of all
+  -- the first list in which a choice is found has the first choice of all
   finds_in : (lists : ℕ → List (List ℕ)) (p first count : ℕ) (c : List ℕ)
       → ((q : ℕ) → q < p → find truth (lists q) ≡ None) → find truth (lists p) ≡ Some c
       → first ≤ p → p < first + count
@@ -81,7 +82,7 @@ module _ (ns : List ℕ) (truth : List ℕ → Bool) where
             ∙ finds_in lists p (first + 1) count c before here (omega (arith, less)) (omega arith)
       ]
 
-  -- the first true completion of a prefix with the first position that has one
+  -- the first true completion of a prefix has the first position that has a true completion
   pub found_next : (labels : Labels) (prefix : List ℕ) (p : ℕ) (c : List ℕ)
       → admits ns prefix ≡ true → length prefix < length ns
       → p < slice_index ns (length prefix) → IsConflictUpTo ns truth labels prefix p
@@ -113,12 +114,12 @@ module _ (ns : List ℕ) (truth : List ℕ → Bool) where
       → IsIn (completions ns prefix) c → truth c ≡ false
   refuted labels prefix c conflict there = grind (arith, common_steps, completion_whole, begins_at)
 
-  -- a prefix that is a whole choice, and true
+  -- a prefix that is a whole choice and true is its own first true completion
   pub found_whole : (prefix : List ℕ) → admits ns prefix ≡ true → length prefix ≡ length ns
       → truth prefix ≡ true → find truth (completions ns prefix) ≡ Some prefix
   found_whole prefix admitted long holds = grind (arith, common_steps, completions_of_whole)
 
-  -- below the empty prefix stand all choices
+  -- all choices are completions of the empty prefix
   all_below : completions ns [] ≡ choices ns
   all_below = completions_are_below ns [] refl
 

@@ -23,7 +23,7 @@ pub has_none : (i : ℕ) → has_label (record { bits = 0 }) i ≡ false
 unfolding has_label
 has_none i = ap (λ b. nat_eq b 1) (bit_at-zero i)
 
--- one bit set
+-- one bit is set
 pub has_with : (bits label i : ℕ) → label < ROOM
     → has_label (record { bits = bit_or bits (1 * 2 ^ label % 2 ^ ROOM) }) i
     ≡ (has_label (record { bits = bits }) i || i == label)
@@ -38,14 +38,14 @@ has_with bits label i h = elim (cases_eq i label) [
 greater : (a b : ℕ) → a < 2 → b < 2 → nat_eq (max a b) 1 ≡ (nat_eq a 1 || nat_eq b 1)
 greater a b h k = grind (arith, nat_tests)
 
--- the bits of both
+-- the bits of either number
 pub has_either : (a b i : ℕ)
     → has_label (record { bits = bit_or a b }) i
     ≡ (has_label (record { bits = a }) i || has_label (record { bits = b }) i)
 unfolding has_label
 has_either a b i = grind (arith, common_steps, bit_at_or, greater, bit_at-lt)
 
--- the bits below one
+-- the bits below a position
 pub has_before : (bits label i ones : ℕ) → ones ≡ 2 ^ label - 1
     → has_label (record { bits = bit_and bits ones }) i
     ≡ (has_label (record { bits = bits }) i && nat_lt i label)

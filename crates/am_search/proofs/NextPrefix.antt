@@ -1,4 +1,4 @@
--- The prefix beside another: which it is among all that are admitted.
+-- The prefix beside another: which one it is among all that are admitted.
 use Rattle.std.proofs.Common.{◌≡◌, ◌⊎◌, ℕ, zero, suc, ◌+◌, ◌<◌, ◌≤◌, Bool, true, false, cond, nat_eq, nat_lt, List, [], ◌∷◌, length, take, Some, None, ap, sym, subst, ◌∙◌, refl, inl, inr, arith, rules}
 use Rattle.std.specs.List.{starts_with, list_all}
 use Rattle.std.proofs.lemmas.Bool.{false≢true, and_parts, and_from}
@@ -13,7 +13,7 @@ use Rattle.am_search.proofs.PrefixOrder.{before_nothing, before_less, before_sam
 
 -- ---- By cases on what comes beside the rest.
 
--- either the rest goes on, or the position does and nothing follows it
+-- either the rest changes, or the first position becomes greater and nothing follows it
 pub record IsRestBeside (sizes prefix : List ℕ) (p : ℕ) (next : List ℕ) : Type 0 where
   pub rest : List ℕ
   pub beside : next_beside sizes prefix ≡ Some rest
@@ -50,9 +50,9 @@ pub record IsBeside (sizes prefix next : List ℕ) : Type 0 where
   pub admitted : admits sizes next ≡ true
   pub after : comes_before prefix next ≡ true
   pub apart : starts_with nat_eq next prefix ≡ false
-  -- nothing else that comes after the prefix and does not begin with it comes before this one
+  -- of all that come after the prefix and do not begin with it, this one is the first
   pub least : (x : List ℕ) → admits sizes x ≡ true → comes_before prefix x ≡ true → starts_with nat_eq x prefix ≡ false → comes_before x next ≡ false
-  -- its proper fronts are some of the prefix's
+  -- its proper fronts are some of those of the prefix
   pub fronts : (test : List ℕ → Bool) → list_all test (proper_fronts prefix) ≡ true → list_all test (proper_fronts next) ≡ true
 
 behind_rest : (size : ℕ) (sizes prefix rest : List ℕ) (p : ℕ) → nat_lt p size ≡ true → IsBeside sizes prefix rest → IsBeside (size ∷ sizes) (p ∷ prefix) (p ∷ rest)
@@ -96,14 +96,14 @@ none_of_front sizes [] (suc n) e = refl
 none_of_front [] (p ∷ c) (suc n) e = refl
 none_of_front (size ∷ sizes) (p ∷ c) (suc n) e = grind (arith, common_steps, none_parts, none_of_front sizes c n)
 
--- where it is no longer than these, it is the same
+-- if the prefix beside a choice has at most `n` positions, it is beside the first `n` positions too
 pub beside_front : (sizes c next : List ℕ) (n : ℕ) → next_beside sizes c ≡ Some next → length next ≤ n → next_beside sizes (take n c) ≡ Some next
 beside_front sizes [] next n e h = cc
 beside_front [] (p ∷ c) next n e h = cc
 beside_front (size ∷ sizes) (p ∷ c) next zero e h = search (rules, beside_parts)
 beside_front (size ∷ sizes) (p ∷ c) next (suc n) e h = search (rules, beside_parts, beside_front sizes c, none_of_front)
 
--- where it is longer, it begins with these
+-- if it is longer, it begins with the first `n` positions
 pub beside_begins : (sizes c next : List ℕ) (n : ℕ) → next_beside sizes c ≡ Some next → n < length next → starts_with nat_eq next (take n c) ≡ true
 beside_begins sizes c next zero e h = refl
 beside_begins sizes [] next (suc n) e h = cc

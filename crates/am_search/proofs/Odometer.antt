@@ -1,4 +1,5 @@
--- The choice that follows another, as the code finds it: the last position that can be greater is, and those behind it are 0.
+-- The choice that follows another, as the code finds it: the last position that can be greater
+-- becomes greater by one, and the positions after it are 0.
 use Rattle.std.proofs.Common.{◌≡◌, subst, ℕ, zero, suc, ◌+◌, ◌<◌, ◌≤◌, Bool, true, false, cond, List, [], ◌∷◌, ◌++◌, length, map, slice_index, slice_get, nat_lt, Option, Some, None, ap, sym, ◌∙◌, refl, inl, inr, arith, rules}
 use Rattle.std.specs.Prelude.{option_map}
 use Rattle.std.specs.Option.{option_or}
@@ -87,7 +88,7 @@ find_mapped : (test own : List ℕ → Bool) (f : List ℕ → List ℕ) (xs : L
 find_mapped test own f [] same = refl
 find_mapped test own f (x ∷ xs) same = grind (arith, common_steps, find_mapped test own f xs same)
 
--- behind greater positions the first is the one
+-- among the choices that begin with greater positions, the first one is found
 found_higher : (p first n : ℕ) (c : List ℕ) (cs : List (List ℕ)) (d : List ℕ) (others : List (List ℕ)) → p < first → cs ≡ d ∷ others
     → find (comes_before (p ∷ c)) (behind first n cs) ≡ cond (nat_lt first (first + n)) (Some (first ∷ d)) None
 found_higher p first zero c cs d others h e = sym (ap (λ b. cond b (Some (first ∷ d)) None) (le-ltb first (first + zero) (omega arith)))
@@ -156,7 +157,7 @@ admits_at_most ns [] a = omega arith
 admits_at_most [] (p ∷ c) a = cc
 admits_at_most (n ∷ ns) (p ∷ c) a = omega (arith, admits_at_most ns c (and_parts (nat_lt p n) (admits ns c) a).1)
 
--- a prefix with a last position
+-- a prefix and one more position are admitted
 pub record IsAdmittedWith (ns prefix : List ℕ) (p : ℕ) : Type 0 where
   pub front : admits ns prefix ≡ true
   pub label : length prefix < length ns

@@ -1,4 +1,4 @@
--- A page that is being written: the lines of some answers are out, the others are left.
+-- A page that is being written: the lines of some answers are written, and the others are left.
 use Rattle.std.proofs.Common.{◌≡◌, ◌≢◌, ℕ, zero, suc, ◌+◌, ◌-◌, ◌<◌, ◌≤◌, Bool, true, false, cond, nat_eq, nat_lt, List, [], ◌∷◌, ◌++◌, length, take, get_or, Option, Some, None, IfSome, refl, sym, ap, ◌∙◌, append_assoc, append-nil, length-append, arith, rules}
 use Rattle.std.specs.Prelude.{option_map}
 use Rattle.std.specs.Option.{option_eq}
@@ -39,15 +39,15 @@ pub begun : (xs : List (List ℕ)) (limit : Option ℕ) (IsWritten : List (List 
 begun xs limit IsWritten last e w = grind (arith, common_steps)
 
 module _ {xs : List (List ℕ)} {limit : Option ℕ} {IsWritten : List (List ℕ) → Type 0} {left : List (List ℕ)} {room : Option ℕ} {last : List ℕ} (ending : Trailer) (so_far : IsSoFar xs limit IsWritten left room last) where
-  -- no answer is left
+  -- if no answer is left, the page has those that are written
   pub all_written : left ≡ [] → page_ending ending xs limit ≡ record { choices = so_far.done; trailer = ending }
   all_written none = grind (arith, common_steps, append-nil, page_of_all)
 
-  -- one more is left than there may be
+  -- if an answer is left and there is no room for it, the page ends with `Next`
   pub full : (c : List ℕ) (rest : List (List ℕ)) → left ≡ c ∷ rest → room ≡ Some 0 → IfSome limit (λ n. 0 < n) → page_ending ending xs limit ≡ record { choices = so_far.done; trailer = Next last }
   full c rest found e some = search (rules, page_of_part, length-append, take-append_seam, get_or_append_left)
 
-  -- the next answer is written: the page has it behind the others
+  -- if there is room, the page has the next answer after those that are written
   pub through : (c : List ℕ) (rest : List (List ℕ)) → left ≡ c ∷ rest → room ≢ Some 0 → (more : List (List ℕ)) × ((page_ending ending xs limit).choices ≡ so_far.done ++ c ∷ more)
   through c rest found some = by limit room refl so_far.limit_is some
     where

@@ -28,7 +28,7 @@ use Rattle.am_search.proofs.PageLines.{page_of_part, page_of_all}
 
 -- ---- The choices from a start on.
 
--- before a prefix, and before its first completion, stand the same whole choices
+-- the same whole choices come before a prefix and before its first completion
 nothing_before : (d : List ℕ) → comes_before d [] ≡ false
 nothing_before [] = refl
 nothing_before (p ∷ d) = refl
@@ -110,11 +110,11 @@ pub filters_swapped : {X : Type 0} (f g : X → Bool) (xs : List X) → filter f
 filters_swapped f g [] = refl
 filters_swapped f g (x ∷ xs) = grind (arith, common_steps, swapped_cond, filters_swapped f g xs, two_conds)
 
--- where all that pass a test pass another, the other changes nothing
+-- if all that pass a test pass another, the other changes nothing
 pub filter_within : {X : Type 0} (f g : X → Bool) (xs : List X) → ((x : X) → f x ≡ true → g x ≡ true) → filter f (filter g xs) ≡ filter f xs
 filter_within f g xs h = filters_swapped f g xs ∙ filter_all g (filter f xs) (λ y i. h y (in_filter f xs y i).1)
 
--- a choice after one that is at or after the first is so too
+-- a choice that comes after one at or after the first is at or after the first too
 stays_after : (first c d : List ℕ) → not (comes_before c first) ≡ true → comes_before c d ≡ true → not (comes_before d first) ≡ true
 stays_after first c d h k = grind (arith, common_steps, false_from_ne_true, before_trans)
 
@@ -131,7 +131,7 @@ answer_whole ns c truth start i = from_whole ns c start (in_filter truth (choice
 
 -- ---- Pages.
 
--- what a page of a list is, by whether there is more than the limit
+-- a page of a list is cut by its limit, or it has the whole list
 pub record IsPart (xs : List (List ℕ)) (page : AnswerPage) (c : List ℕ) (n : ℕ) : Type 0 where
   pub choices : page.choices ≡ take n xs
   pub trailer : page.trailer ≡ Next c

@@ -1,4 +1,4 @@
--- Positions in decimal, and what is joined of them.
+-- Positions in decimal, and positions joined by full stops.
 use Rattle.std.proofs.Common.{◌≡◌, ℕ, zero, suc, ◌+◌, ◌<◌, ◌^◌, false, List, [], ◌∷◌, ◌++◌, length, map, take, drop, get_or, Result, Ok, Err, refl, sym, ap, ◌∙◌, arith, append_assoc, append-nil, add-one}
 use Rattle.std.specs.Prelude.{◌==◌}
 use Rattle.std.specs.List.{AllByRecursion, slice_split, join_with_byte, All}
@@ -72,12 +72,12 @@ joined-injective (p ∷ c) (q ∷ d) h k same =
 abbrev pub joined : List ℕ → List ℕ
 joined c = join_with_byte 46 (map decimal c)
 
--- what separates a number from those before it
+-- the separator between a number and those before it
 abbrev pub separator : List ℕ → List ℕ
 separator [] = []
 separator (p ∷ ps) = 46 ∷ []
 
--- the numbers that follow another, each behind its full stop
+-- the numbers that follow another, each after a full stop
 abbrev following : List ℕ → List ℕ
 following [] = []
 following (p ∷ ps) = 46 ∷ (decimal p ++ following ps)
@@ -97,7 +97,7 @@ joined_among (o ∷ ps) p qs = grind (arith, common_steps, joined-cons, followin
 split_at : (c : List ℕ) (i p : ℕ) → i < length c → p ≡ get_or c i 0 → c ≡ take i c ++ p ∷ drop (i + 1) c
 split_at c i p h is = grind (arith, common_steps, take-append-drop, drop_more)
 
--- the number at i stands between those before it and those behind it
+-- the number at `i` stands between those before it and those after it
 pub joined_through : (c : List ℕ) (i p : ℕ) (s : List ℕ) → i < length c → p ≡ get_or c i 0 → s ≡ separator (take i c)
     → joined (take i c) ++ ((s ++ decimal p) ++ following (drop (i + 1) c)) ≡ joined c
 joined_through c i p s h is same =

@@ -1,4 +1,4 @@
--- The order of prefixes as in a dictionary, a prefix before those that begin with it.
+-- The order of prefixes as in a dictionary: a prefix comes before those that begin with it.
 use Rattle.std.proofs.Common.{◌≡◌, ◌≢◌, ◌⊎◌, ℕ, zero, suc, ◌<◌, ◌≤◌, Bool, true, false, nat_eq, ◌&&◌, List, [], ◌∷◌, ◌++◌, length, take, ap, sym, ◌∙◌, refl, arith, eq-eqb, rules}
 use Rattle.std.specs.List.{starts_with, list_all}
 use Rattle.std.specs.Ordering.{is_lt}
@@ -84,7 +84,7 @@ begins_front [] x p h = refl
 begins_front (q ∷ prefix) [] p h = absurd (false≢true h)
 begins_front (q ∷ prefix) (r ∷ x) p h = grind (arith, common_steps, begins_parts, and_from, begins_front prefix x p)
 
--- what stands between a prefix and the prefix with one position more has a lesser position there
+-- what stands between a prefix and the prefix with one more position has a smaller position there
 pub record HasLess (prefix x : List ℕ) (p : ℕ) : Type 0 where
   pub position : ℕ
   pub rest : List ℕ
@@ -121,7 +121,7 @@ begins_length [] c h = omega arith
 begins_length (p ∷ prefix) [] h = absurd (false≢true h)
 begins_length (p ∷ prefix) (q ∷ c) h = omega (arith, begins_length prefix c (begins_parts q p c prefix h).1)
 
--- of two of one length neither begins with the other, unless they are the same
+-- if a list begins with another of the same length, they are the same
 pub begins_whole : (c d : List ℕ) → length c ≡ length d → starts_with nat_eq c d ≡ true → c ≡ d
 begins_whole [] [] e h = refl
 begins_whole (p ∷ c) (q ∷ d) e h = grind (arith, common_steps, begins_parts, begins_whole c d)
@@ -129,7 +129,7 @@ begins_whole c d e h = absurd (omega arith)
 
 -- ---- Proper fronts.
 
--- a test of the proper fronts is one of the empty prefix, and of the others behind their first position
+-- the proper fronts of a prefix are the empty one, and those that begin with its first position
 pub fronts_parts : (test : List ℕ → Bool) (p : ℕ) (prefix : List ℕ) → list_all test (proper_fronts (p ∷ prefix)) ≡ true
     → (test [] ≡ true) × (list_all (λ front. test (p ∷ front)) (proper_fronts prefix) ≡ true)
 fronts_parts test p prefix h = grind (arith, common_steps, and_parts, list_all-map)
@@ -138,7 +138,7 @@ pub fronts_from : (test : List ℕ → Bool) (p : ℕ) (prefix : List ℕ) → t
     → list_all test (proper_fronts (p ∷ prefix)) ≡ true
 fronts_from test p prefix first others = grind (arith, common_steps, and_from, list_all-map)
 
--- what passes at all proper fronts passes at a shorter prefix
+-- if all proper fronts of a prefix pass a test, each shorter prefix passes it
 pub front_passes : (test : List ℕ → Bool) (prefix x : List ℕ) → list_all test (proper_fronts x) ≡ true → starts_with nat_eq x prefix ≡ true → comes_before prefix x ≡ true → test prefix ≡ true
 front_passes test prefix [] all h less = absurd (false≢true (sym (before_nothing prefix) ∙ less))
 front_passes test [] (q ∷ x) all h less = (fronts_parts test q x all).0
@@ -149,7 +149,7 @@ front_passes test (p ∷ prefix) (q ∷ x) all h less =
     ∙ front_passes (λ front. test (q ∷ front)) prefix x (fronts_parts test q x all).1 rest
     (sym (before_same q prefix x) ∙ ap (λ r. comes_before (r ∷ prefix) (q ∷ x)) same ∙ less)
 
--- the proper fronts of a prefix with one position more
+-- the proper fronts of a prefix with one more position
 pub fronts_pushed : (test : List ℕ → Bool) (prefix : List ℕ) (p : ℕ) → list_all test (proper_fronts prefix) ≡ true → test prefix ≡ true → list_all test (proper_fronts (prefix ++ p ∷ [])) ≡ true
 fronts_pushed test [] p all last = and_from (test []) true last refl
 fronts_pushed test (q ∷ prefix) p all last =

@@ -1,4 +1,5 @@
--- Pages of searches in a row, under budgets that are enough: what they have together, and that they come to an end.
+-- Consecutive pages of searches, under budgets that are enough: which choices they have together,
+-- and that they come to an end.
 use Rattle.std.proofs.Common.{◌≡◌, ◌⊎◌, ℕ, ◌<◌, ◌≤◌, Bool, true, false, not, nat_eq, ◌-◌, get_or, List, [], ◌∷◌, ◌++◌, length, Option, Some, None, IfSome, MatchOption, ap, sym, subst, ◌∙◌, refl, inl, inr, arith, rules}
 use Rattle.std.specs.List.{filter, starts_with}
 use Rattle.std.proofs.lemmas.Grind.{common_steps}
@@ -33,7 +34,7 @@ fewer_by_one few more (x ∷ xs) y within (inr i) out kept = search (rules, fewe
 
 -- ---- Where a start begins.
 
--- a start from which there is a choice begins at one
+-- a start that has choices begins at one of them
 pub record HasFirst (ns : List ℕ) (start : Start) : Type 0 where
   pub first : List ℕ
   pub begins : first_of_start ns start ≡ Some first
@@ -44,7 +45,7 @@ has_first ns start some = grind (arith, common_steps)
 first_member : (xs ys : List (List ℕ)) (c : List ℕ) → xs ≡ c ∷ ys → IsIn xs c
 first_member xs ys c e = subst (λ l. IsIn l c) (sym e) (inl refl)
 
--- a start after one of the choices begins later
+-- a start after one of the choices of another begins later than it
 after_later : (ns c : List ℕ) (start : Start) → IsIn (choices_from ns start) c → 0 < length (choices_from ns (After c)) → BeginsLater ns start (After c)
 after_later ns c start i some =
     let here = has_first ns start (member_some (choices_from ns start) c i) in
@@ -66,7 +67,7 @@ after_later ns c start i some =
     by f d less (inr j) =
         before_trans f c d (in_filter (comes_before f) (choices ns) c (subst (λ l. IsIn l c) (choices_after ns f) j)).1 less
 
--- a start at a prefix that the first choice comes before begins later
+-- a start at a prefix begins later, if the first choice comes before the prefix
 at_later : (ns f p : List ℕ) (start : Start) → ArePositive ns → first_of_start ns start ≡ Some f → admits ns p ≡ true → comes_before f p ≡ true → BeginsLater ns start (At p)
 at_later ns f p start some begins a less =
     let is = first_completion_is ns p some a in
@@ -78,7 +79,7 @@ at_later ns f p start some begins a less =
       later = before_begins f p (filled ns p) less (completion_whole ns p (filled ns p) (got_at (completions ns p) 0 (filled ns p) is)).1;
     }
 
--- fewer choices are left from there on
+-- a start that begins later has fewer choices
 pub later_fewer : (ns : List ℕ) (start next : Start) → BeginsLater ns start next → length (choices_from ns next) < length (choices_from ns start)
 later_fewer ns start next h =
     let f : List ℕ = h.first in
@@ -98,7 +99,7 @@ later_some ns start next h = omega (arith, ap length (begins_with ns h.next_firs
 
 -- ---- The start behind a page.
 
--- what is known of a page behind which one begins
+-- what holds of the start that a page leaves
 pub record GoesOn (ns : List ℕ) (start next : Start) : Type 0 where
   pub is_start : IsStart ns next
   pub later : BeginsLater ns start next
@@ -162,7 +163,7 @@ search_chain_joined ns truth verdict start (page ∷ pages) law h =
     by None e more = ap all_choices_of e
     by (Some next) k more = more next k
 
--- there are no more of them than choices from their start on, but for one page
+-- there is at most one page, or there are no more pages than choices from their start on
 at_most_from : (ns : List ℕ) (truth : List ℕ → Bool) (verdict : List ℕ → Verdict) (start : Start) (pages : List AnswerPage) → IsJudge ns truth verdict → IsSearchChain ns verdict start pages
     → (length pages ≤ 1) ⊎ (length pages ≤ length (choices_from ns start))
 at_most_from ns truth verdict start [] law h = absurd h

@@ -1,4 +1,4 @@
--- The form of a token: what stands between its letter and its positions, and what that tells.
+-- The form of a token: the text between its letter and its positions, and what it determines.
 use Rattle.std.proofs.Common.{◌≡◌, ◌≢◌, ℕ, ◌<◌, true, List, ◌∷◌, ◌++◌, length, take, drop, get_or, Option, Some, None, IfSome, ◌⊎◌, inl, inr, refl, sym, ap, subst, ◌∙◌, arith, rules}
 use Rattle.std.specs.Prelude.{codes}
 use Rattle.std.specs.List.{AllPass}
@@ -34,7 +34,7 @@ no_colon h is i within e =
 pub digits_length : (h : List ℕ) → IsFingerprint h → length (encode_lower h) ≡ 32
 digits_length h is = omega (arith, length-encode_with lower_digits h, is.0)
 
--- the bytes are known from their digits
+-- the digits determine the bytes
 pub digits-injective : (h k : List ℕ) → IsFingerprint h → IsFingerprint k → encode_lower h ≡ encode_lower k → h ≡ k
 digits-injective h k is it e =
     decode_of-same (encode_lower h) h k (decode_of-encode_lower h is.1) (ap decode_of e ∙ decode_of-encode_lower k it.1)
@@ -43,7 +43,7 @@ digits-injective h k is it e =
 pub no_digits : (text h : List ℕ) → result_ok (decode_sized text 16) ≡ None → IsFingerprint h → encode_lower h ≡ text → ⊥
 no_digits text h none is e = grind (arith, common_steps, decode_sized-encode_lower)
 
--- a text that decodes has the digits of no other
+-- a text that decodes has the digits of no other bytes
 pub other_digits : (text x h : List ℕ) → result_ok (decode_sized text 16) ≡ Some x → IsFingerprint h → encode_lower h ≡ text → encode_lower x ≡ text
 other_digits text x h some is e = grind (arith, common_steps, decode_sized-encode_lower, same_Some)
 
@@ -53,7 +53,7 @@ is_fingerprint text h some = grind (arith, common_steps, decode_sized-ok, decode
 
 -- ---- Forms.
 
--- a front is known by its length from what it is joined to
+-- if two joined lists are the same, and their first parts have one length, these are the same
 fronts : (a b r s : List ℕ) → length a ≡ length b → a ++ r ≡ b ++ s → a ≡ b
 fronts a b r s same e =
     sym (take-append_seam a r) ∙ ap (take (length a)) e ∙ ap (λ n. take n (b ++ s)) same ∙ take-append_seam b s
@@ -61,7 +61,7 @@ fronts a b r s same e =
 abbrev pub IsForm : Option (List ℕ) → Type 0
 IsForm form = IfSome form IsFingerprint
 
--- a form and what follows it are known from their text
+-- the text of a form and what follows it determines both
 pub same_form : (f g : Option (List ℕ)) (a b : List ℕ) → IsForm f → IsForm g → form_text f a ≡ form_text g b → (f ≡ g) × (a ≡ b)
 same_form None None a b h k e = (refl, ap (drop 2) e)
 same_form (Some x) (Some y) a b h k e =
@@ -91,13 +91,13 @@ pub start_positions : (ns : List ℕ) (start : Start) → IsStart ns start → a
 start_positions ns (At prefix) is = is
 start_positions ns (After c) is = is.0
 
--- starts of one letter with the same positions are the same
+-- starts with the same letter and the same positions are the same
 same_parts : (s t : Start) → letter s ≡ letter t → positions s ≡ positions t → s ≡ t
 same_parts (At c) (At d) l e = ap At e
 same_parts (After c) (After d) l e = ap After e
 same_parts s t l e = absurd (omega (arith, l))
 
--- the start and the form are known from the text, whatever the sizes are
+-- the text determines the start and the form, whatever the sizes are
 pub same_spelled : (ns ms : List ℕ) (f g : Option (List ℕ)) (s t : Start) → AreSizes ns → AreSizes ms → IsStart ns s → IsStart ms t → IsForm f → IsForm g
     → spelled_text f s ≡ spelled_text g t → (s ≡ t) × (f ≡ g)
 same_spelled ns ms f g s t sizes also a b h k e =
@@ -161,14 +161,14 @@ one_cause ns h text a b (inr x) (inr y) = x.0 ∙ sym y.0
 
 -- ---- Two universes.
 
--- a token of the old form is told from one that is written, so a written one has one fingerprint
+-- a token of the old form differs from each written one, so a written token has one fingerprint
 pub same_fingerprint : (ns ms h k text : List ℕ) (s t : Start) → AreSizes ns → AreSizes ms → IsFingerprint h → IsFingerprint k
     → ReadsToken ns h text s → ReadsToken ms k text t → (text ≡ old_token_text s) ⊎ (h ≡ k)
 same_fingerprint ns ms h k text s t sizes others is it (a, inl old) also = inl (sym old)
 same_fingerprint ns ms h k text s t sizes others is it (a, inr written) (b, inl old) = absurd (different h s t (written ∙ sym old))
 same_fingerprint ns ms h k text s t sizes others is it (a, inr written) (b, inr too) = search (rules, same_written)
 
--- a text that is read as a start over some sizes is no token over sizes of which that is no start
+-- a text that is read as a start over some sizes is no token over sizes that lack that start
 pub no_start_there : (ns ms h k text : List ℕ) (start : Start) → AreSizes ns → AreSizes ms → IsFingerprint h → ReadsToken ns h text start → (IsStart ms start → ⊥)
     → RefusesToken ms k text BadToken
 no_start_there ns ms h k text start sizes others is reads none =
@@ -179,7 +179,7 @@ of_other_inputs ms h k start at is differs = grind (arith, common_steps, is_fing
 
 -- ---- For the readers.
 
--- behind `2:` stand the digits of a fingerprint, a colon and positions
+-- after `2:` come the digits of a fingerprint, a colon and positions
 pub written_form : (text rest : List ℕ) → ((rest : List ℕ) → text ≡ codes "1:" ++ rest → ⊥) → text ≡ codes "2:" ++ rest
     → ((h a : List ℕ) → IsFingerprint h → rest ≡ encode_lower h ++ (58 ∷ a) → ⊥)
     → (form : Option (List ℕ)) (a : List ℕ) → IsForm form → form_text form a ≡ text → ⊥
@@ -192,11 +192,11 @@ pub not_spelled : (ns text : List ℕ) → ((form : Option (List ℕ)) (start : 
 not_spelled ns text none = no_token ns text (λ form start is at e. none form start is at (sym (spelled_parts form start) ∙ e))
 
 module _ (ns text rest : List ℕ) where
-  -- what stands behind the letter is no form
+  -- what follows the letter is not a form
   pub no_form : (l : ℕ) → text ≡ l ∷ rest → ((form : Option (List ℕ)) (a : List ℕ) → IsForm form → form_text form a ≢ rest) → IsNoToken ns text
   no_form l cut none = not_spelled ns text (λ form start is at e. none form (positions_text (positions start)) is (ap (drop 1) (e ∙ cut)))
 
-  -- behind `s` and a form stand no positions of a prefix
+  -- what follows `s` and a form is not the positions of a prefix
   pub no_prefix : (form : Option (List ℕ)) (a : List ℕ) → text ≡ 115 ∷ rest → IsForm form → form_text form a ≡ rest
       → ((c : List ℕ) → admits ns c ≡ true → positions_text c ≢ a) → IsNoToken ns text
   no_prefix form a cut is same none = not_spelled ns text by
@@ -205,7 +205,7 @@ module _ (ns text rest : List ℕ) where
       by g (At prefix) it at e = none prefix at (same_form g form (positions_text prefix) a it is (ap (drop 1) (e ∙ cut) ∙ sym same)).1
       by g (After c) it at e = absurd (omega (arith, ap (λ t. get_or t 0 0) (e ∙ cut)))
 
-  -- behind `t` and a form stand no positions of a whole choice
+  -- what follows `t` and a form is not the positions of a whole choice
   pub no_whole : (form : Option (List ℕ)) (a : List ℕ) → text ≡ 116 ∷ rest → IsForm form → form_text form a ≡ rest
       → ((c : List ℕ) → IsWhole ns c → positions_text c ≢ a) → IsNoToken ns text
   no_whole form a cut is same none = not_spelled ns text by

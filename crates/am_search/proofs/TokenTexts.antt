@@ -36,7 +36,7 @@ small_positions (n ∷ ns) (p ∷ c) h a = grind (arith, common_steps, and_parts
 
 -- ---- A choice of which the front is read.
 
--- the position behind the front, which the next piece says
+-- the position after the front, which the next piece spells
 pub record IsAtSeam (ns c front piece : List ℕ) : Type 0 where
   pub position : ℕ
   pub is : decimal position ≡ piece
@@ -51,20 +51,20 @@ at_seam [] (p ∷ c) front piece rest h a e = cc
 at_seam (n ∷ ns) (p ∷ c) [] piece rest h a e = search (rules, and_parts, nat_tests)
 at_seam (n ∷ ns) (p ∷ c) (q ∷ front) piece rest h a e = search (rules, at_seam ns c front piece rest, and_parts)
 
--- the pieces of a text are a choice's, where the text is
+-- if a text is that of a choice, its pieces are the positions of the choice
 pieces_are : (text c : List ℕ) → 0 < length text → AreSmall c → positions_text c ≡ text → pieces_of text ≡ map decimal c
 pieces_are text [] some small e = absurd (omega (arith, ap length e))
 pieces_are text (p ∷ ps) some small e = ap pieces_of (sym e) ∙ pieces_of_joined p ps small
 
 module _ {S : Type 0} (steps : S → Option (Bor (List ℕ)) → S → Type 0) where
-  -- the front is read, and s yields the pieces that are left
+  -- `front` is read, and `s` yields the pieces that are left
   pub record IsReadSoFar (ns text front : List ℕ) (s : S) : Type 0 where
     pub left : List (List ℕ)
     pub all : pieces_of text ≡ map decimal front ++ left
     pub yields : AlwaysYields steps (λ x. x.now) s left
     pub admitted : admits ns front ≡ true
 
-  -- the piece at which s stands
+  -- `piece` comes after the front, and `t` yields the pieces after it
   pub record IsNext (text front piece : List ℕ) (t : S) : Type 0 where
     pub rest : List (List ℕ)
     pub all : pieces_of text ≡ map decimal front ++ (piece ∷ rest)
@@ -79,7 +79,7 @@ module _ {S : Type 0} (steps : S → Option (Bor (List ℕ)) → S → Type 0) w
           let now = yields.1 part t goes in
           record { rest = rest; all = all ∙ ap (λ x. map decimal front ++ (x ∷ rest)) (sym now.0); yields = now.1 }
 
-  -- no piece is left
+  -- if no piece is left, the text is that of the front
   pub all_read : (ns text front : List ℕ) (s t : S) → IsReadSoFar ns text front s → steps s None t → positions_text front ≡ text
   all_read ns text front s t h goes = by h.left h.all h.yields
     where
@@ -91,11 +91,11 @@ module _ {S : Type 0} (steps : S → Option (Bor (List ℕ)) → S → Type 0) w
       → decimal p ≡ piece → length front < length ns → p < slice_index ns (length front) → IsReadSoFar ns text (front ++ (p ∷ [])) t
   piece_read ns text front piece s t p next h is room below = search (rules, append_assoc, map-append, admits_next)
 
-  -- each choice with the text has a position that the next piece says
+  -- each choice with this text has, after the front, the position that the next piece spells
   pub seam : (ns text front piece c : List ℕ) (t : S) → AreLimited ns → 0 < length text → IsNext text front piece t
       → admits ns c ≡ true → positions_text c ≡ text → IsAtSeam ns c front piece
   seam ns text front piece c t h some next a e = grind (arith, common_steps, at_seam, pieces_are, small_positions)
 
--- what `strip_prefix` says of a text that it has cut
+-- a text that `strip_prefix` has cut is the prefix and then the rest
 pub cut : (prefix text rest : List ℕ) → StripsPrefix (FindsTextPrefix prefix) text rest → text ≡ prefix ++ rest
 cut prefix text rest (n, found, is, fits) = found.1 ∙ ap (λ t. prefix ++ t) (sym is)

@@ -70,7 +70,7 @@ module _ (sizes : List ℕ) (verdict : List ℕ → Verdict) (start : Start) (f 
   pub judged_is : IsVisited sizes verdict f p
   judged_is = in_visited sizes verdict start f begins p (got_at (visited sizes verdict start) k p at_k)
 
-  -- below an open prefix, along the choice at which the start begins
+  -- if the prefix is open and lies along the first choice, the next judged prefix does so too
   pub open_along : verdict p ≡ Open → length p < length sizes → starts_with nat_eq f p ≡ true → slice_get (visited sizes verdict start) (suc k) ≡ Some (p ++ slice_index f (length p) ∷ [])
   open_along e room b =
       let q : ℕ = slice_index f (length p) in
@@ -92,7 +92,7 @@ module _ (sizes : List ℕ) (verdict : List ℕ → Verdict) (start : Start) (f 
         | inr a ↦ false≢true (sym (not_back x f (before_begins x next f high goes)) ∙ a)
       ]))
 
-  -- below an open prefix behind it
+  -- if the prefix is open and does not lie along it, the position 0 is added
   pub open_behind : verdict p ≡ Open → length p < length sizes → starts_with nat_eq f p ≡ false → slice_get (visited sizes verdict start) (suc k) ≡ Some (p ++ 0 ∷ [])
   open_behind e room b =
       let next : List ℕ = p ++ 0 ∷ [] in
@@ -107,12 +107,12 @@ module _ (sizes : List ℕ) (verdict : List ℕ → Verdict) (start : Start) (f 
       (into_visited sizes verdict start f begins next some w there) (before_pushed p 0)
       (λ x i l. false_from_ne_true (comes_before x next) (λ high. omega (arith, (between_pushed p x 0 l high).less)))
 
-  -- nothing that is judged begins with a prefix that is not open
+  -- no later judged prefix begins with a prefix that is not open
   apart_from : is_open (verdict p) ≡ false → (x : List ℕ) → IsIn (visited sizes verdict start) x → comes_before p x ≡ true → starts_with nat_eq x p ≡ false
   apart_from closed x i less = false_from_ne_true (starts_with nat_eq x p) (λ b.
       false≢true (sym closed ∙ front_passes (λ front. is_open (verdict front)) p x (in_visited sizes verdict start f begins x i).fronts b less))
 
-  -- past a prefix that is not open
+  -- if the prefix is not open, the prefix beside it is judged next
   pub closed_next : is_open (verdict p) ≡ false → (next : List ℕ) → next_beside sizes p ≡ Some next → (slice_get (visited sizes verdict start) (suc k) ≡ Some next) × (comes_before f next ≡ true)
   closed_next closed next e =
       let here = judged_is in

@@ -106,6 +106,6 @@ module _ (sizes : List ℕ) (verdict : List ℕ → Verdict) (start : Start) (f 
   pub into_visited : (prefix : List ℕ) → ArePositive sizes → IsWhole sizes f → IsVisited sizes verdict f prefix → IsIn (visited sizes verdict start) prefix
   into_visited prefix some w h = grind (arith, common_steps, into_filter, in_admitted, and_from, reached)
 
--- where it begins nowhere, none is
+-- if it begins nowhere, no prefix is judged
 pub none_visited : (sizes : List ℕ) (verdict : List ℕ → Verdict) (start : Start) → first_of_start sizes start ≡ None → visited sizes verdict start ≡ []
 none_visited sizes verdict start e = grind (arith, common_steps, filter_none, and_right)

@@ -1,4 +1,4 @@
--- How many prefixes a search judges at most, where the judge is exact.
+-- How many prefixes a search judges at most if the judge is exact.
 use Rattle.std.proofs.Common.{◌≡◌, ◌≢◌, ℕ, zero, suc, ◌+◌, ◌*◌, ◌<◌, ◌≤◌, Bool, true, false, not, nat_eq, nat_lt, ◌&&◌, ◌||◌, List, [], ◌∷◌, length, map, Option, Some, None, ap, sym, subst, ◌∙◌, refl, inl, inr, arith, rules}
 use Rattle.std.specs.List.{filter, list_any, sum, starts_with}
 use Rattle.std.proofs.Math.Nat.{add-mul, mul-add, eq-or-lt_of_le}
@@ -26,7 +26,7 @@ use Rattle.am_search.proofs.Walks.{first_is_whole, first_of_all}
 use Rattle.am_search.proofs.VisitedPrefixes.{ReachesTo, reaches, none_visited}
 use Rattle.am_search.proofs.VisitsGive.{is_reached, reached_behind, none_reached}
 
--- what a function gives for the lists that begin with a position, by what follows it
+-- a function of the lists that begin with the position `q`, by what follows that position
 abbrev past : {X : Type 0} → ℕ → (List ℕ → X) → List ℕ → X
 past q f rest = f (q ∷ rest)
 
@@ -55,7 +55,7 @@ kept_some : {X : Type 0} (test : X → Bool) (xs : List X) → list_any test xs 
 kept_some test [] h = absurd (false≢true h)
 kept_some test (x ∷ xs) h = grind (arith, common_steps, kept_some test xs)
 
--- of those that pass one test, those that pass another
+-- a filter by one test, and then by another
 twice : {X : Type 0} (f g : X → Bool) (xs : List X) → filter g (filter f xs) ≡ filter (λ x. f x && g x) xs
 twice f g [] = refl
 twice f g (x ∷ xs) = grind (arith, common_steps, twice f g xs)
@@ -75,7 +75,7 @@ cut_later : (v w m n count z : ℕ) → v ≤ 1 + m * z → w ≤ count + (n + 1
 cut_later v w m n count z h k = omega (arith, h, k, add-mul n 1 z, add-mul (m + n) 1 z, add-mul m n z)
 
 module _ (test : List ℕ → Bool) (prefixes : List (List ℕ)) (truth : List ℕ → Bool) (cs : List (List ℕ)) (z : ℕ) where
-  -- so many prefixes and true choices stand behind a position
+  -- how many prefixes, and how many true choices, begin with a position
   abbrev prefixes_at : ℕ → ℕ
   prefixes_at q = kept (past q test) prefixes
 
@@ -91,7 +91,7 @@ module _ (test : List ℕ → Bool) (prefixes : List (List ℕ)) (truth : List �
       (each first (omega arith) (omega arith))
       (behind_each (first + 1) count (λ q low high. each q (omega (arith, low)) (omega (arith, high)))))
 
-  -- where one position has more
+  -- the position `cut` may have more of them than the others
   behind_cut : (first count cut : ℕ) → first ≤ cut → cut < first + count
       → ((q : ℕ) → first ≤ q → q < first + count → q ≢ cut → prefixes_at q ≤ 1 + true_at q * z)
       → prefixes_at cut ≤ 1 + (true_at cut + 1) * z
@@ -167,7 +167,7 @@ reached_at_most (size ∷ sizes) truth verdict some =
 abbrev reaches_to : List ℕ → List ℕ → Bool
 reaches_to f prefix = starts_with nat_eq f prefix || comes_before f prefix
 
--- a prefix is reached, and has a completion from a choice on; and a choice is true from there on
+-- a prefix is reached, and has a completion from a choice on; a choice from there on is true
 abbrev is_reached_from : List ℕ → (List ℕ → Verdict) → List ℕ → Bool
 is_reached_from f verdict prefix = is_reached verdict prefix && reaches_to f prefix
 
@@ -180,7 +180,7 @@ IsBoundedFrom f sizes truth verdict = kept (is_reached_from f verdict) (all_pref
 reached_alone : (f : List ℕ) (verdict : List ℕ → Verdict) (prefix : List ℕ) → is_reached_from f verdict prefix ≡ true → is_reached verdict prefix ≡ true
 reached_alone f verdict prefix h = (and_parts (is_reached verdict prefix) (reaches_to f prefix) h).0
 
--- with a position before that of the choice, with its own, and with one after it
+-- with a position before that of the choice, with the same one, and with one after it
 reached_before : (verdict : List ℕ → Verdict) (q p : ℕ) (f prefix : List ℕ) → q < p → is_reached_from (p ∷ f) verdict (q ∷ prefix) ≡ false
 reached_before verdict q p f prefix less = search (rules, is_reached, begins_other, not_back, before_less, and_right)
 
@@ -193,7 +193,7 @@ true_at_own truth p f c = ap (λ b. not b && truth (p ∷ c)) (before_same p c f
 true_behind : (truth : List ℕ → Bool) (q p : ℕ) (f c : List ℕ) → p < q → is_true_from (p ∷ f) truth (q ∷ c) ≡ truth (q ∷ c)
 true_behind truth q p f c less = ap (λ b. not b && truth (q ∷ c)) (not_back (p ∷ f) (q ∷ c) (before_less p q f c less))
 
--- below an empty prefix that is `Open`: beside the position of the choice, and at it
+-- if the empty prefix is `Open`: below positions other than that of the choice, and below that one
 module _ (sizes : List ℕ) (truth : List ℕ → Bool) (verdict : List ℕ → Verdict) (p : ℕ) (f : List ℕ) (e : verdict [] ≡ Open) where
   abbrev reached_past : ℕ → ℕ
   reached_past q = kept (past q (is_reached_from (p ∷ f) verdict)) (all_prefixes sizes)

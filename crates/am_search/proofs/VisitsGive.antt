@@ -62,7 +62,7 @@ passing sizes verdict test prefix = cond (is_yes (verdict prefix)) (filter test 
 abbrev all_passing : List ℕ → (List ℕ → Verdict) → (List ℕ → Bool) → List (List ℕ) → List (List ℕ)
 all_passing sizes verdict test prefixes = flat_map (passing sizes verdict test) (filter (is_reached verdict) prefixes)
 
--- below a verdict that is not `Open` nothing is reached
+-- nothing is reached below a verdict that is not `Open`
 pub none_reached : (verdict : List ℕ → Verdict) (first count : ℕ) (prefixes : List (List ℕ)) → is_open (verdict []) ≡ false → filter (is_reached verdict) (behind first count prefixes) ≡ []
 none_reached verdict first count prefixes closed = grind (arith, common_steps, filter_none, behind, from_behind)
 
@@ -70,7 +70,7 @@ passing_at : (sizes : List ℕ) (verdict : List ℕ → Verdict) (test : List �
     → passing sizes verdict test prefix ≡ cond (is_yes v) (filter test (completions sizes prefix)) []
 passing_at sizes verdict test prefix v e = ap (λ w. cond (is_yes w) (filter test (completions sizes prefix)) []) e
 
--- behind one position
+-- below one position: what is reached, and what passes
 pub joined_same : {X Y : Type 0} (f g : X → List Y) (xs : List X) → ((x : X) → IsIn xs x → f x ≡ g x)
     → flat_map f xs ≡ flat_map g xs
 joined_same f g [] same = refl
@@ -114,7 +114,7 @@ module _ (size : ℕ) (sizes : List ℕ) (truth : List ℕ → Bool) (verdict : 
       ∙ ap (λ l. filter truth (filter test cs) ++ l) (behind_open (first + 1) count (omega (arith, h)))
       ∙ sym (ap (filter truth) (filter-append test cs later) ∙ filter-append truth (filter test cs) (filter test later))
 
--- by the verdict of the empty prefix
+-- by cases on the verdict at the empty prefix
 module _ (size : ℕ) (sizes : List ℕ) (truth : List ℕ → Bool) (verdict : List ℕ → Verdict) (test : List ℕ → Bool) (law : IsLawful (size ∷ sizes) truth verdict) where
   closed_at : is_open (verdict []) ≡ false → all_passing (size ∷ sizes) verdict test (all_prefixes (size ∷ sizes)) ≡ passing (size ∷ sizes) verdict test []
   closed_at e = grind (arith, common_steps, none_reached, append-nil)

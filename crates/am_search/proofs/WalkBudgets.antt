@@ -30,7 +30,7 @@ left_after budget left (Some k) judged more p is less e = grind (arith, common_s
 
 -- ---- What is judged under a budget.
 
--- what has been judged is the front of what is judged under the budget
+-- the prefixes judged so far are the first of those that are judged under the budget
 pub record IsFrontUnder (all : List (List ℕ)) (budget : Option ℕ) (judged : List (List ℕ)) : Type 0 where
   pub more : List (List ℕ)
   pub is : up_to_budget budget all ≡ judged ++ more
@@ -45,7 +45,7 @@ front_under all budget (Some n) judged is front = record {
   is = ap (λ b. up_to_budget b all) is ∙ take-add (length judged) n all ∙ ap (λ l. l ++ take n (drop (length judged) all)) (sym front);
 }
 
--- where all is judged, the budget leaves nothing out
+-- if all prefixes are judged, the budget leaves out none
 pub all_under : (all : List (List ℕ)) (budget left : Option ℕ) (judged : List (List ℕ)) → IsLeft budget left judged → length all ≤ length judged → up_to_budget budget all ≡ all
 all_under all budget None judged is past = ap (λ b. up_to_budget b all) is
 all_under all budget (Some n) judged is past = grind (arith, common_steps, take_all)
@@ -98,7 +98,7 @@ module _ {sizes : List ℕ} {verdict : List ℕ → Verdict} {start : Start} {st
   whole_of : judged ≡ up_to_budget budget (visited sizes verdict start) → given ≡ given_by sizes verdict start judged → IsWholeSearch sizes verdict start budget judged given
   whole_of same all = record { judged_all = same; given_all = all ∙ ap (given_by sizes verdict start) same }
 
-  -- all is judged
+  -- all visited prefixes are judged
   all_judged : stage ≡ Done → judged ≡ visited sizes verdict start
   all_judged e = h.front ∙ take_all (length judged) (visited sizes verdict start) (h.done e).all
 
@@ -108,7 +108,7 @@ module _ {sizes : List ℕ} {verdict : List ℕ → Verdict} {start : Start} {st
   pub whole_search : stage ≡ Done → IsWholeSearch sizes verdict start budget judged given
   whole_search e = grind (arith, common_steps, whole_of, all_judged, all_under)
 
-  -- the budget is used
+  -- the budget is used up
   used : left ≡ Some 0 → IsLeft budget (Some 0) judged
   used none = subst (λ l. IsLeft budget l judged) none is
 
@@ -126,11 +126,11 @@ begins_with_last {sizes} {verdict} {start} {stage} {current} {along} {judged} {g
     let here : get_or all i x ≡ x = Rattle.std.proofs.lemmas.Option.get_or_from_slice_get all i x x w.last in
     record { depth = depth; last = Rattle.std.proofs.lemmas.Option.slice_get_read judged (length judged) i x refl below (sym (ap (λ l. get_or l i x) h.front ∙ Rattle.std.proofs.lemmas.List.get_or-take (length judged) all i x below ∙ here)) }
 
--- answers under one budget stop at one prefix
+-- answers with the same judge, start and budget stop at the same prefix
 pub same_stop : {J : Type 0} {j : Ghosts J} (a b : Answers J j) → a.judge.now ≡ b.judge.now → a.start ≡ b.start → a.budget ≡ b.budget → answers_stop a ≡ answers_stop b
 same_stop {J} {j} a b judge start budget = grind (arith, common_steps)
 
--- the page of answers that have just begun is that of a search
+-- the page of answers that have just begun is the page of a search
 pub page_is : {J : Type 0} {j : Ghosts J} (a : Answers J j) (judge : J) (start : Start) (limit budget : Option ℕ) → a.judge.now ≡ judge → a.start ≡ start → a.budget ≡ budget
     → answers_left a ≡ given_under (j.sizes judge) (j.verdict judge) start budget → answers_page a limit ≡ page_under (j.sizes judge) (j.verdict judge) start limit budget
 page_is {J} {j} a judge start limit budget same begins under left = grind (arith, common_steps)

@@ -39,7 +39,7 @@ at_first : (cs : List (List ℕ)) (c : List ℕ) → Ascends cs → slice_get cs
 at_first [] c s e = cc
 at_first (d ∷ cs) c s e = let same : d ≡ c = cc in ap (λ x. at_or_after (Some x) (d ∷ cs)) (sym same) ∙ from_first d cs s
 
--- where a choice comes before a prefix, all its completions are from the choice on
+-- if a choice comes before a prefix, all completions of the prefix are from the choice on
 all_from : (sizes prefix f c : List ℕ) → comes_before f prefix ≡ true → slice_get (completions sizes prefix) 0 ≡ Some c
     → at_or_after (Some c) (completions sizes prefix) ≡ at_or_after (Some f) (completions sizes prefix)
 all_from sizes prefix f c less e =
@@ -62,7 +62,7 @@ begun_at sizes verdict start k p e = by (first_of_start sizes start) refl
 along_if : (prefix f : List ℕ) {b : Bool} → starts_with nat_eq f prefix ≡ b → if_begins prefix (Some f) ≡ cond b (Some f) None
 along_if prefix f e = ap (λ x. cond x (Some f) None) e
 
--- what comes after the choice does not lie along it
+-- a prefix that comes after the choice does not lie along it
 behind_false : (prefix f : List ℕ) → comes_before f prefix ≡ true → starts_with nat_eq f prefix ≡ false
 behind_false prefix f less = grind (arith, common_steps, false_from_ne_true, begins_behind)
 
@@ -106,7 +106,7 @@ module _ (sizes : List ℕ) (verdict : List ℕ → Verdict) (start : Start) (so
   along_of : {o : Option (List ℕ)} → along ≡ o → if_begins p (Some begun.first) ≡ o
   along_of e = ap (if_begins p) (sym begun.begins) ∙ sym here.along_is ∙ e
 
-  -- the choice along which the prefix lies
+  -- the choice along which the prefix lies is the one at which the start begins
   pub along_some : (f : List ℕ) → along ≡ Some f → (first_of_start sizes start ≡ Some f) × IsWhole sizes f × (starts_with nat_eq f p ≡ true)
   along_some f e = grind (arith, common_steps, cases_Bool, along_if, along_of, begun)
 
@@ -119,7 +119,7 @@ module _ (sizes : List ℕ) (verdict : List ℕ → Verdict) (start : Start) (so
     | inr l ↦ l
   ]
 
-  -- an open prefix
+  -- the verdict is `Open`
   pub after_open : verdict p ≡ Open → length p < length sizes → (o : Option (List ℕ)) → along ≡ o → IsWalk sizes verdict start Judging (p ++ first_position o (length p) ∷ []) along (judged ++ p ∷ []) given
   after_open e room None none =
       let b = along_none none in
@@ -139,7 +139,7 @@ module _ (sizes : List ℕ) (verdict : List ℕ → Verdict) (start : Start) (so
         given_all = given_none (ap is_yes e);
       })
 
-  -- a certain one
+  -- the verdict is `Yes`
   last_judged : slice_get (visited sizes verdict start) (length (judged ++ p ∷ []) - 1) ≡ Some p
   last_judged = grind (arith, common_steps, longer)
 
@@ -161,7 +161,7 @@ module _ (sizes : List ℕ) (verdict : List ℕ → Verdict) (start : Start) (so
   after_yes_at e None none c h = after_yes_behind e none c h
   after_yes_at e (Some f) is c h = subst (λ x. IsGiving sizes verdict start (length p) x (judged ++ p ∷ []) given) (sym h) (after_yes_along e f is)
 
-  -- a refuted one
+  -- the verdict is `No`
   pub after_no : verdict p ≡ No → (next : List ℕ) → next_beside sizes p ≡ Some next → IsWalk sizes verdict start Judging next None (judged ++ p ∷ []) given
   after_no e next beside =
       let r = closed_next sizes verdict start begun.first begun.begins begun.whole some (length judged) p here.next (ap is_open e) next beside in
@@ -181,7 +181,7 @@ module _ (sizes : List ℕ) (verdict : List ℕ → Verdict) (start : Start) (so
 
 -- ---- After a choice was given.
 
--- the first that passes, among some of a list
+-- the first member that passes is also the first among those that a filter keeps
 found_kept : (test keep : List ℕ → Bool) (xs : List (List ℕ)) (d : List ℕ) → find test xs ≡ Some d → keep d ≡ true → find test (filter keep xs) ≡ Some d
 found_kept test keep [] d e k = cc
 found_kept test keep (x ∷ xs) d e k = grind (arith, common_steps, found_kept test keep xs d)
@@ -195,7 +195,7 @@ module _ (sizes : List ℕ) (verdict : List ℕ → Verdict) (start : Start) (so
   given_one : (given ++ c ∷ []) ++ at_or_after (find (comes_before c) (completions sizes (take depth c))) (completions sizes (take depth c)) ≡ given_by sizes verdict start judged
   given_one = search (rules, append_assoc, member_then_rest, completions_ascend, in_completions, begins_taken)
 
-  -- the next choice has the same front
+  -- the next choice begins with the same `depth` positions
   pub given_longer : (next d : List ℕ) → next_beside sizes c ≡ Some next → depth < length next → slice_get (completions sizes next) 0 ≡ Some d → IsGiving sizes verdict start depth d judged (given ++ c ∷ [])
   given_longer next d e long first =
       let beside = beside_is sizes c next here.whole.0 e in
@@ -227,7 +227,7 @@ module _ (sizes : List ℕ) (verdict : List ℕ → Verdict) (start : Start) (so
           let bx = begins_parts r q x b k in
           ap (λ t. starts_with nat_eq (t ∷ x) (p ∷ a)) (bx.0 ∙ ab.0) ∙ begins_same p x a ∙ begins_through a b x ab.1 bx.1
 
-  -- a later completion of the front is not the choice itself
+  -- a later completion of these positions is not the choice itself
   other_choice : (x : List ℕ) → IsWhole sizes x → comes_before c x ≡ true → starts_with nat_eq x c ≡ false
   other_choice x w less = search (rules, false_from_ne_true, begins_whole, not_itself)
 
@@ -237,7 +237,7 @@ module _ (sizes : List ℕ) (verdict : List ℕ → Verdict) (start : Start) (so
   upcoming : suc (length judged - 1) ≡ length judged
   upcoming = omega (arith, here.some)
 
-  -- no other completion of the front is left, and a prefix is
+  -- no other completion of these positions is left, but a prefix is
   pub given_last : (next : List ℕ) → next_beside sizes c ≡ Some next → length next ≤ depth → IsWalk sizes verdict start Judging next None judged (given ++ c ∷ [])
   given_last next e short =
       let y : List ℕ = take depth c in

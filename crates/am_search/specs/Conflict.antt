@@ -4,17 +4,17 @@ use Rattle.am_universe.specs.Choice.{IsWhole}
 use Rattle.am_search.specs.declared.labels.Labels.{Labels}
 use Rattle.am_search.specs.Labels.{has_label}
 
--- At each of some labels a choice has the position that a prefix has.
+-- A choice has the prefix's position at each of the given labels.
 abbrev pub AgreesAt : Labels → List ℕ → List ℕ → Type 0
 AgreesAt labels prefix choice =
     (i : ℕ) → IsTrue (has_label labels i) → slice_index choice i ≡ slice_index prefix i
 
--- Some labels of a prefix are a conflict: no whole choice is true that has the prefix's positions
--- at these labels, whatever it has at the others. So no completion of the prefix is true.
+-- Some labels of a prefix are a conflict: no whole choice that has the prefix's positions at these
+-- labels is true, whatever it has at the others. So no completion of the prefix is true.
 -- Source: P. Prosser, "Hybrid algorithms for the constraint satisfaction problem", Computational
 -- Intelligence 9, 1993: the conflict set.
--- Example: of three labels, where no choice is true that has the position 1 at the first label, the
--- first label alone is a conflict of the prefix 1 0, and so are the first two.
+-- Example: let there be three labels, and let no choice with the position 1 at the first label be
+-- true. Then the first label alone is a conflict of the prefix 1 0, and so are the first two.
 pub record IsConflict (sizes : List ℕ) (truth : List ℕ → Bool) (labels : Labels)
     (prefix : List ℕ) : Type 0 where
   pub within : (i : ℕ) → IsTrue (has_label labels i) → i < length prefix

@@ -1,4 +1,4 @@
--- Judges: what a search asks whether the completions of a prefix are true.
+-- Judges: a search asks a judge whether the completions of a prefix are true.
 use Rattle.std.specs.Prelude.{◌≡◌, ◌≢◌, ℕ, ◌<◌, ◌≤◌, List, length, Bool, true, false, IsTrue}
 use Rattle.std.specs.List.{AllByRecursion}
 use Rattle.am_universe.specs.declared.limits.TheConstants.{MAX_LABELS, MAX_VALUES}
@@ -7,7 +7,7 @@ use Rattle.am_universe.specs.Completions.{completions}
 use Rattle.am_search.specs.declared.verdict.Verdict.{Verdict}
 use Rattle.am_search.specs.declared.verdict.Verdict.TheVariants.{Yes, No, Open}
 
--- A verdict is `Yes`; it is `No`; and it is `Open`, as tests.
+-- Test whether a verdict is `Yes`, whether it is `No`, and whether it is `Open`.
 abbrev pub is_yes : Verdict → Bool
 is_yes Yes = true
 is_yes No = false
@@ -23,18 +23,19 @@ is_open Yes = false
 is_open No = false
 is_open Open = true
 
--- How many values each label has: at most `MAX_LABELS` labels, each with 1 to `MAX_VALUES`.
+-- How many values each label has: there are at most `MAX_LABELS` labels, each with 1 to
+-- `MAX_VALUES` values.
 pub record AreSizes (sizes : List ℕ) : Type 0 where
   pub labels : length sizes ≤ MAX_LABELS
   pub values : AllByRecursion (λ size. (0 < size) × (size ≤ MAX_VALUES)) sizes
 
--- The laws of a judge, of the truth of whole choices and the verdict at each prefix: `Yes` means
--- that every completion is true, `No` that none is, and a whole choice is never `Open`. `Open`
--- says nothing, so a judge may answer it where it could know more.
+-- The laws of a judge: what the verdict at each prefix says about the truth of whole choices. `Yes`
+-- means that every completion is true, `No` that none is, and the verdict at a whole choice is
+-- never `Open`. `Open` says nothing, so a judge may return it even if more could be known.
 -- Source: own choice.
--- Example: over the sizes 2 and 2, where 0 0 and 0 1 alone are true, the verdict at 0 may be `Yes`
--- or `Open`, that at 1 `No` or `Open`, that at the empty prefix is `Open`, and that at 0 1 is
--- `Yes`.
+-- Example: over the sizes 2 and 2, let only 0 0 and 0 1 be true. The verdict at 0 may be `Yes` or
+-- `Open`, and the verdict at 1 may be `No` or `Open`. At the empty prefix it is `Open`, and at 0 1
+-- it is `Yes`.
 pub record IsJudge (sizes : List ℕ) (truth : List ℕ → Bool) (verdict : List ℕ → Verdict)
     : Type 0 where
   pub limits : AreSizes sizes

@@ -9,14 +9,15 @@ use Rattle.am_search.specs.declared.jumps.Outcome.TheVariants.{Found, Refuted}
 use Rattle.am_search.specs.Labels.{has_label}
 use Rattle.am_search.specs.Conflict.{AgreesAt, IsConflict}
 
--- What a search below a prefix comes to: what the prefix has grown into is the first of its
--- completions that is true; or the prefix is as it was, and the labels are a conflict of it.
+-- The outcome of a search below a prefix. With `Found`, the new prefix is the first true completion
+-- of the old one. With `Refuted`, the prefix is unchanged, and the labels are a conflict of it.
 abbrev pub IsOutcome : List ℕ → (List ℕ → Bool) → List ℕ → List ℕ → Outcome → Type 0
 IsOutcome sizes truth old new Found = find truth (completions sizes old) ≡ Some new
 IsOutcome sizes truth old new (Refuted labels) = (new ≡ old) × IsConflict sizes truth labels old
 
--- The labels are to blame for the first so many positions of the label behind a prefix: no whole
--- choice is true that has one of these, and at the labels the positions of the prefix.
+-- The labels are to blame for the first positions of the next label after a prefix, those below
+-- `position`: no whole choice is true that has one of these positions there, and the prefix's
+-- positions at the labels.
 pub record IsConflictUpTo (sizes : List ℕ) (truth : List ℕ → Bool) (labels : Labels)
     (prefix : List ℕ) (position : ℕ) : Type 0 where
   pub within : (i : ℕ) → IsTrue (has_label labels i) → i < length prefix

@@ -12,12 +12,12 @@ pub record AnswerPage : Type 0 where
   pub choices : List (List ℕ)
   pub trailer : Trailer
 
--- The page of some answers under a limit of at least 1, if there is one, whose trailer is this one
--- where all of them fit: if there are more answers than the limit, the first so many, and `Next`
--- with the last of them; if not, all, and that trailer.
+-- The page of some answers under a limit of at least 1, if there is one. If there are more answers
+-- than the limit, the page has the first `limit` answers, and its trailer is `Next` with the last
+-- of them. Otherwise it has all answers, and its trailer is the given one.
 -- Source: own choice.
--- Example: of the answers 1 0 and 2 0 and with the trailer `Stopped` at 2 1, the page under the
--- limit 1 is 1 0, and `Next` with 1 0; under the limit 2 it is both, and `Stopped` at 2 1.
+-- Example: for the answers 1 0 and 2 0 and the trailer `Stopped` at 2 1, the page under the limit 1
+-- is 1 0, and `Next` with 1 0; under the limit 2 it is both, and `Stopped` at 2 1.
 abbrev pub page_ending : Trailer → List (List ℕ) → Option ℕ → AnswerPage
 page_ending ending answers None = record { choices = answers; trailer = ending }
 page_ending ending answers (Some limit) =
@@ -25,10 +25,10 @@ page_ending ending answers (Some limit) =
     record { choices = take limit answers; trailer = Next (get_or answers (limit - 1) []) }
     else record { choices = answers; trailer = ending }
 
--- The page of all answers that there are, under a limit, if there is one: it ends with `Next` or
--- with `End`. And the page from a start, whose answers are those from there on.
+-- `page_of` is the page of all answers under a limit, if there is one: it ends with `Next` or with
+-- `End`. `page_from` is the page from a start: its answers are those from there on.
 -- Source: own choice.
--- Example: where 0 0, 1 0 and 2 0 alone are true, the page after 0 0 with the limit 1 is 1 0, and
+-- Example: if only 0 0, 1 0 and 2 0 are true, the page after 0 0 with the limit 1 is 1 0, and
 -- `Next` with 1 0; with the limit 2 it is 1 0 and 2 0, and `End`.
 abbrev pub page_of : List (List ℕ) → Option ℕ → AnswerPage
 page_of answers limit = page_ending End answers limit
@@ -36,8 +36,8 @@ page_of answers limit = page_ending End answers limit
 abbrev pub page_from : List ℕ → (List ℕ → Bool) → Start → Option ℕ → AnswerPage
 page_from sizes truth start limit = page_of (answers_from sizes truth start) limit
 
--- The start of the page that follows a trailer, if one does; and the answers from there on, which
--- are those that the trailer leaves.
+-- `start_after` is the start of the page that follows a trailer, if there is one. `rest_after`
+-- lists the answers that the trailer leaves: the answers from that start on, or none without one.
 abbrev pub start_after : Trailer → Option Start
 start_after End = None
 start_after (Next c) = Some (After c)
@@ -50,15 +50,15 @@ answers_from_any sizes truth (Some start) = answers_from sizes truth start
 abbrev pub rest_after : List ℕ → (List ℕ → Bool) → Trailer → List (List ℕ)
 rest_after sizes truth trailer = answers_from_any sizes truth (start_after trailer)
 
--- A page from a start, under whatever limit.
+-- A page from a start, under any limit of at least 1 or without a limit.
 pub record IsPage (sizes : List ℕ) (truth : List ℕ → Bool) (start : Start) (page : AnswerPage)
     : Type 0 where
   pub limit : Option ℕ
   pub at_least_one : IfSome limit (λ n. 0 < n)
   pub from_start : page ≡ page_from sizes truth start limit
 
--- Pages in a row, at least one: each under a limit of its own, the first from the start, each
--- later one from the trailer before it, and the last with `End`.
+-- Consecutive pages, at least one. Each has its own limit. The first begins at the start, each
+-- later one where the trailer before it says, and the last ends with `End`.
 abbrev pub IsChain : List ℕ → (List ℕ → Bool) → Start → List AnswerPage → Type 0
 IsChain sizes truth start [] = ⊥
 IsChain sizes truth start (page ∷ pages) =

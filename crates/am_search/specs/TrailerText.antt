@@ -5,12 +5,12 @@ use Rattle.am_search.specs.declared.trailer.Trailer.{Trailer}
 use Rattle.am_search.specs.declared.trailer.Trailer.TheVariants.{End, Next, Stopped}
 use Rattle.am_search.specs.Token.{token_text}
 
--- A trailer and its line feed. Where more may follow it has the token of the next page, which
--- begins after the last choice of this one, or at the prefix at which the search stopped. The token
--- is the one that is written for inputs with this fingerprint.
+-- The line of a trailer, with its line feed. If more answers may follow, it has the token of the
+-- next page, which begins after the last choice of this page, or at the prefix at which the search
+-- stopped. The token is the one that is written for inputs with this fingerprint.
 -- Source: own choice.
--- Example: after the choice 0 12, where more follow, it is `# next t2:`, the 32 digits of the
--- fingerprint, and `:0.12`. Where the search stopped at the prefix 0 it is `# stopped s2:`, the
+-- Example: if more answers follow after the choice 0 12, it is `# next t2:`, the 32 digits of the
+-- fingerprint, and `:0.12`. If the search stopped at the prefix 0, it is `# stopped s2:`, the
 -- digits, and `:0`.
 abbrev pub trailer_text : List ℕ → Trailer → List ℕ
 trailer_text fingerprint End = codes "# end\n"

@@ -1,4 +1,4 @@
--- The verdicts of a judge, to try the definitions of a search on.
+-- The verdicts of an example judge, on which the definitions of a search are tried.
 use Rattle.std.specs.Prelude.{ℕ, zero, suc, List, [], ◌∷◌}
 use Rattle.am_search.specs.declared.verdict.Verdict.{Verdict}
 use Rattle.am_search.specs.declared.verdict.Verdict.TheVariants.{Yes, No, Open}

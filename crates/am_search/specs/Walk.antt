@@ -12,37 +12,39 @@ use Rattle.am_search.specs.declared.verdict.Verdict.TheVariants.{Yes}
 use Rattle.am_search.specs.Start.{first_of_start, at_or_after}
 use Rattle.am_search.specs.Visits.{visited, given_by}
 
--- A choice where it begins with a prefix.
+-- A choice, if there is one and it begins with the prefix.
 abbrev pub if_begins : List ℕ → Option (List ℕ) → Option (List ℕ)
 if_begins prefix None = None
 if_begins prefix (Some c) = if starts_with nat_eq c prefix then Some c else None
 
--- The first position below a prefix of so many positions: along a choice, that of the choice.
+-- The position that a search first adds to a prefix of `i` positions: the position of the choice
+-- along which the prefix lies, or 0 if there is no such choice.
 abbrev pub first_position : Option (List ℕ) → ℕ → ℕ
 first_position None i = 0
 first_position (Some c) i = slice_index c i
 
--- So much is left of a budget, if there is one, where so many prefixes were judged.
+-- `left` is what is left of a budget, if there is one, after the prefixes in `judged` were judged.
 abbrev pub IsLeft : Option ℕ → Option ℕ → List (List ℕ) → Type 0
 IsLeft budget left judged = budget ≡ option_map (λ n. length judged + n) left
 
--- A search that has stopped stands at the prefix that is judged next, and nothing is left of its
--- budget.
+-- A search that has stopped stands at the prefix that would be judged next, and nothing is left of
+-- its budget.
 abbrev pub IsAtStop : Stage → List ℕ → Option ℕ → List ℕ → Type 0
 IsAtStop stage current left prefix =
     (stage ≡ Judging) × (current ≡ prefix) × (left ≡ Some 0)
 
 module _ (sizes : List ℕ) (verdict : List ℕ → Verdict) (start : Start) where
-  -- The prefix stands first among those that are still to be judged. `along` is the choice at which
-  -- the start begins, where that begins with the prefix. What is judged has been given.
+  -- The prefix is the first of those that are still to be judged. `along` is the choice at which
+  -- the start begins, if that choice begins with the prefix. All choices that the judged prefixes
+  -- give have been given.
   pub record IsJudging (prefix : List ℕ) (along : Option (List ℕ)) (judged given : List (List ℕ))
       : Type 0 where
     pub next : slice_get (visited sizes verdict start) (length judged) ≡ Some prefix
     pub along_is : along ≡ if_begins prefix (first_of_start sizes start)
     pub given_all : given ≡ given_by sizes verdict start judged
 
-  -- The prefix of so many positions was judged last, and `Yes`; of its completions those from the
-  -- choice on are left.
+  -- The first `depth` positions of the choice are the prefix that was judged last, and its verdict
+  -- was `Yes`. Of its completions, those from the choice on are left.
   pub record IsGiving (depth : ℕ) (choice : List ℕ) (judged given : List (List ℕ)) : Type 0 where
     pub some : 0 < length judged
     pub last : slice_get (visited sizes verdict start) (length judged - 1)
@@ -53,12 +55,12 @@ module _ (sizes : List ℕ) (verdict : List ℕ → Verdict) (start : Start) whe
     pub given_next : given ++ at_or_after (Some choice) (completions sizes (take depth choice))
         ≡ given_by sizes verdict start judged
 
-  -- All is judged and given.
+  -- All prefixes have been judged, and all choices have been given.
   pub record IsDone (judged given : List (List ℕ)) : Type 0 where
     pub all : length (visited sizes verdict start) ≤ length judged
     pub given_all : given ≡ given_by sizes verdict start judged
 
-  -- What is judged so far is the beginning of what is judged in all, and the rest is as the stage
+  -- The judged prefixes are the first of all that the search visits, and the rest is as the stage
   -- says.
   pub record IsWalk (stage : Stage) (current : List ℕ) (along : Option (List ℕ))
       (judged given : List (List ℕ)) : Type 0 where

@@ -18,35 +18,35 @@ use crate::stage::Stage;
 use crate::{Judge, Start, Verdict};
 use am_universe::{Choice, History, Position};
 
-/// How far answers have come.
+/// How far the answers have come.
 #[derive(Clone, Copy, Debug, PartialEq, Eq)]
 pub enum State {
     /// `next` has not returned `None` yet.
     Running,
     /// All answers have been returned.
     Ended,
-    /// The budget is used up, and all answers have been returned that the judged prefixes give.
+    /// The budget is used up, and all answers that the judged prefixes give have been returned.
     /// This is the prefix that would be judged next.
     Stopped(Choice),
 }
 
 /// The true choices of a judge from a start on, in declared order, each once.
 ///
-/// The judge is asked about prefixes, and not about each whole choice. What is below a `No` is left
-/// out, and what is below a `Yes` is returned without asking again. A budget limits how many
-/// prefixes are judged; if more would be, the answers stop. Takes no memory.
+/// The judge is asked about prefixes, and not about each whole choice. Choices below a `No` are
+/// left out, and choices below a `Yes` are returned without asking again. A budget limits how many
+/// prefixes are judged. If more would have to be judged, the answers stop. Takes no memory.
 #[derive(Drop)]
 pub struct Answers<'a, J: Judge> {
     judge: &'a J,
     start: Start,
-    // How many prefixes may be judged in all, and how many more of them.
+    // How many prefixes may be judged in all, and how many of these are left.
     budget: Option<u64>,
     left: Option<u64>,
     state: State,
     stage: Stage,
     // The prefix that is judged next, or the choice that is given next.
     current: Choice,
-    // The choice at which the start begins, as long as that begins with the prefix.
+    // The choice at which the start begins, if that choice begins with the current prefix.
     along: Option<Choice>,
     judged: Judged,
     given: History<Choice>,
@@ -67,8 +67,8 @@ impl<'a, J: Judge> Answers<'a, J> {
 
     /// Starts a search for the answers from a start on.
     ///
-    /// The start must be one over the sizes of the judge. With `steps`, at most so many prefixes
-    /// are judged, and the answers are those that these give.
+    /// The start must be a start over the sizes of the judge. With `steps`, at most that many
+    /// prefixes are judged, and the answers are those that these prefixes give.
     pub fn from(judge: &'a J, start: Start, steps: Option<u64>) -> Answers<'a, J>
         requires { IsStart (J.sizes judge.now) start }
         ensures left { steps ≡ None → answers_left result
@@ -115,7 +115,7 @@ impl<'a, J: Judge> Answers<'a, J> {
         self.state
     }
 
-    /// Judges the prefix at which the search is, and moves on. Nothing else asks the judge.
+    /// Judges the current prefix, and moves on. Nothing else asks for a verdict.
     fn judge_next(&mut self)
         requires stage { self.old.stage ≡ Judging }
         requires left { self.old.left ≢ Some 0 }
@@ -148,8 +148,8 @@ impl<'a, J: Judge> Answers<'a, J> {
         }
     }
 
-    /// Returns the choice at which the search is, and moves to the next. Its first `depth`
-    /// positions were judged `Yes`.
+    /// Returns the current choice, and moves to the next. The first `depth` positions of the choice
+    /// were judged `Yes`.
     fn give_next(&mut self, depth: usize) -> Choice
         requires { self.old.stage ≡ Giving depth }
         ensures choice { result ≡ self.old.current }
@@ -190,8 +190,8 @@ impl<'a, J: Judge> Iterator for Answers<'a, J> {
 
     /// Returns the next answer.
     ///
-    /// After the first `None` there are no more: all have come, or the budget is used up and
-    /// another prefix would have to be judged.
+    /// After the first `None` there are no more answers: all have been returned, or the budget is
+    /// used up and another prefix would have to be judged.
     fn next(&mut self) -> Option<Choice>
         ensures first { YieldsFirst answers_left self.old result self.new }
         ensures fewer { MakesProgress (λ _. ⊤) (item_count answers_left) self.old result self.new }
@@ -230,7 +230,8 @@ impl<'a, J: Judge> Iterator for Answers<'a, J> {
 
 /// Returns the first true choice in declared order, if there is one.
 ///
-/// It begins with the prefix that is judged last, so nothing after it is judged. Takes no memory.
+/// It begins with the prefix that is judged last, so no prefix after that is judged. Takes no
+/// memory.
 pub fn first<J: Judge>(judge: &J) -> Option<Choice>
     ensures whole { IfSome result (IsWhole (J.sizes judge.now)) }
     ensures first { result ≡ find (J.truth judge.now) (choices (J.sizes judge.now)) }
@@ -278,7 +279,7 @@ fn choice_after<J: Judge>(judge: &J, choice: &Choice) -> Option<Choice>
     }
 }
 
-/// What is left of a budget, if there is one, after one step more.
+/// What is left of a budget after one more step, or `None` if there is no budget.
 fn one_less(left: Option<u64>) -> Option<u64>
     requires { left ≢ Some 0 }
     ensures { left ≡ option_map (λ n. 1 + n) result }
@@ -289,8 +290,8 @@ fn one_less(left: Option<u64>) -> Option<u64>
     }
 }
 
-/// The position below a prefix of `i` positions to which the search goes first: that of the choice
-/// along which the prefix lies, and else 0.
+/// The position that the search first adds to a prefix of `i` positions: the position of the choice
+/// along which the prefix lies, or 0 if there is no such choice.
 fn position_along(along: &Option<Choice>, i: usize) -> Position
     requires { IfSome along.now (λ first. i < length first) }
     ensures { result ≡ first_position along.now i }
@@ -301,7 +302,7 @@ fn position_along(along: &Option<Choice>, i: usize) -> Position
     }
 }
 
-/// Goes from a prefix to the choice along which it lies, and else to its first completion.
+/// Extends a prefix to the choice along which it lies, or else to its first completion.
 fn complete_along<J: Judge>(judge: &J, along: &Option<Choice>, prefix: &mut Choice)
     requires { IsTrue (admits (J.sizes judge.now) prefix.old) }
     ensures { MatchOption along.now
@@ -314,7 +315,7 @@ fn complete_along<J: Judge>(judge: &J, along: &Option<Choice>, prefix: &mut Choi
     }
 }
 
-/// Goes from a prefix to its first completion.
+/// Extends a prefix to its first completion.
 fn complete<J: Judge>(judge: &J, prefix: &mut Choice)
     requires { IsTrue (admits (J.sizes judge.now) prefix.old) }
     ensures { slice_get (completions (J.sizes judge.now) prefix.old) 0 ≡ Some prefix.new }
@@ -324,8 +325,8 @@ fn complete<J: Judge>(judge: &J, prefix: &mut Choice)
     }
 }
 
-/// Goes from a prefix to the first that comes after it and after all that begin with it. Where
-/// there is none the answer is `false`, and the prefix is empty.
+/// Changes a prefix to the first prefix that comes after it and after all that begin with it. If
+/// there is none, returns `false`, and the prefix is empty.
 fn go_beside<J: Judge>(judge: &J, prefix: &mut Choice) -> bool
     requires { IsTrue (admits (J.sizes judge.now) prefix.old) }
     ensures { MatchBool result (next_beside (J.sizes judge.now) prefix.old ≡ Some prefix.new)

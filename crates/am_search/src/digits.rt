@@ -16,7 +16,7 @@ pub(crate) fn digits_of(fingerprint: &[u8; 16]) -> [u8; 32]
     digits
 }
 
-/// The fingerprint with these digits, if they are those of one.
+/// Returns the fingerprint with these digits, or `None` if no fingerprint has them.
 pub(crate) fn parse_digits(text: &str) -> Option<[u8; 16]>
     ensures { MatchOption result
         ((bytes : List ℕ) → IsFingerprint bytes → encode_lower bytes ≢ text.now)

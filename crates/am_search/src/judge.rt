@@ -6,7 +6,7 @@ ghost use Rattle.am_search.specs.Judge.{IsJudge};
 use crate::Verdict;
 use am_universe::Choice;
 
-/// What says which choices over some labels are true, and what is known at a prefix.
+/// Says which choices over some labels are true, and what is known at a prefix.
 pub trait Judge {
     /// How many values each label has, in declared order.
     ghost sizes: { Self → List ℕ };
@@ -26,7 +26,8 @@ pub trait Judge {
         requires { i < length (sizes self.now) }
         ensures size { slice_get (sizes self.now) i ≡ Some result };
 
-    /// What is known of the completions of a prefix: `Yes`, all are true; `No`, none is.
+    /// Returns what is known of the completions of a prefix: `Yes` if all are true, `No` if none
+    /// is.
     ///
     /// The prefix must be one that the sizes admit. At a whole choice, which is its only
     /// completion, the verdict is never `Open`.

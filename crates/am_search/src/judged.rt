@@ -3,7 +3,7 @@ ghost use Rattle.std.specs.Prelude.{◌≡◌, [], ◌∷◌, ◌++◌};
 use am_universe::{Choice, History};
 use std::marker::Model;
 
-/// The prefixes that were judged so far, in order, which only clauses see. It takes no bytes.
+/// The prefixes that were judged so far, in order. Only clauses see them; the value takes no bytes.
 #[derive(Drop)]
 pub(crate) struct Judged {
     prefixes: History<Choice>,
@@ -18,7 +18,7 @@ impl Model for Judged {
 }
 
 impl Judged {
-    /// None was judged yet.
+    /// No prefix was judged yet.
     pub(crate) fn none() -> Judged
         ensures nothing { result ≡ [] }
     {
@@ -27,7 +27,7 @@ impl Judged {
         }
     }
 
-    /// One more is judged.
+    /// Adds a prefix that was judged.
     pub(crate) fn tick(&mut self, prefix: &Choice)
         ensures judged { self.new ≡ self.old ++ prefix.now ∷ [] }
     {

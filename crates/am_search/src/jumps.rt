@@ -1,8 +1,8 @@
 //! The search for the first true choice alone.
 //!
-//! Only its answer is promised, and not which prefixes it asks about. It asks a refuter. A
-//! refutation says more than a `No`. It is a *conflict*: labels such that no choice is true that
-//! has the prefix's positions at them.
+//! The contract promises only its answer, and not which prefixes it asks about. The search asks a
+//! refuter. A refutation says more than a `No`. It is a *conflict*: a set of labels such that no
+//! choice that has the prefix's positions at these labels is true.
 //!
 //! The search goes down the labels in declared order. If the conflict below a position leaves out
 //! the label of that position, the other positions of the label are refuted for the same reason,
@@ -17,11 +17,11 @@ ghost use Rattle.am_search.specs.Jumps.{IsOutcome};
 use crate::{Labels, Refuter};
 use am_universe::{Choice, Position};
 
-/// What came of a search below a prefix.
+/// The result of a search below a prefix.
 enum Outcome {
     /// The prefix has grown into its first true completion.
     Found,
-    /// No completion is true: these labels of the prefix are a conflict. The prefix is as it was.
+    /// No completion is true: these labels of the prefix are a conflict. The prefix is unchanged.
     Refuted(Labels),
 }
 

@@ -40,7 +40,7 @@ pub fn sizes_of_a_universe()
 /// A start at a prefix has the choices that do not come before the prefix in the order of a
 /// dictionary.
 ///
-/// There is at least one.
+/// There is at least one such choice.
 #[tactic(auto, using(crate::proofs::Pages::choices_at, crate::proofs::Pages::some_at))]
 pub fn choices_at_a_prefix()
     ensures choices { (ns prefix : List ℕ) → AreSizes ns → IsTrue (admits ns prefix)
@@ -62,7 +62,7 @@ pub fn choices_after_a_choice()
         → choices_from ns (After c) ≡ filter (comes_before c) (choices ns) }
 {}
 
-/// The choices of a start, if it has any, are a whole choice and those after that one.
+/// The choices of a start, if it has any, are a whole choice and the choices after it.
 pub fn a_start_begins_with_its_first_choice()
     ensures none { (ns : List ℕ) (start : Start) → first_of_start ns start ≡ None
         → choices_from ns start ≡ [] }
@@ -102,7 +102,7 @@ pub fn a_page_keeps_its_limit()
         → length (page_from ns truth start (Some n)).choices ≡ n }
 {}
 
-/// The line of a trailer is `# next` or `# stopped` and the token at which the next page begins, or
+/// The line of a trailer is `# next` or `# stopped` and the token of the start of the next page, or
 /// `# end` if there is no next page.
 #[tactic(auto, using(crate::proofs::Pages::trailer_next, crate::proofs::Pages::trailer_stopped, crate::proofs::Pages::trailer_end))]
 pub fn a_trailer_has_the_token_of_its_start()
@@ -203,7 +203,7 @@ pub fn a_page_under_a_budget_and_its_rest_are_the_answers()
 /// If the budget is enough, the page after another begins later, so consecutive pages come to an
 /// end.
 ///
-/// There are no more of them than choices.
+/// There are no more pages than choices.
 pub fn pages_under_budgets_come_to_an_end()
     ensures later { (ns : List ℕ) (truth : List ℕ → Bool) (verdict : List ℕ → Verdict)
         (start next : Start) (page : AnswerPage) → IsJudge ns truth verdict
@@ -234,7 +234,7 @@ pub fn pages_in_a_row_are_the_answers()
         → IsChain ns truth start pages → all_choices_of pages ≡ answers_from ns truth start }
 {}
 
-/// A token stands for one start, and a token that is written is made under one fingerprint.
+/// A token stands for one start, and a written token is made under one fingerprint.
 ///
 /// This holds for both forms of tokens, and also for starts over different sizes. So a text is read
 /// as at most one start, whatever the inputs and their labels.
@@ -253,9 +253,9 @@ pub fn one_start_a_token()
         → (text ≡ old_token_text s) ⊎ (h ≡ k) }
 {}
 
-/// A token is refused over sizes of which its start is none, whatever the inputs.
+/// A token is refused if its start is not a start over the sizes, whatever the inputs.
 ///
-/// If its start is one over these sizes too, a token that was written is refused under any other
+/// If its start is a start over these sizes too, a written token is refused under any other
 /// fingerprint.
 #[tactic(auto, using(crate::proofs::TokenForms::no_start_there, crate::proofs::TokenForms::of_other_inputs))]
 pub fn a_token_of_another_universe_is_refused()
@@ -267,8 +267,8 @@ pub fn a_token_of_another_universe_is_refused()
         → RefusesToken ms k (token_text h start) kinds.OtherInputs }
 {}
 
-/// A start has two tokens for inputs with a fingerprint: the one that is written, and that of the
-/// old form.
+/// A start has two tokens for inputs with a fingerprint: the one that is written, and the one in
+/// the old form.
 ///
 /// Both are read as the start, and no other text is.
 pub fn two_tokens_a_start()
@@ -283,7 +283,7 @@ pub fn two_tokens_a_start()
         → token_text fingerprint s ≢ old_token_text t }
 {}
 
-/// A text that is read as a start is not refused, and one that is refused has one cause.
+/// A text that is read as a start is not refused, and a refused text has one cause.
 pub fn one_answer_a_token()
     ensures not_refused { (ns fingerprint text : List ℕ) (start : Start) (kind : Kind)
         → AreSizes ns → IsFingerprint fingerprint → ReadsToken ns fingerprint text start
@@ -293,7 +293,7 @@ pub fn one_answer_a_token()
         → first ≡ second }
 {}
 
-/// All prefixes are exactly those that the sizes admit.
+/// `all_prefixes` has exactly the prefixes that the sizes admit.
 #[tactic(auto, using(crate::proofs::VisitedPrefixes::prefixes_admitted))]
 pub fn prefixes_are_those_admitted()
     ensures exactly { (ns prefix : List ℕ)

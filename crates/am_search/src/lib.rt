@@ -1,12 +1,12 @@
 //! The search for the choices of a universe that are answers, from a start on, page by page.
 //!
-//! A [`Judge`] says of each whole choice whether it is true, and of each prefix what is known of
-//! its completions. [`Answers`] are the true choices from a [`Start`] on, in declared order, and
-//! [`first`] returns the first of all. [`first_by_jumps`] returns it too: it asks a [`Refuter`] why
-//! no completion of a prefix is true, and skips what fails for the same reason.
+//! A [`Judge`] says which whole choices are true, and what is known of the completions of each
+//! prefix. [`Answers`] are the true choices from a [`Start`] on, in declared order, and [`first`]
+//! returns the first of all. [`first_by_jumps`] returns it too: it asks a [`Refuter`] why no
+//! completion of a prefix is true, and skips what fails for the same reason.
 //!
 //! A page ends with a token, if answers may be left. The token says where the next page begins, and
-//! from which inputs it was made: [`write_token`] and [`parse_token`].
+//! which inputs it was made from: [`write_token`] and [`parse_token`].
 #![tactic(auto)]
 
 // What a search asks.
@@ -30,7 +30,7 @@ mod stage;
 
 pub use answers::{Answers, State, first};
 
-// The first true choice alone, by what refutes prefixes.
+// The first true choice alone, found with a refuter.
 mod jumps;
 mod labels;
 mod refuter;
@@ -56,5 +56,5 @@ mod trailer_text;
 
 pub use page_text::write_page;
 
-// What holds of the definitions by themselves.
+// Facts about the definitions alone.
 pub mod laws;

@@ -13,12 +13,12 @@ use crate::trailer::Trailer;
 use crate::trailer_text::write_trailer;
 use am_universe::{Choice, Kind, LineTable, Sink};
 
-/// Writes a page, and returns its trailer: a line for each answer up to a limit, and then the
-/// trailer.
+/// Writes a page, and returns its trailer. A page is a line for each answer up to a limit, and then
+/// the trailer.
 ///
-/// The table must be that of the universe whose choices the answers are. A limit must be at least
-/// 1. If there are more answers than the limit, the trailer is `Next`; otherwise it says whether
-/// the search ended or stopped. Its token has the fingerprint, which is that of the inputs. Each
+/// The table must be that of the universe to which the choices belong. A limit must be at least 1.
+/// If there are more answers than the limit, the trailer is `Next`; otherwise it says whether the
+/// search ended or stopped. Its token has the given fingerprint, which is that of the inputs. Each
 /// line is written before the search for the next answer. Fails only with `Kind::Write`; what was
 /// written is then a proper prefix of the page. Takes no memory.
 pub fn write_page<J: Judge, W: Sink>(
@@ -70,7 +70,7 @@ fn write_lines<J: Judge, W: Sink>(
     Ok(trailer_of(answers.state()))
 }
 
-/// The trailer of a page that has all answers that there are, by how far the search has come.
+/// The trailer of a page that has all answers of the search, by how far the search has come.
 fn trailer_of(state: State) -> Trailer
     ensures { (stop : Option (List ℕ)) → state ≡ state_at stop → result ≡ trailer_at stop }
 {

@@ -7,7 +7,7 @@ ghost use Rattle.am_search.specs.Conflict.{IsConflict};
 use crate::Labels;
 use am_universe::Choice;
 
-/// What says which choices over some labels are true, and why no completion of a prefix is.
+/// Says which choices over some labels are true, and why no completion of a prefix is true.
 pub trait Refuter {
     /// How many values each label has, in declared order.
     ghost sizes: { Self → List ℕ };
@@ -24,10 +24,10 @@ pub trait Refuter {
         requires { i < length (sizes self.now) }
         ensures size { slice_get (sizes self.now) i ≡ Some result };
 
-    /// Which labels of a prefix are to blame, if it is known that no completion of it is true.
+    /// Returns the labels of a prefix that are to blame, if it is known that no completion is true.
     ///
-    /// No whole choice is true that has the prefix's positions at these labels. The prefix must be
-    /// one that the sizes admit. At a whole choice `None` means that it is true.
+    /// No whole choice that has the prefix's positions at these labels is true. The prefix must be
+    /// one that the sizes admit. At a whole choice, `None` means that it is true.
     fn refute(&self, prefix: &Choice) -> Option<Labels>
         requires { IsTrue (admits (sizes self.now) prefix.now) }
         ensures conflict { IfSome result (λ labels.

@@ -1,10 +1,10 @@
 /// What a search does next.
 #[derive(Clone, Copy, Debug, PartialEq, Eq)]
 pub(crate) enum Stage {
-    /// It judges the prefix at which it is.
+    /// It judges the current prefix.
     Judging,
-    /// It returns the choice at which it is, and then those after it that begin with the same
-    /// positions, so many, which were judged `Yes`.
+    /// It returns the current choice, and then the choices after it that begin with the same first
+    /// positions. The number says how many positions these are. Their prefix was judged `Yes`.
     Giving(usize),
     /// Nothing is left.
     Done,

@@ -19,13 +19,13 @@ use am_universe::{Choice, Kind, Position, Sink, Universe, put_all, put_str};
 
 /// Reads a token, and returns the start that it stands for.
 ///
-/// A token is `t2:` for a start after a whole choice, or `s2:` for one at a prefix; the fingerprint
-/// of the inputs that it was made from, as 32 digits `0` to `9` and `a` to `f`; `:`; and the
-/// positions in decimal, without leading zeros, joined by `.`. A token of the old form is `t1:` or
-/// `s1:` and the positions. It has no fingerprint, and is accepted for any inputs.
+/// A token has four parts: `t2:` for a start after a whole choice, or `s2:` for one at a prefix;
+/// the fingerprint of the inputs that it was made from, as 32 digits `0` to `9` and `a` to `f`;
+/// `:`; and the positions in decimal, without leading zeros, joined by `.`. A token of the old form
+/// is `t1:` or `s1:` and the positions. It has no fingerprint, and is accepted for any inputs.
 ///
 /// Fails with `BadToken` if the text is not a token of the universe, whatever the inputs, and with
-/// `OtherInputs` if it is one that was written under another fingerprint. Takes no memory.
+/// `OtherInputs` if it is a token that was written under another fingerprint. Takes no memory.
 pub fn parse_token(text: &str, universe: &Universe, fingerprint: &[u8; 16]) -> Result<Start, Kind>
     ensures ok { IfOk result (ReadsToken (sizes universe.now) fingerprint.now text.now) }
     ensures refused { IfErr result (RefusesToken (sizes universe.now) fingerprint.now text.now) }
@@ -124,7 +124,8 @@ fn parse_position(text: &str) -> Option<Position>
 
 /// Writes the token of a start, for inputs with this fingerprint.
 ///
-/// Fails only with `Kind::Write`; what was written is then a proper prefix of it. Takes no memory.
+/// Fails only with `Kind::Write`; what was written is then a proper prefix of the token. Takes no
+/// memory.
 pub fn write_token<W: Sink>(start: &Start, fingerprint: &[u8; 16], out: &mut W) -> Result<(), Kind>
     ensures written { Writes W.taken W.failures out.old out.new
         (token_text fingerprint.now start.now) result }
@@ -143,7 +144,7 @@ pub fn write_token<W: Sink>(start: &Start, fingerprint: &[u8; 16], out: &mut W) 
     }
 }
 
-/// Writes the digits of a fingerprint, and what separates them from the positions.
+/// Writes the digits of a fingerprint, and the `:` between them and the positions.
 fn write_digits<W: Sink>(fingerprint: &[u8; 16], out: &mut W) -> Result<(), Kind>
     ensures { Writes W.taken W.failures out.old out.new
         (encode_lower fingerprint.now ++ codes ":") result }
@@ -152,7 +153,7 @@ fn write_digits<W: Sink>(fingerprint: &[u8; 16], out: &mut W) -> Result<(), Kind
     put_all(out, b":")
 }
 
-/// Writes positions with a `.` between two.
+/// Writes positions, joined by `.`.
 fn write_positions<W: Sink>(choice: &Choice, out: &mut W) -> Result<(), Kind>
     ensures { Writes W.taken W.failures out.old out.new (positions_text choice.now) result }
 {
@@ -164,7 +165,7 @@ fn write_positions<W: Sink>(choice: &Choice, out: &mut W) -> Result<(), Kind>
     Ok(())
 }
 
-/// Writes what separates a position from those before it, and the position.
+/// Writes the separator between a position and those before it, and then the position.
 fn write_position<W: Sink>(out: &mut W, separator: &[u8], position: Position) -> Result<(), Kind>
     ensures { Writes W.taken W.failures out.old out.new
         (separator.now ++ decimal position) result }

@@ -5,7 +5,7 @@ use am_universe::Choice;
 pub enum Trailer {
     /// No answers are left.
     End,
-    /// Answers are left: those after this choice, which is the last of the page.
+    /// Answers are left: those after this choice, which is the last one of the page.
     Next(Choice),
     /// The search stopped, because its budget is used up. Answers may be left, from the first
     /// completion of this prefix on.

@@ -9,14 +9,14 @@ and_none : (b : Bool) → (b && false) ≡ false
 and_none true = refl
 and_none false = refl
 
--- one position for each label, at most
+-- A choice with more positions than there are labels is not admitted.
 pub admits_none_longer : (sizes c : List ℕ) → length sizes < length c → admits sizes c ≡ false
 admits_none_longer sizes [] h = absurd (omega arith)
 admits_none_longer [] (p ∷ c) h = refl
 admits_none_longer (size ∷ sizes) (p ∷ c) h =
     ap (λ b. nat_lt p size && b) (admits_none_longer sizes c (omega arith)) ∙ and_none (nat_lt p size)
 
--- what is left to say of a choice from a position on
+-- Whether a choice is admitted from a position on.
 abbrev pub admits_from : List ℕ → List ℕ → ℕ → Bool
 admits_from sizes c i = admits (drop i sizes) (drop i c)
 

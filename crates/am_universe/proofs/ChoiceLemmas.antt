@@ -12,11 +12,11 @@ use Rattle.std.proofs.Math.Nat.{eq-or-lt_of_le}
 use Rattle.am_universe.specs.Choice.{choices, admits, IsWhole}
 use Rattle.am_universe.proofs.ListLemmas.{IsIn, IsIn-from_Contains, Contains-from_IsIn, IsIn-left, IsIn-right, IsIn-split, IsIn-map, IsIn-unmap, IsStrictlySortedBy-append, IsStrictlySortedBy-map}
 
--- each of these choices behind each of n positions from `first`
+-- Each of the n positions from `first`, followed by each of these choices.
 abbrev pub behind : ℕ → ℕ → List (List ℕ) → List (List ℕ)
 behind first n cs = flat_map (λ p. map (λ c. p ∷ c) cs) (range_with_len first n)
 
--- a choice that begins with one of n positions from `first`, and goes on with one of these
+-- A choice that begins with one of the n positions from `first`, and goes on with one of `cs`.
 pub record BeginsWithin (first n : ℕ) (cs : List (List ℕ)) (c : List ℕ) : Type 0 where
   pub position : ℕ
   pub rest : List ℕ

@@ -1,4 +1,4 @@
--- The whole choices that begin with a prefix, as a walk from label to label meets them.
+-- The whole choices that begin with a prefix, as a walk from label to label finds them.
 use Rattle.std.proofs.Common.{◌≡◌, ◌≢◌, ℕ, zero, suc, ◌+◌, ◌<◌, ◌≤◌, Bool, true, false, cond, List, [], ◌∷◌, ◌++◌, length, map, slice_index, nat_lt, nat_eq, ◌&&◌, inl, inr, ap, ◌∙◌, refl, arith, eq-eqb}
 use Rattle.std.specs.List.{range_with_len, flat_map, filter, starts_with}
 use Rattle.std.proofs.lemmas.List.{append-nil, map-append}
@@ -10,7 +10,7 @@ use Rattle.am_universe.specs.Choice.{choices, admits, IsWhole}
 use Rattle.am_universe.specs.Completions.{completions}
 use Rattle.am_universe.proofs.ChoiceLemmas.{behind}
 
--- the whole choices below a prefix, label by label: its completions, where the sizes admit it
+-- The whole choices below a prefix, label by label. They are its completions if the sizes admit it.
 abbrev pub below : List ℕ → List ℕ → List (List ℕ)
 below sizes [] = choices sizes
 below [] (p ∷ prefix) = []
@@ -18,7 +18,7 @@ below (size ∷ sizes) (p ∷ prefix) = map (λ c. p ∷ c) (below sizes prefix)
 
 -- ---- What stands below a prefix are its completions.
 
--- those of a list of choices that begin with a prefix
+-- The choices of a list that begin with a prefix.
 abbrev beginning : List ℕ → List (List ℕ) → List (List ℕ)
 beginning prefix cs = filter (λ c. starts_with nat_eq c prefix) cs
 
@@ -38,7 +38,7 @@ pub filter_of_map : {X Y : Type 0} (f : X → Y) (test : Y → Bool) (xs : List 
 filter_of_map f test [] = refl
 filter_of_map f test (x ∷ xs) = ap (λ l. cond (test (f x)) (f x ∷ l) l) (filter_of_map f test xs) ∙ map_of_cond f (test (f x)) x (filter (λ x. test (f x)) xs)
 
--- behind one position, those that begin with a position and a prefix
+-- Of the choices that begin with q, those that begin with p and a prefix.
 at_one : (p q : ℕ) (prefix : List ℕ) (cs : List (List ℕ)) → beginning (p ∷ prefix) (map (λ c. q ∷ c) cs) ≡ map (λ c. q ∷ c) (filter (λ c. nat_eq p q && starts_with nat_eq c prefix) cs)
 at_one p q prefix cs = filter_of_map (λ c. q ∷ c) (λ c. starts_with nat_eq c (p ∷ prefix)) cs
 
@@ -49,7 +49,9 @@ at_other : (p q : ℕ) (prefix : List ℕ) (cs : List (List ℕ)) → p ≢ q �
 at_other p q prefix cs other =
     at_one p q prefix cs ∙ ap (λ b. map (λ c. q ∷ c) (filter (λ c. b && starts_with nat_eq c prefix) cs)) (ne_eqb p q other) ∙ ap (map (λ c. q ∷ c)) (none_kept cs)
 
--- behind so many positions: none if the position stands before them, and those behind it if it is one of them
+-- Of the choices that begin with one of `count` positions from `first`, those that begin with p and
+-- a prefix. There are none if p is before these positions. If p is one of them, they are the
+-- choices that begin with the prefix, each after p.
 at_none : (p first count : ℕ) (prefix : List ℕ) (cs : List (List ℕ)) → p < first → beginning (p ∷ prefix) (behind first count cs) ≡ []
 at_none p first zero prefix cs h = refl
 at_none p first (suc count) prefix cs h =
@@ -75,14 +77,14 @@ completions_are_below (size ∷ sizes) (p ∷ prefix) a =
 
 -- ---- What stands below a prefix, by the next position.
 
--- a whole choice stands alone below itself
+-- Below a whole choice there is only the choice itself.
 below_whole : (sizes c : List ℕ) → length c ≡ length sizes → below sizes c ≡ c ∷ []
 below_whole [] [] e = refl
 below_whole [] (p ∷ c) e = absurd (omega arith)
 below_whole (size ∷ sizes) [] e = absurd (omega arith)
 below_whole (size ∷ sizes) (p ∷ c) e = ap (map (λ d. p ∷ d)) (below_whole sizes c (omega arith))
 
--- and is its own one completion
+-- A whole choice is its own only completion.
 pub completions_of_whole : (sizes c : List ℕ) → IsWhole sizes c → completions sizes c ≡ c ∷ []
 completions_of_whole sizes c w = completions_are_below sizes c w.0 ∙ below_whole sizes c w.1
 
@@ -90,7 +92,7 @@ pub map_of_flat_map : {X : Type 0} (p : ℕ) (f : X → List (List ℕ)) (xs : L
 map_of_flat_map p f [] = refl
 map_of_flat_map p f (x ∷ xs) = map-append (λ c. p ∷ c) (f x) (flat_map f xs) ∙ ap (λ t. map (λ c. p ∷ c) (f x) ++ t) (map_of_flat_map p f xs)
 
--- below a prefix stands what is below the prefixes that are longer by one position
+-- Below a prefix is what is below the prefixes that are longer by one position.
 pub below_by_next : (sizes prefix : List ℕ) → length prefix < length sizes
     → below sizes prefix ≡ flat_map (λ p. below sizes (prefix ++ p ∷ [])) (range_with_len 0 (slice_index sizes (length prefix)))
 below_by_next [] prefix h = absurd (omega arith)
@@ -98,12 +100,12 @@ below_by_next (size ∷ sizes) [] h = refl
 below_by_next (size ∷ sizes) (q ∷ prefix) h =
     ap (map (λ c. q ∷ c)) (below_by_next sizes prefix (omega arith)) ∙ map_of_flat_map q (λ p. below sizes (prefix ++ p ∷ [])) _
 
--- one number more
+-- A range that is longer by one number.
 pub range_more : (first count : ℕ) → range_with_len first (suc count) ≡ range_with_len first count ++ (first + count) ∷ []
 range_more first zero = ap (λ n. n ∷ []) (omega arith)
 range_more first (suc count) = ap (λ t. first ∷ t) (range_more (first + 1) count ∙ ap (λ n. range_with_len (first + 1) count ++ n ∷ []) (omega arith))
 
--- a prefix that is admitted, with one position more
+-- An admitted prefix with one more position below the size of the next label is admitted.
 admitted_first : (p size : ℕ) (b : Bool) → p < size → b ≡ true → (nat_lt p size && b) ≡ true
 admitted_first p size b h e = grind (arith, nat_tests)
 

@@ -1,5 +1,5 @@
--- Lists of which each item has a property, and lists of distinct items: with one item more, and
--- their fronts.
+-- Lists whose items all have a property, and lists of distinct items: with one more item, and their
+-- prefixes.
 use Rattle.std.proofs.Common.{◌≡◌, List, [], ◌∷◌, ◌++◌, Bool, false, ◌||◌, refl, ap, ◌∙◌}
 use Rattle.std.specs.List.{AllByRecursion, IsDistinct, list_any}
 use Rattle.std.proofs.lemmas.Bool.{or_parts}

@@ -1,4 +1,4 @@
--- A label goes behind the labels of a universe exactly where `label_fault` finds nothing.
+-- A label can be added after the labels of a universe exactly if `label_fault` finds nothing.
 use Rattle.std.proofs.Common.{◌≡◌, ◌↔◌, ℕ, ◌<◌, ◌≤◌, ◌==◌, List, [], ◌∷◌, ◌++◌, length, Bool, true, false, ◌||◌, Option, Some, None, IfSome, refl, sym, ap, subst, ◌∙◌, append_assoc, length-append, append-nil, cond, not, nat_le, nat_lt, arith}
 use borrow.Author.Tests.{eqb-false, ltb-false, leb-false, le-ltb, lt-leb}
 use Rattle.std.proofs.lemmas.Bool.{not-false}
@@ -18,19 +18,19 @@ use Rattle.am_universe.specs.Universe.{Label, Values, IsLabel, IsUniverse, names
 
 -- ---- Tests, each with a fault.
 
--- a test that gives no fault, and what stands behind it
+-- If no fault is found, the first test is false, and the later tests find no fault.
 passed : {A : Type 0} (test : Bool) (fault : A) (later : Option A) → cond test (Some fault) later ≡ None → (test ≡ false) × (later ≡ None)
 passed true fault later h = cc
 passed false fault later h = (refl, h)
 
 -- ---- Values.
 
--- what the faults of values say of those before and those to come
+-- What holds of values without a fault that follow the values before them.
 pub record AreFine (before values : Values) : Type 0 where
   pub texts : AllByRecursion (λ v. is_empty_text v ≡ false) values
   pub distinct : IsDistinct same_value (before ++ values)
 
--- the parts of a value's having no fault
+-- A value without a fault is not the empty text, and is not among the values before it.
 value_fine : (before : Values) (value : Option (List ℕ)) → value_fault before value ≡ None → (is_empty_text value ≡ false) × (list_any (λ other. same_value other value) before ≡ false)
 value_fine before value h =
     let text = passed (is_empty_text value) kinds.Empty _ h in
@@ -89,7 +89,7 @@ fine_name : (u : List Label) (name : List ℕ) → is_label_name name ≡ true �
 fine_name u [] form free = absurd cc
 fine_name u (c ∷ cs) form free = rw (form, free)
 
--- the names of a list of labels, one of which is looked for
+-- To look for a name among the names is to look for it among the labels.
 has_names : (u : List Label) (name : List ℕ) → list_any (λ n. same_text n name) (names u) ≡ has u name
 has_names [] name = refl
 has_names (l ∷ u) name = ap (λ b. same_text l.name name || b) (has_names u name)
@@ -128,7 +128,7 @@ universe_was_added u l h =
     let values = faults_from_IsLabel l label in
     rw (room, name, values)
 
--- where a label was pushed, or was not
+-- The labels are a universe, whether the label was pushed or not.
 pub pushed_universe : (u : List Label) (l : Label) (pushed : Bool) → IsUniverse u → label_fault u l ≡ None → IsUniverse (cond pushed (u ++ l ∷ []) u)
 pushed_universe u l true h fine = added_is_universe u l h fine
 pushed_universe u l false h fine = h
@@ -138,7 +138,7 @@ pushed_universe u l false h fine = h
 abbrev IsOfText : Kind → Type 0
 IsOfText kind = kind ≡ kinds.Memory → ⊥
 
--- of a test with a fault, and what stands behind it
+-- What holds of the fault of a test and of the later fault holds of the one that is found.
 each_fault : {A : Type 0} (P : A → Type 0) (test : Bool) (fault : A) (later : Option A) → P fault → IfSome later P → IfSome (cond test (Some fault) later) P
 each_fault P true fault later h k = h
 each_fault P false fault later h k = k

@@ -1,4 +1,4 @@
--- Label sets as finite maps of texts, and the entries that give them.
+-- Label sets as finite maps of texts, and the entries that they are made from.
 use Rattle.std.proofs.Common.{◌≡◌, ◌≢◌, ℕ, ◌+◌, Bool, true, false, cond, List, [], ◌∷◌, length, Option, Some, None, option_map, unwrap_or, is_some, String, string_bytes, ap, sym, ◌∙◌, refl, arith}
 use Rattle.std.specs.Ordering.{nat_cmp, is_eq, eq_by_cmp}
 use Rattle.std.specs.Cmp.{eq_by_cmp_equiv}
@@ -90,7 +90,7 @@ len_kept m o = len_distinct m.entries (IsDistinct-from_sorted string_cmp _ o)
 
 -- ---- What a call on the map in memory does.
 
--- where the key is looked up by other bytes j, which are the same
+-- Here the key is looked up by bytes j, which are equal to it.
 pub removed_with : (m n : BTreeMap (String Global) (String Global)) (j k v : List ℕ) → j ≡ k → length v ≡ 0 → UpdatesBy string_cmp (λ y. slice_cmp nat_cmp j (string_bytes y)) m n None → label_map_of n.entries ≡ with_value (label_map_of m.entries) k v
 removed_with m n j k v same e u = removed_is m n j u ∙ ap (remove (label_map_of m.entries)) same ∙ sym (with_no_text (label_map_of m.entries) k v (nil_from_length v e))
 

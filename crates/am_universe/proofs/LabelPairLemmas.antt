@@ -1,4 +1,4 @@
--- The pairs of a choice, label after label, and the label set that they make.
+-- The pairs of a choice, label by label, and the label set that they make.
 use Rattle.std.proofs.Common.{◌≡◌, ◌≢◌, ℕ, zero, suc, ◌+◌, ◌<◌, false, cond, List, [], ◌∷◌, ◌++◌, length, take, Option, Some, None, option_map, slice_get, slice_index, option_and_then, ap, sym, ◌∙◌, refl, subst, arith, add-one}
 use Rattle.std.specs.Ordering.{nat_cmp}
 use Rattle.std.specs.Cmp.Lexicographic.{slice_cmp, nat_list_cmp_total}
@@ -24,7 +24,7 @@ found_at [] i h = absurd (omega arith)
 found_at (x ∷ xs) zero h = (x, refl)
 found_at (x ∷ xs) (suc i) h = found_at xs i (omega arith)
 
--- no label of these has the name
+-- None of these labels has the name.
 abbrev pub AreOthers : List ℕ → List Label → Type 0
 AreOthers name u = AllByRecursion (λ m. same_text m.name name ≡ false) u
 
@@ -69,7 +69,7 @@ none_of_others (m ∷ u) (p ∷ c) q h = find_before q m.name (value_at m p) (la
 
 -- ---- Their label set.
 
--- the set with this value of a label, where there is a value
+-- The set with this value of a label, if there is a value.
 abbrev pub with_maybe : LabelMap → List ℕ → Option (List ℕ) → LabelMap
 with_maybe s name None = s
 with_maybe s name (Some value) = with_value s name value

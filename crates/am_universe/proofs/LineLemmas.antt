@@ -1,4 +1,4 @@
--- The text of a set tells its pairs, and they tell the choice.
+-- The text of a set determines its pairs, and the pairs determine the choice.
 use Rattle.std.proofs.Common.{◌≡◌, ◌≢◌, ℕ, zero, suc, ◌<◌, Bool, true, false, cond, ◌==◌, nat_lt, List, [], ◌∷◌, ◌++◌, length, drop, get_or, Option, Some, None, ap, sym, ◌∙◌, refl, subst, inl, inr, arith, append_assoc}
 use Rattle.std.specs.Ordering.{nat_cmp}
 use Rattle.std.specs.Cmp.Lexicographic.{slice_cmp}
@@ -26,7 +26,8 @@ Split = List ℕ × List ℕ
 abbrev behind : ℕ → Split → Split
 behind c s = (c ∷ s.0, s.1)
 
--- whether a backslash stands before the text
+-- The text up to the closing quote, without escapes, and what follows. `after` says whether a
+-- backslash is before the text.
 abbrev unquoted : Bool → List ℕ → Split
 unquoted after [] = ([], [])
 unquoted true (c ∷ t) = behind (cond (c == 110) 10 c) (unquoted false t)
@@ -52,7 +53,7 @@ unquoted_all (c ∷ v) t = ap (unquoted false) (append_assoc (label_value_escape
 
 -- ---- A pair, and what follows.
 
--- what stands before the first `=`, and what follows it
+-- The text before the first `=`, and the text after it.
 abbrev named : List ℕ → Split
 named [] = ([], [])
 named (c ∷ t) = cond (c == 61) ([], t) (behind c (named t))
@@ -157,7 +158,7 @@ same_others : (name : List ℕ) (v : Option (List ℕ)) (ps qs : Pairs) → with
 same_others name None ps qs e = e
 same_others name (Some v) ps qs e = ap (drop 1) e
 
--- the pairs tell the first value, and the others are the same
+-- If the pairs are equal, the first values are equal, and so are the other pairs.
 same_before : (name : List ℕ) (v w : Option (List ℕ)) (ps qs : Pairs) → Find name ps ≡ None → Find name qs ≡ None → with_label name v ps ≡ with_label name w qs → (v ≡ w) × (ps ≡ qs)
 same_before name v w ps qs h k e =
     let same : v ≡ w = sym (find_first name v ps h) ∙ ap (Find name) e ∙ find_first name w qs k in

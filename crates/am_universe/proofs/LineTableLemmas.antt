@@ -1,4 +1,4 @@
--- A table of pieces holds those of a universe, and the pieces of a choice make its line.
+-- A table holds the pieces of a universe, and the pieces of a choice make its line.
 use Rattle.std.proofs.Common.{◌≡◌, ℕ, zero, suc, ◌+◌, ◌<◌, ◌≤◌, List, [], ◌∷◌, ◌++◌, length, map, take, drop, get_or, Option, Some, None, option_map, option_and_then, slice_get, slice_index, ap, sym, ◌∙◌, refl, arith, add-one, append_assoc, append-nil, length-append}
 use Rattle.std.proofs.lemmas.List.{length-map, get_or-map, take_more, take_all}
 use Rattle.std.proofs.lemmas.Option.{slice_get-map, slice_get-get_or, slice_get_within, get_or_from_slice_get, slice_get_read, same_Some}
@@ -16,7 +16,7 @@ use Rattle.am_universe.proofs.LabelValueLemmas.{value_in}
 use Rattle.am_universe.proofs.WholeChoiceLemmas.{admitted_at}
 use Rattle.am_universe.proofs.SetTextLemmas.{Pairs, joined, joined-cons, following, following-append, label_pairs-split}
 
--- the pieces that a choice takes of the first i labels
+-- The pieces that a choice picks from the first i labels, joined.
 abbrev pub pieces_text : List Label → List ℕ → ℕ → List ℕ
 pieces_text u c i = following (label_pairs (take i u) (take i c))
 
@@ -80,7 +80,7 @@ pub record PieceOf (u : List Label) (i p : ℕ) (piece : List ℕ) : Type 0 wher
   pub at : slice_get u i ≡ Some label
   pub text : piece ≡ piece_text label.name (value_at label p)
 
--- what it adds to the pieces before it
+-- The text that a label adds to the pieces before it.
 piece_behind : (name : List ℕ) (value : Option (List ℕ)) → following (with_label name value []) ≡ piece_text name value
 piece_behind name None = refl
 piece_behind name (Some v) = ap (λ t. 44 ∷ t) (append-nil (pair_text (name, v)))
@@ -131,7 +131,7 @@ length_line u c =
     let text : List ℕ = joined (label_pairs u c) in
     omega (arith, length-append (123 ∷ (text ++ 125 ∷ [])) (10 ∷ []), length-append text (125 ∷ []))
 
--- some of the pieces are no longer than the line
+-- The pieces of the first labels together are no longer than the line.
 pub pieces_fit : (u : List Label) (c : List ℕ) (i : ℕ) → length c ≡ length u → length (pieces_text u c i) ≤ length (line u c)
 pieces_fit u c i whole =
     let before : Pairs = label_pairs (take i u) (take i c) in

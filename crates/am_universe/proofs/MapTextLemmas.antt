@@ -1,4 +1,5 @@
--- The entries in memory are those of the label set, in its order, and the texts of those written so far.
+-- The entries in memory are those of the label set, in its order; and the texts of the entries that
+-- are written so far.
 use Rattle.std.proofs.Common.{◌≡◌, true, List, [], ◌∷◌, ◌++◌, ℕ, String, string_bytes, refl, sym, ap, subst, ◌∙◌, append_assoc}
 use lib.Dec.{T}
 use Rattle.std.specs.declared.alloc.Global.{Global}
@@ -36,14 +37,14 @@ entries_kept m o =
     ap entries (same_set (label_map_of m.entries) (from_sorted texts) (λ q. get-from_entries nat_list_cmp_total texts q ∙ sym (get-from_sorted (slice_cmp nat_cmp) texts q sorted)))
     ∙ entries-from_sorted (slice_cmp nat_cmp) texts sorted
 
--- one entry among others
+-- One entry, with others before and after it.
 pub entry_among : (all done left rest : List Entry) (e : Entry) (name value : List ℕ) → all ≡ done ++ left → left ≡ e ∷ rest → name ≡ string_bytes e.0 → value ≡ string_bytes e.1
     → entry_texts all ≡ entry_texts done ++ (name, value) ∷ entry_texts rest
 entry_among all done left rest e name value is next named valued =
     ap entry_texts (is ∙ ap (λ r. done ++ r) next) ∙ map-append (λ (x : Entry). (string_bytes x.0, string_bytes x.1)) done (e ∷ rest)
     ∙ ap (λ n. entry_texts done ++ (n, string_bytes e.1) ∷ entry_texts rest) (sym named) ∙ ap (λ v. entry_texts done ++ (name, v) ∷ entry_texts rest) (sym valued)
 
--- one entry behind others
+-- One entry after others.
 pub entry_behind : (done : List Entry) (e : Entry) (name value : List ℕ) → name ≡ string_bytes e.0 → value ≡ string_bytes e.1 → entry_texts (done ++ e ∷ []) ≡ entry_texts done ++ (name, value) ∷ []
 entry_behind done e name value named valued = entry_among (done ++ e ∷ []) done (e ∷ []) [] e name value refl refl named valued
 

@@ -1,4 +1,5 @@
--- What is in a list: an item at a position, what is numbered, and what is in lists joined end to end.
+-- What is in a list: an item at a position, an item of a numbered list, and an item of joined
+-- lists.
 use Rattle.std.proofs.Common.{◌≡◌, inl, inr, ℕ, zero, suc, ◌+◌, List, [], ◌∷◌, Some}
 use Rattle.std.proofs.Common.{drop, refl, ap, ◌∙◌, arith}
 use Rattle.std.specs.Prelude.{slice_get}
@@ -17,7 +18,7 @@ in_at [] k x e = absurd (cc)
 in_at (y ∷ xs) zero x e = inl (cc)
 in_at (y ∷ xs) (suc k) x e = inr (in_at xs k x e)
 
--- what is left from a position on is what stands there, and what is behind it
+-- The rest of a list from a position on is the item there, followed by the rest after it.
 pub left_at : {X : Type 0} (xs : List X) (i : ℕ) (x : X) → slice_get xs i ≡ Some x
     → drop i xs ≡ x ∷ drop (i + 1) xs
 left_at [] i x e = absurd (cc)
@@ -27,7 +28,7 @@ left_at (y ∷ xs) (suc i) x e =
 
 -- ---- Numbered.
 
--- a number and the item that stands there
+-- A number and the item that it counts.
 abbrev pub IsNumbered : {X : Type 0} → ℕ → List X → ℕ × X → Type 0
 IsNumbered from xs p = (k : ℕ) × (p.0 ≡ from + k) × (slice_get xs k ≡ Some p.1)
 
@@ -41,7 +42,7 @@ is_numbered from (x ∷ xs) p (inr later) =
     let r = is_numbered (from + 1) xs p later in
     let at : p.0 ≡ from + suc r.0 = omega (arith, r.1) in (suc r.0, at, r.2)
 
--- counted from zero the number is the position
+-- If the count starts at 0, the number of an item is its position.
 pub item_at : {X : Type 0} (xs : List X) (p : ℕ × X) → IsIn (enumerate_from 0 xs) p
     → slice_get xs p.0 ≡ Some p.1
 item_at xs p h =

@@ -1,4 +1,5 @@
--- A text written between quotes, run by run: the bytes before `start` are written, and those from there to `i` stand for themselves.
+-- A text written between quotes, run by run. The bytes before `start` are written, and the bytes
+-- from `start` to `i` stand for themselves.
 use Rattle.std.proofs.Common.{◌≡◌, ℕ, ◌+◌, ◌-◌, ◌<◌, ◌≤◌, List, [], ◌∷◌, ◌++◌, length, get_or, take, drop, sym, ap, ◌∙◌, append_assoc, length-drop, arith}
 use Rattle.std.proofs.Math.Seq.{take-length}
 use Rattle.std.proofs.lemmas.List.{take_more, get_or-drop}
@@ -11,22 +12,22 @@ use Rattle.am_universe.proofs.Writing.{pieces_split, pieces_more}
 abbrev run : ℕ → ℕ → List ℕ → List ℕ
 run start i text = take (i - start) (drop start text)
 
--- those stand for themselves
+-- The bytes from `start` to `i` stand for themselves.
 abbrev IsPlain : ℕ → ℕ → List ℕ → Type 0
 IsPlain start i text = flat_map label_value_escape (take i text) ≡ flat_map label_value_escape (take start text) ++ run start i text
 
--- the run, and the rest
+-- The run and the rest complete the text.
 pub run_then_rest : (start i : ℕ) (text : List ℕ) → IsPlain start i text → flat_map label_value_escape (take start text) ++ (run start i text ++ flat_map label_value_escape (drop i text)) ≡ flat_map label_value_escape text
 run_then_rest start i text plain =
     sym (append_assoc (flat_map label_value_escape (take start text)) (run start i text) (flat_map label_value_escape (drop i text))) ∙ ap (λ t. t ++ flat_map label_value_escape (drop i text)) (sym plain) ∙ pieces_split label_value_escape text i
 
--- the run, and the escape of the byte behind it
+-- The run, followed by the escape of the byte after it.
 pub run_then_escape : (start i : ℕ) (text escape : List ℕ) → i < length text → IsPlain start i text → escape ≡ label_value_escape (get_or text i 0)
     → flat_map label_value_escape (take start text) ++ (run start i text ++ escape) ≡ flat_map label_value_escape (take (i + 1) text)
 run_then_escape start i text escape h plain e =
     sym (append_assoc (flat_map label_value_escape (take start text)) (run start i text) escape) ∙ ap (λ t. t ++ escape) (sym plain) ∙ ap (λ t. flat_map label_value_escape (take i text) ++ t) e ∙ pieces_more [] label_value_escape text i 0 h
 
--- the run, the escape, and the rest
+-- The run, the escape and the rest complete the text.
 pub run_then_escape_then_rest : (start i : ℕ) (text escape : List ℕ) → i < length text → IsPlain start i text → escape ≡ label_value_escape (get_or text i 0)
     → flat_map label_value_escape (take start text) ++ (run start i text ++ (escape ++ flat_map label_value_escape (drop (i + 1) text))) ≡ flat_map label_value_escape text
 run_then_escape_then_rest start i text escape h plain e =
@@ -35,7 +36,7 @@ run_then_escape_then_rest start i text escape h plain e =
     ap (λ t. before ++ t) (sym (append_assoc (run start i text) escape rest)) ∙ sym (append_assoc before (run start i text ++ escape) rest)
     ∙ ap (λ t. t ++ rest) (run_then_escape start i text escape h plain e) ∙ pieces_split label_value_escape text (i + 1)
 
--- behind an escape the next run is empty
+-- After an escape the next run is empty.
 pub plain_at : (i j : ℕ) (text : List ℕ) → i ≡ j → IsPlain i j text
 plain_at i j text e = grind (arith, common_steps)
 
@@ -46,13 +47,13 @@ run_more start i text order h =
     ap (λ n. take n (drop start text)) behind ∙ take_more (drop start text) (i - start) 0 (omega (arith, length-drop start text))
     ∙ ap (λ b. run start i text ++ b ∷ []) (get_or-drop start text (i - start) 0 ∙ ap (λ n. get_or text n 0) back)
 
--- a byte more that stands for itself
+-- A run stays one with one more byte that stands for itself.
 pub plain_more : (start i : ℕ) (text : List ℕ) → start ≤ i → i < length text → IsPlain start i text → label_value_escape (get_or text i 0) ≡ get_or text i 0 ∷ [] → IsPlain start (i + 1) text
 plain_more start i text order h plain e =
     let p : flat_map label_value_escape (take (i + 1) text) ≡ flat_map label_value_escape (take i text) ++ label_value_escape (get_or text i 0) = sym (pieces_more [] label_value_escape text i 0 h) in
     p ∙ ap (λ t. t ++ label_value_escape (get_or text i 0)) plain ∙ append_assoc (flat_map label_value_escape (take start text)) (run start i text) (label_value_escape (get_or text i 0))
     ∙ ap (λ t. flat_map label_value_escape (take start text) ++ t) (ap (λ t. run start i text ++ t) e ∙ sym (run_more start i text order h))
 
--- the last run, when the text has come to its end
+-- At the end of the text, the last run completes it.
 pub run_then_end : (start i : ℕ) (text : List ℕ) → i ≡ length text → IsPlain start i text → flat_map label_value_escape (take start text) ++ run start (length text) text ≡ flat_map label_value_escape text
 run_then_end start i text e plain = ap (λ n. flat_map label_value_escape (take start text) ++ run start n text) (sym e) ∙ sym plain ∙ ap (λ n. flat_map label_value_escape (take n text)) e ∙ ap (λ t. flat_map label_value_escape t) (take-length text)

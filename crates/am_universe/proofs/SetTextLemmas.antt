@@ -1,4 +1,4 @@
--- The text of a label set, label after label.
+-- The text of a label set, label by label.
 use Rattle.std.proofs.Common.{◌≡◌, ℕ, zero, suc, ◌+◌, ◌<◌, List, [], ◌∷◌, ◌++◌, length, map, take, drop, Some, None, slice_get, slice_index, option_and_then, ap, sym, ◌∙◌, refl, arith, add-one, append_assoc, append-nil}
 use Rattle.std.specs.List.{join_with_byte}
 use Rattle.std.proofs.lemmas.List.{take_all}
@@ -12,16 +12,16 @@ use Rattle.am_universe.proofs.LabelPairLemmas.{with_label-append, label_pairs-mo
 abbrev pub Pairs : Type 0
 Pairs = List (List ℕ × List ℕ)
 
--- the pairs in a row, with a comma between each two
+-- The texts of the pairs, joined by commas.
 abbrev pub joined : Pairs → List ℕ
 joined pairs = join_with_byte 44 (map pair_text pairs)
 
--- what separates a pair from those before it
+-- The separator between these pairs and the next one; empty if there are none.
 abbrev pub separator : Pairs → List ℕ
 separator [] = []
 separator (p ∷ ps) = 44 ∷ []
 
--- the pairs that follow another, each behind its comma
+-- The texts of pairs that follow another pair, each after a comma.
 abbrev pub following : Pairs → List ℕ
 following [] = []
 following (p ∷ ps) = 44 ∷ (pair_text p ++ following ps)
@@ -34,14 +34,14 @@ pub following-append : (ps qs : Pairs) → following (ps ++ qs) ≡ following ps
 following-append [] qs = refl
 following-append (p ∷ ps) qs = ap (λ t. 44 ∷ (pair_text p ++ t)) (following-append ps qs) ∙ ap (λ t. 44 ∷ t) (sym (append_assoc (pair_text p) (following ps) (following qs)))
 
--- one pair among others
+-- One pair, with others before and after it.
 pub joined_through : (ps : Pairs) (p : List ℕ × List ℕ) (qs : Pairs) → joined (ps ++ p ∷ qs) ≡ joined ps ++ ((separator ps ++ pair_text p) ++ following qs)
 joined_through [] p qs = joined-cons p qs
 joined_through (o ∷ ps) p qs =
     joined-cons o (ps ++ p ∷ qs) ∙ ap (λ t. pair_text o ++ t) (following-append ps (p ∷ qs)) ∙ sym (append_assoc (pair_text o) (following ps) (following (p ∷ qs)))
     ∙ ap (λ t. t ++ following (p ∷ qs)) (sym (joined-cons o ps))
 
--- one pair behind others
+-- One pair after others.
 pub joined_more : (ps : Pairs) (p : List ℕ × List ℕ) → joined (ps ++ p ∷ []) ≡ joined ps ++ (separator ps ++ pair_text p)
 joined_more ps p = joined_through ps p [] ∙ ap (λ t. joined ps ++ t) (append-nil (separator ps ++ pair_text p))
 

@@ -1,4 +1,4 @@
--- Universes: where a name stands, and what the faults of a label say.
+-- Universes: the position of a name, and what the faults of a label mean.
 use Rattle.std.proofs.Common.{◌≡◌, ◌≢◌, ℕ, ◌+◌, ◌<◌, ◌≤◌, List, [], ◌∷◌, ◌++◌, length, map, take, drop, Bool, true, cond, ◌||◌, Option, Some, None, option_map, is_some, MatchOption, IfSome, IfNone, Contains, String, string_bytes, slice_get, get_or, refl, sym, ap, ◌∙◌, lit≤, arith}
 use Rattle.std.specs.List.{AllWithin, HoldsAt, IsDistinct, list_any}
 use Rattle.std.specs.Cmp.Lexicographic.{bytes_decides}
@@ -16,14 +16,14 @@ use Rattle.am_universe.specs.declared.kind.Kind.TheVariants as kinds
 use Rattle.std.specs.Option.{option_or}
 use Rattle.am_universe.specs.Universe.{Label, IsUniverse, names, is_label_name, name_fault, count_fault, value_fault, values_fault, label_values_fault, fault_at}
 
--- no labels are a universe
+-- The empty list of labels is a universe.
 pub IsUniverse-empty : IsUniverse []
 unfolding IsDistinct
 IsUniverse-empty = record { at_most = lit≤ tt; labels = tt; distinct = tt }
 
 -- ---- Where a name stands.
 
--- what `Iterator::position` answers about a name
+-- What `Iterator::position` promises about its result for a name.
 abbrev pub IsFirstOfName : List Label → List ℕ → Option ℕ → Type 0
 IsFirstOfName u name r = MatchOption r
     (AllWithin (λ l. l.name ≢ name) u 0 (length u))
@@ -46,7 +46,7 @@ no_name u name None h = λ k.
     h k.0 no_label (omega arith) inside (sym (get_or-map (λ l. l.name) u k.0 no_label name inside) ∙ k.2)
 no_name u name (Some i) h = tt
 
--- the test that `name_fault` makes of the names, and what `position` answers
+-- The test that `name_fault` makes of the names agrees with the result of `position`.
 has_name : (u : List Label) (name : List ℕ) (r : Option ℕ) → IfSome r (λ i. slice_get (names u) i ≡ Some name) → IfNone r (¬ Contains (names u) name) → list_any (λ l. same_text l.name name) u ≡ is_some r
 has_name u name None found none = list_any_none (λ l. same_text l.name name) u (λ k d inside.
     let apart : same_text (get_or u k d).name name ≡ true → ⊥ = λ e. none (k, omega (arith, length-map u (λ (l : Label). l.name)), get_or-map (λ l. l.name) u k d name inside ∙ (bytes_decides (get_or u k d).name name).0 e) in
@@ -58,7 +58,7 @@ has_name u name (Some i) found none =
 
 -- ---- A name beside the others.
 
--- a name of the form is at fault where `position` finds it
+-- A name of the right form is at fault exactly if `position` finds it.
 pub name_fault-of_form : (u : List Label) (name : List ℕ) (r : Option ℕ) (taken : Bool) → IfSome r (λ i. slice_get (names u) i ≡ Some name)
     → IfNone r (¬ Contains (names u) name) → is_some r ≡ taken → is_label_name name ≡ true
     → name_fault u name ≡ cond taken (Some kinds.Duplicate) None

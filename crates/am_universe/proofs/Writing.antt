@@ -1,4 +1,4 @@
--- What is written step by step.
+-- Facts about texts that are written step by step.
 use Rattle.std.proofs.Common.{◌≡◌, ℕ, ◌+◌, ◌-◌, ◌<◌, ◌≤◌, List, [], ◌∷◌, ◌++◌, length, get_or, take, drop, Result, Ok, Err, IsErr, refl, subst, sym, ap, ◌∙◌, append_assoc, append-nil, length-append, length-drop, arith}
 use Rattle.std.proofs.Math.Seq.{drop-append_seam, take-add, take-append-add}
 use Rattle.std.proofs.lemmas.List.{drop-drop, take-append-le, take_all, take-append-drop, take_more}
@@ -8,8 +8,8 @@ use Rattle.std.specs.Result.{IsErrAnd}
 use Rattle.am_universe.specs.declared.kind.Kind.{Kind}
 use Rattle.am_universe.specs.Sink.{GrowsByProperPrefix, Wrote, WroteInPart, Writes}
 
--- ---- A text in pieces, one for each item of a list, between a head and a tail. A loop keeps that the head and the pieces of the first
--- items are written.
+-- ---- A text in pieces, one for each item of a list, between a head and a tail. The invariant of a
+-- loop says that the head and the pieces of the first items are written.
 
 pub pieces_split : {X : Type 0} (f : X → List ℕ) (xs : List X) (i : ℕ) → flat_map f (take i xs) ++ flat_map f (drop i xs) ≡ flat_map f xs
 pieces_split f xs i = sym (flat_map-append f (take i xs) (drop i xs)) ∙ ap (flat_map f) (take-append-drop i xs)
@@ -23,7 +23,7 @@ pieces_more head f xs i d h =
 pub pieces_end : {X : Type 0} (head : List ℕ) (f : X → List ℕ) (xs : List X) (tail : List ℕ) (i : ℕ) → length xs ≤ i → (head ++ flat_map f (take i xs)) ++ tail ≡ head ++ (flat_map f xs ++ tail)
 pieces_end head f xs tail i h = append_assoc head (flat_map f (take i xs)) tail ∙ ap (λ t. head ++ (flat_map f t ++ tail)) (take_all i xs h)
 
--- the piece at which the writing stopped, and the rest
+-- What was written, the piece at which the writing stopped, and the rest are the whole text.
 pub pieces_through : {X : Type 0} (head : List ℕ) (f : X → List ℕ) (xs : List X) (tail : List ℕ) (i : ℕ) (d : X) → i < length xs
     → (head ++ flat_map f (take i xs)) ++ (f (get_or xs i d) ++ (flat_map f (drop (i + 1) xs) ++ tail)) ≡ head ++ (flat_map f xs ++ tail)
 pieces_through head f xs tail i d h =
@@ -33,11 +33,11 @@ pieces_through head f xs tail i d h =
 
 -- ---- A text of which some bytes at the front are written.
 
--- the part of a text from i on, as `&text[i..]` gives it
+-- The part of a text from i on, as `&text[i..]` returns it.
 rest_from : (i : ℕ) (text : List ℕ) → take (length text - i) (drop i text) ≡ drop i text
 rest_from i text = take_all (length text - i) (drop i text) (omega (arith, length-drop i text))
 
--- n more bytes behind the first i
+-- n more bytes after the first i.
 pub more_taken : (start now later text : List ℕ) (i n : ℕ) → now ≡ start ++ take i text → later ≡ now ++ take n (take (length text - i) (drop i text)) → later ≡ start ++ take (i + n) text
 more_taken start now later text i n before more =
     more ∙ ap (λ t. now ++ take n t) (rest_from i text) ∙ ap (λ t. t ++ take n (drop i text)) before ∙ append_assoc start (take i text) (take n (drop i text)) ∙ ap (λ t. start ++ t) (sym (take-add i n text))
@@ -64,11 +64,13 @@ pub taken_in_part : (old text : List ℕ) (count : ℕ) → count < length text 
 unfolding GrowsByProperPrefix
 taken_in_part old text count proper = (count, proper, refl)
 
--- Each text is cut off that `again` puts together again: `again` takes the pieces that are known off its front, and puts them back.
+-- Every text that `again` leaves the same was cut off: only a proper prefix of it was written.
+-- `again` takes the known pieces off the front of a text, and puts them back.
 unfoldable pub IsCut : List ℕ → List ℕ → (List ℕ → List ℕ) → Type 0
 IsCut old new again = (text : List ℕ) → again text ≡ text → GrowsByProperPrefix old new text
 
--- `grind` matches the first part of each conclusion with what is known of the piece that was cut off, and of the pieces before it.
+-- `grind` matches the first part of each conclusion with what is known of the piece that was cut
+-- off, and of the pieces before it.
 module _ (old new : List ℕ) where
   pub cut_piece : (a : List ℕ) → GrowsByProperPrefix old new a → GrowsByProperPrefix old new a × (IsCut old new (λ text. a) × IsCut old new (λ text. a ++ drop (length a) text))
   unfolding IsCut
@@ -88,18 +90,19 @@ module _ (old new : List ℕ) where
   unfolding IsCut
   cut_off again p = (p, p)
 
--- a list around the item that a loop reads
+-- A list, split at the item that a loop reads.
 pub around_read : {X : Type 0} (xs : List X) (i : ℕ) (d : X) → i < length xs → (get_or xs i d ≡ get_or xs i d) × (xs ≡ take i xs ++ (get_or xs i d ∷ drop (i + 1) xs))
 around_read xs i d h = (refl, sym (take-append-drop (i + 1) xs) ∙ ap (λ t. t ++ drop (i + 1) xs) (take_more xs i d h) ∙ append_assoc (take i xs) (get_or xs i d ∷ []) (drop (i + 1) xs))
 
 pub ruleset steps = (append_assoc, append-nil, flat_map-append, take_all, take_at_read, around_read, more_taken, taken_in_part, drop-append_seam, dropped_pieces, cut_piece, cut_behind, cut_off)
 
--- ---- One write behind another. A definition that ends `a ++ (b ++ c)` is met by calls that write a, b and c in turn:
--- `first ⟩ second ⟩ third`, and where the second failed, `first ⟩ fails _ answer second`.
+-- ---- One write behind another. Calls that write a, b and c in turn write a text that is defined
+-- as `a ++ (b ++ c)`: `first ⟩ second ⟩ third`, or, if the second failed,
+-- `first ⟩ fails _ answer second`.
 
 infixr 20 ◌⟩◌
 module _ {S : Type 0} {taken : S → List ℕ} {failures : S → ℕ} where
-  -- nothing is written of the empty text
+  -- The empty text is written by doing nothing.
   pub wrote_nothing : {s : S} → Wrote taken failures s s []
   wrote_nothing {s} = record { all = sym (append-nil (taken s)); none_failed = refl }
 
@@ -112,28 +115,28 @@ module _ {S : Type 0} {taken : S → List ℕ} {failures : S → ℕ} where
   pub wrote_as : {s e : S} {a b : List ℕ} → a ≡ b → Wrote taken failures s e a → Wrote taken failures s e b
   wrote_as {s} same w = record { all = w.all ∙ ap (λ t. taken s ++ t) same; none_failed = w.none_failed }
 
-  -- a write that failed behind one that did not
+  -- A write that failed, after one that did not.
   pub stopped_then : {s m e : S} {a b : List ℕ} → Wrote taken failures s m a → WroteInPart taken failures m e b → WroteInPart taken failures s e (a ++ b)
   stopped_then {s} {m} {e} {a} {b} v w = record {
     part = grows_behind _ _ a b (rw v.all at w.part);
     one_failed = w.one_failed ∙ ap (λ n. n + 1) v.none_failed;
   }
 
-  -- a failed write of a text is one of any text that goes on from it
+  -- A failed write of a text is also one of any text that begins with it.
   pub stopped_on : {s e : S} {a : List ℕ} (b : List ℕ) → WroteInPart taken failures s e a → WroteInPart taken failures s e (a ++ b)
   stopped_on b w = record { part = grows_on _ _ _ b w.part; one_failed = w.one_failed }
 
-  -- a write behind one that did not fail
+  -- A write after one that did not fail.
   pub ◌⟩◌ : {T : Type 0} {s m e : S} {a b : List ℕ} {r : Result T Kind} → Wrote taken failures s m a → Writes taken failures m e b r → Writes taken failures s e (a ++ b) r
   ◌⟩◌ {r = Ok t} v w = record { ok = wrote_then v w.ok; err = tt }
   ◌⟩◌ {r = Err k} v w = record { ok = tt; err = (w.err.0, stopped_then v w.err.1) }
 
-  -- the write that failed, by a `?`, of a text that goes on
+  -- A write that failed at a `?`, before the rest of the text.
   pub fails : {T U : Type 0} {s e : S} {a : List ℕ} (b : List ℕ) {kind : Kind} {r : Result T Kind} → IsErr r × IsErrAnd r (λ k. k ≡ kind) → Writes {T = U} taken failures s e a (Err kind) → Writes taken failures s e (a ++ b) r
   fails b {r = Ok t} h w = absurd h.1
   fails b {r = Err k} h w = record { ok = tt; err = (h.1 ∙ w.err.0, stopped_on b w.err.1) }
 
-  -- all was written, and the answer is of another type
+  -- All of the text was written, whatever the type of the answer.
   pub ends : {T : Type 0} {s e : S} {a : List ℕ} (t : T) → Wrote taken failures s e a → Writes {T = T} taken failures s e a (Ok t)
   ends t w = record { ok = w; err = tt }
 

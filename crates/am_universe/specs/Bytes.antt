@@ -1,7 +1,7 @@
--- Bytes by their names: those of ASCII that have a meaning of their own in a text.
+-- Names for the ASCII bytes that have a meaning of their own in a text.
 use Rattle.std.specs.Prelude.{ℕ}
 
--- The name says the character, as `comma` for `,`.
+-- Each is named after its character, as `comma` for `,`.
 abbrev pub line_feed : ℕ
 line_feed = 10
 

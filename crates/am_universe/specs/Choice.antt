@@ -5,9 +5,9 @@ use Rattle.std.specs.Prelude.{◌≡◌, ℕ, List, [], ◌∷◌, length, map, 
 use Rattle.std.specs.Prelude.{nat_lt, ◌&&◌, IsTrue}
 use Rattle.std.specs.List.{flat_map, range_with_len}
 
--- All whole choices over labels of these sizes, in declared order: as in a dictionary, in which the
--- first label weighs most. Without labels there is one, the empty choice. No code makes this list.
--- It is what answers are compared with.
+-- All whole choices over labels of these sizes, in declared order. This is the order of a
+-- dictionary, in which the first label counts most. Without labels there is one choice, the empty
+-- one. No code makes this list. Contracts compare answers with it.
 -- Source: own choice.
 -- Example: for the sizes 2 and 3 they are 0 0, 0 1, 0 2, 1 0, 1 1 and 1 2.
 abbrev pub choices : List ℕ → List (List ℕ)

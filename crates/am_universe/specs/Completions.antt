@@ -1,4 +1,4 @@
--- The completions of a prefix of a choice, as the term is used of search.
+-- The completions of a prefix of a choice. The term is the usual one in search.
 use Rattle.std.specs.Prelude.{ℕ, List, nat_eq}
 use Rattle.std.specs.List.{filter, starts_with}
 use Rattle.am_universe.specs.Choice.{choices}

@@ -14,22 +14,22 @@ abbrev pub pointer_byte_text : ℕ → List ℕ
 pointer_byte_text c =
     if c == backslash then codes "\\\\" else if c == line_feed then codes "\\n" else c ∷ []
 
--- The pointer, where there is one, and what separates it from the word for the kind.
+-- The pointer and the separator after it; nothing for the empty pointer.
 abbrev pub pointer_part : List ℕ → List ℕ
 pointer_part pointer =
     if length pointer == 0 then [] else flat_map pointer_byte_text pointer ++ codes ": "
 
--- A fault of writing or of memory stands at no part of the input.
+-- A fault of writing or of memory is at no part of the input.
 abbrev pub has_no_place : Kind → Bool
 has_no_place kinds.Write = true
 has_no_place kinds.Memory = true
 has_no_place _ = false
 
--- The line for a fault: `amcover:`, the place, the pointer where there is one, and the word for the
--- kind. A fault of writing or of memory has neither place nor pointer.
+-- The line for a fault: `amcover:`, the place, the pointer if it is not empty, and the word for the
+-- kind. The line for a fault of writing or of memory has neither place nor pointer.
 -- Source: own choice.
 -- Example: for a universe file whose first label has the values `db` and `db` it is
--- `amcover: universe: /labels/0/values/1: duplicate`, and where memory ran out `amcover: memory`.
+-- `amcover: universe: /labels/0/values/1: duplicate`, and if memory ran out `amcover: memory`.
 abbrev pub place_part : Fault → List ℕ
 place_part fault =
     if has_no_place fault.kind then []
@@ -38,8 +38,8 @@ place_part fault =
 abbrev pub fault_text : Fault → List ℕ
 fault_text fault = codes "amcover: " ++ (place_part fault ++ (kind_text fault.kind ++ codes "\n"))
 
--- The exit status of the program after a fault: 4 where writing failed, 3 for memory, 1 for every
--- other.
+-- The exit status of the program after a fault: 4 if writing failed, 3 if memory ran out, and 1
+-- otherwise.
 -- Source: own choice.
 -- Example: after `amcover: question: question-syntax` it is 1, and after `amcover: write` it is 4.
 abbrev pub status_of : Kind → ℕ

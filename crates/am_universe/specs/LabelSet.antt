@@ -17,27 +17,28 @@ LabelMap = FinMap (slice_cmp nat_cmp) (List ℕ)
 abbrev pub value_of : LabelMap → List ℕ → List ℕ
 value_of s name = unwrap_or (get s name) []
 
--- The set with this value of a label. The empty value takes the label out.
+-- The set with this value of a label; the empty value removes the label.
 abbrev pub with_value : LabelMap → List ℕ → List ℕ → LabelMap
 with_value s name [] = remove s name
 with_value s name (c ∷ cs) = insert s name (c ∷ cs)
 
--- The value at a position of a label, unless that is absence.
+-- The value at a position of a label; `None` if it is absence, or if the label has no such
+-- position.
 abbrev pub value_at : Label → ℕ → Option (List ℕ)
 value_at label position = option_and_then (λ v. v) (slice_get label.values position)
 
--- The pairs with this label in front, where it has a text.
+-- The pairs with this label added in front, if it has a text.
 abbrev pub with_label : List ℕ → Option (List ℕ) → List (List ℕ × List ℕ) → List (List ℕ × List ℕ)
 with_label name None pairs = pairs
 with_label name (Some value) pairs = (name, value) ∷ pairs
 
--- The labels for which a choice takes a text, each with that text, in declared order.
+-- The labels for which a choice picks a text, each with that text, in declared order.
 abbrev pub label_pairs : List Label → List ℕ → List (List ℕ × List ℕ)
 label_pairs [] c = []
 label_pairs (label ∷ u) [] = []
 label_pairs (label ∷ u) (p ∷ c) = with_label label.name (value_at label p) (label_pairs u c)
 
--- The label set of a choice: the labels for which the choice takes a text, each with that text.
+-- The label set of a choice: the labels for which the choice picks a text, each with that text.
 -- Source: own choice.
 -- Example: let `team` be `db` or `web`, and let `severity` be absent or `warning`. Then the choice
 -- 1 0 has the label set `{team="web"}`.

@@ -9,7 +9,7 @@ use Rattle.am_universe.specs.LabelSet.{LabelMap}
 abbrev pub label_map_code : Coded LabelMap
 label_map_code = code (coded_list coded_ℕ) (coded_list coded_ℕ)
 
--- The texts of a list of entries, without where they lie in memory; and the label map of that list.
+-- The texts of a list of entries, without their location in memory; and the label map of that list.
 abbrev pub entry_texts : List (String Global × String Global) → List (List ℕ × List ℕ)
 entry_texts entries = map (λ e. (string_bytes e.0, string_bytes e.1)) entries
 

@@ -5,7 +5,7 @@ use Rattle.std.specs.Global.{Vec}
 use Rattle.am_universe.specs.Universe.{Label}
 use Rattle.am_universe.specs.WrittenLabelSet.{pair_text, line}
 
--- A label with a value as it stands behind others, its comma in front. Absence is not written.
+-- The text of a label with a value, with a comma in front. Absence has the empty text.
 -- Source: own choice.
 -- Example: `,team="db"`.
 abbrev pub piece_text : List ℕ → Option (List ℕ) → List ℕ
@@ -24,11 +24,11 @@ texts_of_pieces pieces = map (λ piece. piece.items) pieces.items
 abbrev pub HasPieces : List Label → List (Vec (Vec ℕ)) → Type 0
 HasPieces u labels = map texts_of_pieces labels ≡ map label_pieces u
 
--- There is room for the line of each whole choice.
+-- There is room for the line of each list that has as many positions as there are labels.
 abbrev pub HasRoom : List Label → ℕ → Type 0
 HasRoom u room = (c : List ℕ) → length c ≡ length u → length (line u c) ≤ room
 
--- A table of a universe: it holds the pieces, and can hold each line.
+-- A table of a universe: it holds the pieces, and its buffer has room for each line.
 pub record IsLineTable (u : List Label) (labels : List (Vec (Vec ℕ))) (buffer : Vec ℕ)
     : Type 0 where
   pub pieces : HasPieces u labels

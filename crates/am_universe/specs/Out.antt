@@ -1,4 +1,4 @@
--- What a clause reads of an `Out`, a sink over a writer.
+-- What contracts see of an `Out`, a sink over a writer.
 use Rattle.std.specs.Prelude.{ℕ, List, length}
 use Rattle.std.specs.declared.io.traits.Write.{Ghosts}
 use Rattle.am_universe.specs.declared.out.Out.{Out}
@@ -12,6 +12,6 @@ module _ {W : Type 0} {w : Ghosts W} where
   abbrev pub out_failures : Out W w → ℕ
   out_failures o = length o.failures.items
 
-  -- The writer as it was handed in.
+  -- The writer as it was at the start.
   abbrev pub out_start : Out W w → W
   out_start o = o.start.value

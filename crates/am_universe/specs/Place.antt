@@ -1,4 +1,4 @@
--- Where a fault stands: a word for each input of a call, for its output and for memory.
+-- Where a fault is: a word for each input of a call, for its output and for memory.
 use Rattle.std.specs.Prelude.{ℕ, List, codes}
 use Rattle.am_universe.specs.declared.place.Place.{Place}
 use Rattle.am_universe.specs.declared.place.Place.TheVariants.{Universe, Config, Silences, Alerts}

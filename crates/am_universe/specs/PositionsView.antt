@@ -1,4 +1,4 @@
--- How positions are stored: at the front of `MAX_POSITIONS` cells, and 0 in the others.
+-- How positions are stored: in the first of `MAX_POSITIONS` cells. The other cells are 0.
 use Rattle.std.specs.Prelude.{◌≡◌, ℕ, ◌≤◌, ◌-◌, List, ◌++◌, length, take, drop, replicate}
 use Rattle.std.proofs.Common.{arith, length-take-le, take-append-drop}
 use Rattle.am_universe.specs.declared.positions.Positions.TheInside.{Inside}
@@ -13,13 +13,13 @@ abbrev pub stored_form : List ℕ → Inside
 stored_form c =
     record { positions = c ++ replicate (MAX_POSITIONS - length c) 0; len = length c }
 
--- No more positions than cells, and 0 in the cells behind them.
+-- There are no more positions than cells, and the cells after them are 0.
 pub record IsStored (a : Inside) : Type 0 where
   pub cells : length a.positions ≡ MAX_POSITIONS
   pub within : a.len ≤ MAX_POSITIONS
   pub zeros : drop a.len a.positions ≡ replicate (MAX_POSITIONS - a.len) 0
 
--- What is stored is what its positions are stored as.
+-- Storing the positions that a stored form holds gives that form again.
 pub stored_again : (a : Inside) → IsStored a → stored_form (view_of a) ≡ a
 stored_again a h =
     let count = length-take-le a.len a.positions (omega (arith, h.cells, h.within)) in

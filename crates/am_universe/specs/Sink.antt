@@ -1,30 +1,30 @@
--- What a call that writes did to a sink. A sink has two meanings, which its trait gives: `taken`,
--- the bytes that it has taken, and `failures`, how many takes failed.
+-- What a call that writes did to a sink. Contracts see two things of a sink, which its trait
+-- declares: `taken`, the bytes that it has taken, and `failures`, how many takes failed.
 use Rattle.std.specs.Prelude.{◌≡◌, ℕ, ◌+◌, ◌<◌, List, ◌++◌, length, take, Result, OnOk, IfErr}
 use Rattle.am_universe.specs.declared.kind.Kind.{Kind}
 use Rattle.am_universe.specs.declared.kind.Kind.TheVariants as kinds
 
--- The new bytes are the old ones and a part of the text from its front, but not all of it.
+-- The new bytes are the old ones, followed by a proper prefix of the text.
 unfoldable pub GrowsByProperPrefix : List ℕ → List ℕ → List ℕ → Type 0
 GrowsByProperPrefix old new text =
     (count : ℕ) × (count < length text) × (new ≡ old ++ take count text)
 
--- Between two states of a sink the whole text was taken, and no take failed.
+-- Between two states of a sink, the whole text was taken, and no take failed.
 pub record Wrote {S : Type 0} (taken : S → List ℕ) (failures : S → ℕ) (before after : S)
     (text : List ℕ) : Type 0 where
   pub all : taken after ≡ taken before ++ text
   pub none_failed : failures after ≡ failures before
 
--- Between two states of a sink a proper prefix of the text was taken, and exactly one take failed.
+-- Between two states of a sink, a proper prefix of the text was taken, and exactly one take failed.
 pub record WroteInPart {S : Type 0} (taken : S → List ℕ) (failures : S → ℕ) (before after : S)
     (text : List ℕ) : Type 0 where
   pub part : GrowsByProperPrefix (taken before) (taken after) text
   pub one_failed : failures after ≡ failures before + 1
 
--- A call wrote the text: at `Ok` all of it, without a failure; at `Err`, which is `Kind::Write`, a
--- proper prefix, with one failure.
+-- A call wrote the text. If it returned `Ok`, it wrote all of it, and no take failed. If it
+-- returned `Err`, which is then `Kind::Write`, it wrote a proper prefix, and one take failed.
 -- Source: own choice.
--- Example: of the text `{}` a call that answers `Err` has written nothing or `{`.
+-- Example: a call that is to write `{}` and returns `Err` has written nothing or `{`.
 pub record Writes {S T : Type 0} (taken : S → List ℕ) (failures : S → ℕ) (before after : S)
     (text : List ℕ) (result : Result T Kind) : Type 0 where
   pub ok : OnOk result (Wrote taken failures before after text)

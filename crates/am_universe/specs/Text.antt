@@ -4,7 +4,7 @@ use Rattle.std.specs.List.{flat_map}
 use Rattle.am_universe.specs.Bytes.{backslash, double_quote, line_feed}
 use lib.Pointwise.{pointwise}
 
--- Two texts have the same bytes, as a test.
+-- Tests whether two texts have the same bytes.
 abbrev pub same_text : List ℕ → List ℕ → Bool
 same_text = pointwise nat_eq
 

@@ -16,8 +16,8 @@ use Rattle.am_universe.specs.declared.label_fault.LabelPart.TheVariants as parts
 use Rattle.am_universe.specs.Bytes.{underscore}
 use Rattle.am_universe.specs.Text.{same_text}
 
--- The values of a label, in declared order. Each is a text or absence, which is `None`: then the
--- label set does not have the label.
+-- The values of a label, in declared order. Each is a text or absence. Absence is `None`: the label
+-- set then does not have the label.
 abbrev pub Values : Type 0
 Values = List (Option (List ℕ))
 
@@ -26,7 +26,7 @@ pub record Label : Type 0 where
   pub name : List ℕ
   pub values : Values
 
--- What a label name begins with, `[a-zA-Z_]`, and what it goes on with, `[a-zA-Z0-9_]`.
+-- A byte that a label name may begin with, `[a-zA-Z_]`; and one that may follow, `[a-zA-Z0-9_]`.
 abbrev pub begins_label_name : ℕ → Bool
 begins_label_name c = is_ascii_alphabetic c || c == underscore
 
@@ -47,7 +47,7 @@ same_value None (Some t) = false
 same_value (Some s) None = false
 same_value (Some s) (Some t) = same_text s t
 
--- A value is a text, the empty one.
+-- A value is the empty text.
 abbrev pub is_empty_text : Option (List ℕ) → Bool
 is_empty_text None = false
 is_empty_text (Some []) = true
@@ -89,12 +89,13 @@ pub record IsUniverse (u : List Label) : Type 0 where
 
 -- ---- What keeps a label out, the first fault first.
 
--- The fault of a kind at a part of a label, if there is such a kind.
+-- The fault at a part of a label, of the kind that was found, if one was found.
 abbrev pub fault_at : LabelPart → Option Kind → Option LabelFault
 fault_at part found = option_map (λ kind. record { kind = kind; part = part }) found
 
 -- Why a name cannot be added to the names of a universe: `Empty` for the empty text, `Shape` for
--- another text that is no label name, and `Duplicate` for the name of a label that is there.
+-- any other text that is not a label name, and `Duplicate` for a name that the universe already
+-- has.
 abbrev pub name_fault : List Label → List ℕ → Option Kind
 name_fault u [] = Some kinds.Empty
 name_fault u (c ∷ cs) =
@@ -102,22 +103,23 @@ name_fault u (c ∷ cs) =
     else if list_any (λ l. same_text l.name (c ∷ cs)) u then Some kinds.Duplicate
     else None
 
--- Why a label may not have so many values: `Empty` for none, `Limit` for more than `MAX_VALUES`.
+-- Why a label may not have this number of values: `Empty` for none, and `Limit` for more than
+-- `MAX_VALUES`.
 abbrev pub count_fault : ℕ → Option Kind
 count_fault count =
     if count == 0 then Some kinds.Empty
     else if nat_lt MAX_VALUES count then Some kinds.Limit
     else None
 
--- Why a value cannot be added to others: `Empty` for the empty text, `Duplicate` for a value that
--- is there.
+-- Why a value cannot be added to others: `Empty` for the empty text, and `Duplicate` for a value
+-- that is already there.
 abbrev pub value_fault : Values → Option (List ℕ) → Option Kind
 value_fault before value =
     if is_empty_text value then Some kinds.Empty
     else if list_any (λ other. same_value other value) before then Some kinds.Duplicate
     else None
 
--- The first value at fault, behind those that are there.
+-- The first fault of the values that follow those that are already there.
 abbrev pub values_fault : Values → Values → Option LabelFault
 values_fault before [] = None
 values_fault before (value ∷ values) =
@@ -130,11 +132,11 @@ abbrev pub label_values_fault : Values → Option LabelFault
 label_values_fault values =
     option_or (fault_at parts.Values (count_fault (length values))) (values_fault [] values)
 
--- Why a label cannot be added to a universe, the first fault first: `Limit` if there are
--- `MAX_LABELS` labels already, then the fault of its name, then that of its values.
+-- Why a label cannot be added to a universe. This is the first fault of: `Limit` if there are
+-- `MAX_LABELS` labels already; the fault of its name; the first fault of its values.
 -- Source: own choice.
--- Example: behind a label `team`, a second label `team` without values is refused as `Duplicate`,
--- at its name.
+-- Example: after a label `team`, a second label `team` without values is refused as `Duplicate`, at
+-- its name.
 abbrev pub label_fault : List Label → Label → Option LabelFault
 label_fault u label =
     if nat_le MAX_LABELS (length u) then Some (record { kind = kinds.Limit; part = parts.Label })
@@ -142,6 +144,6 @@ label_fault u label =
     (fault_at parts.Name (name_fault u label.name))
     (label_values_fault label.values)
 
--- The answer where memory ran out for a label.
+-- The fault if memory ran out for a label.
 abbrev pub memory_fault : LabelFault
 memory_fault = record { kind = kinds.Memory; part = parts.Label }

@@ -4,7 +4,7 @@ use Rattle.std.specs.declared.alloc.Global.{Global}
 use Rattle.std.specs.Global.{Vec}
 use Rattle.am_universe.specs.Universe.{Values, Label}
 
--- The texts of a list of values, without where they lie in memory; and a label with these values.
+-- The texts of a list of values, without their location in memory; and a label with these values.
 abbrev pub texts_of : List (Option (String Global)) → Values
 texts_of values = map (option_map string_bytes) values
 

@@ -1,5 +1,5 @@
--- How a label set is written: after "Notation" in the Prometheus data model, without the name of a
--- metric and without spaces.
+-- How a label set is written: as in "Notation" of the Prometheus data model, without a metric name
+-- and without spaces.
 use Rattle.std.specs.Prelude.{ℕ, List, ◌++◌, map, codes}
 use Rattle.std.specs.List.{join_with_byte}
 use Rattle.std.specs.FinMap.{entries}
@@ -15,15 +15,15 @@ pair_text pair = pair.0 ++ (codes "=" ++ quoted_text pair.1)
 abbrev pub pairs_text : List (List ℕ × List ℕ) → List ℕ
 pairs_text pairs = codes "{" ++ (join_with_byte comma (map pair_text pairs) ++ codes "}")
 
--- The set of a choice: each label that has a text under it, in declared order; and its line.
+-- The label set of a choice: each label for which it picks a text, in declared order; and its line.
 -- Source: Prometheus data model, "Notation"; the order is an own choice.
--- Example: `{team="web",severity="warning"}`; of a choice with no text, `{}`.
+-- Example: `{team="web",severity="warning"}`; for a choice with no text, `{}`.
 abbrev pub set_text : List Label → List ℕ → List ℕ
 set_text u c = pairs_text (label_pairs u c)
 
 abbrev pub line : List Label → List ℕ → List ℕ
 line u c = set_text u c ++ codes "\n"
 
--- A label set by itself, its labels in the order of the bytes of their names.
+-- A label set by itself, with its labels in the order of the bytes of their names.
 abbrev pub map_text : LabelMap → List ℕ
 map_text s = pairs_text (entries s)

@@ -24,7 +24,7 @@ pub fn write_fault<W: Sink>(fault: &Fault, out: &mut W) -> Result<(), Kind>
     put_all(out, b"\n")
 }
 
-/// Writes where a fault is, and nothing for a fault of writing or of memory.
+/// Writes the place and the pointer of a fault; nothing for a fault of writing or of memory.
 fn write_place_part<W: Sink>(fault: &Fault, out: &mut W) -> Result<(), Kind>
     ensures { Writes W.taken W.failures out.old out.new (place_part fault.now) result }
 {
@@ -36,15 +36,14 @@ fn write_place_part<W: Sink>(fault: &Fault, out: &mut W) -> Result<(), Kind>
     write_pointer(fault.pointer.as_str(), out)
 }
 
-/// Whether a fault is at no part of the input.
+/// Whether a fault of this kind is at no part of the input.
 fn has_no_place(kind: Kind) -> bool
     ensures { result ≡ has_no_place kind }
 {
     matches!(kind, Kind::Write | Kind::Memory)
 }
 
-/// Writes a pointer and what separates it from the text of the kind, and nothing for the empty
-/// pointer.
+/// Writes a pointer and the separator after it; nothing for the empty pointer.
 fn write_pointer<W: Sink>(pointer: &str, out: &mut W) -> Result<(), Kind>
     ensures { Writes W.taken W.failures out.old out.new (pointer_part pointer.now) result }
 {
@@ -88,7 +87,7 @@ pub fn report<E: Write>(alloc: Global, fault: &Fault, err: &mut E) -> u8
     ensures status { result ≡ status_of fault.now.kind }
 {
     let mut err = Out::new(err);
-    // Nothing can be said of a failure to say what failed.
+    // If the line cannot be written, there is nowhere to report that.
     let _ = match fault_line(alloc, fault) {
         Ok(line) => put_all(&mut err, line.as_slice()),
         Err(_) => write_fault(fault, &mut err),

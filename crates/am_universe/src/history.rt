@@ -3,7 +3,8 @@ ghost use Rattle.std.specs.Borrow.{ftrue};
 
 use std::marker::{Model, PhantomData};
 
-/// A list of what has come so far, in order. Only clauses see it, and it takes no bytes.
+/// The items that have come so far, in order. Only contracts see them, and a history takes no
+/// bytes.
 #[derive(Drop)]
 pub struct History<T> {
     of: PhantomData<T>,

@@ -13,8 +13,7 @@ pub enum Kind {
     Shape,
     /// An object has a field that its form does not have.
     UnknownField,
-    /// A text does not spell a list of matchers, or that of a label set has an operator other than
-    /// `=`.
+    /// A text is not a list of matchers, or the text of a label set has an operator other than `=`.
     BadMatcher,
     /// A pattern is outside the profile. The profile leaves out forms that Go's engine and the
     /// crate `regex` are known to refuse or to read differently.
@@ -23,7 +22,7 @@ pub enum Kind {
     Pattern,
     /// A name or a value occurs a second time.
     Duplicate,
-    /// A text or a list is empty that must not be.
+    /// A text or a list is empty, but must not be.
     Empty,
     /// A route names a receiver that is not declared.
     UndefinedReceiver,

@@ -6,7 +6,7 @@
 //! where.
 #![tactic(auto)]
 
-// How much there may be.
+// The limits of universes.
 pub mod limits;
 
 // Refusals: why, where, and at which part of a label.
@@ -20,7 +20,7 @@ pub use kind::Kind;
 pub use label_fault::{LabelFault, LabelPart};
 pub use place::Place;
 
-// Where bytes go, and what has gone there so far.
+// Sinks for output, and histories of what they took.
 mod history;
 mod memory_sink;
 mod out;
@@ -59,5 +59,5 @@ mod fault_text;
 
 pub use fault_text::{report, status, write_fault};
 
-// What holds of the definitions by themselves.
+// Facts about the definitions alone.
 pub mod laws;

@@ -15,15 +15,16 @@ use std::alloc::{AllocError, Global};
 use std::marker::Model;
 use std::snapshot::Snapshot;
 
-/// A table by which the lines of a universe's choices are written fast.
+/// A table for writing the lines of a universe's choices fast.
 ///
-/// It keeps the text of each label with each of its values, so a line is a few copies. To contracts
-/// it is the universe that it was made from.
+/// It keeps the text of each label with each of its values, so a line takes only a few copies.
+/// Contracts see it as the universe that it was made from.
 #[derive(Drop)]
 pub struct LineTable {
     universe: Snapshot<Universe>,
     labels: Vec<Vec<Vec<u8>>>,
-    // A line is put together here, where there is room for the longest, and goes out at once.
+    // Each line is built in this buffer, which has room for the longest, and then written as a
+    // whole.
     line: Vec<u8>,
 }
 
@@ -45,7 +46,7 @@ impl LineTable {
         ensures universe { IfOk result (λ table. table ≡ universe.now) }
     {
         let mut labels = Vec::with_capacity(alloc, universe.len())?;
-        // Of both braces and the line feed, and then of the longest piece of each label.
+        // Room for both braces and the line feed, and then for the longest piece of each label.
         let mut room: usize = 3;
         for i in 0..universe.len() {
             let pieces = pieces_of_label(alloc, universe, i)?;
@@ -65,7 +66,7 @@ impl LineTable {
     /// Writes the line of a whole choice: its label set, as `write_set` writes it, and a line feed.
     ///
     /// Fails only with `Kind::Write`; what was written is then a proper prefix of the line. Takes
-    /// no memory, and looks for nothing to escape.
+    /// no memory. The pieces in the table are already escaped.
     pub fn write_line<W: Sink>(&mut self, choice: &Choice, out: &mut W) -> Result<(), Kind>
         requires { IsWhole (sizes self.old) choice.now }
         ensures written { Writes W.taken W.failures out.old out.new
@@ -83,7 +84,7 @@ impl LineTable {
     }
 }
 
-/// Adds bytes for which there is room, so that no memory is taken.
+/// Adds bytes to a line that has room for them, so no memory is taken.
 fn add_within_room(line: &mut Vec<u8>, bytes: &[u8])
     requires { vec_len line.old + length bytes.now ≤ vec_capacity line.old }
     ensures items { line.new.items ≡ line.old.items ++ bytes.now }
@@ -92,7 +93,7 @@ fn add_within_room(line: &mut Vec<u8>, bytes: &[u8])
     let _ = line.extend_from_slice(bytes);
 }
 
-/// Begins a line with a brace, in the place of the comma of its first piece, if it has a piece.
+/// Replaces the comma of the first piece by the opening brace; adds the brace to an empty line.
 fn open_brace(line: &mut Vec<u8>)
     requires { 0 < vec_capacity line.old }
     ensures items { line.new.items ≡ left_brace ∷ drop 1 line.old.items }
@@ -105,7 +106,7 @@ fn open_brace(line: &mut Vec<u8>)
     }
 }
 
-/// At least the length of each of the pieces.
+/// The length of the longest piece; 0 if there is none.
 fn longest(pieces: &[Vec<u8>]) -> usize
     ensures { AllByRecursion (λ piece. vec_len piece ≤ result) pieces.now }
 {
@@ -130,7 +131,7 @@ fn pieces_of_label(alloc: Global, universe: &Universe, i: usize) -> Result<Vec<V
     Ok(pieces)
 }
 
-/// A label with a value, as it stands behind other labels; nothing for absence.
+/// The text of a label with a value, with a comma in front; empty for absence.
 fn piece_of(alloc: Global, name: &str, value: Option<&str>) -> Result<Vec<u8>, AllocError>
     ensures { IfOk result (λ piece.
         piece.items ≡ piece_text name.now (option_map (λ t. t.now) value.entry)) }

@@ -5,8 +5,8 @@ use std::alloc::Global;
 
 /// A sink in memory. A take fails only if memory runs out.
 ///
-/// The bytes taken are those in memory. An `Out` promises less: it speaks of its writer at the
-/// start, and a call over any sink does not promise to keep that.
+/// The bytes taken are exactly those in memory. An `Out` promises less: its contracts refer to its
+/// writer at the start, and a call over any sink does not promise that this start stays the same.
 #[derive(Drop)]
 pub struct MemorySink {
     pub bytes: Vec<u8>,

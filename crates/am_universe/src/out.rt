@@ -7,8 +7,8 @@ use std::snapshot::Snapshot;
 
 /// A sink over any writer. A write that returns an error or takes no byte is a failed take.
 ///
-/// The bytes taken are those that the writer said it took. If the writer's contracts tell what it
-/// holds, that has grown by exactly these bytes.
+/// The bytes taken are those that the writer said it took. If the writer's contracts say what it
+/// holds, this content has grown by exactly these bytes.
 #[derive(Drop)]
 pub struct Out<W: Write> {
     writer: W,

@@ -61,7 +61,7 @@ impl Positions {
         requires { i < length self.now }
         ensures position { result ≡ slice_index self.now i }
     {
-        // What `len` promises tells the proof that the place of the cell fits.
+        // The contract of `len` tells the proof that `i` is within the array.
         prove!(self.len() <= MAX_POSITIONS);
         self.positions[i]
     }
@@ -97,7 +97,7 @@ impl Positions {
     }
 }
 
-// Two lists are the same where their positions are, one by one.
+// Two lists are equal if they have the same positions in the same order.
 impl PartialEq for Positions {
     ghost use Rattle.std.specs.Cmp.{partial_equiv_from_equiv};
     ghost use Rattle.std.specs.Cmp.Lexicographic.{nat_list_eq_equiv};

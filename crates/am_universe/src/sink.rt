@@ -4,7 +4,7 @@ ghost use Rattle.am_universe.specs.declared.kind.Kind.TheVariants as kinds;
 
 use crate::Kind;
 
-/// What takes bytes in order, or fails.
+/// A destination for bytes, which it takes in order. A take may fail.
 pub trait Sink {
     /// The bytes taken so far.
     ghost taken: { Self → List ℕ };

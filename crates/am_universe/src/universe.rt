@@ -65,8 +65,8 @@ impl Universe {
 
     /// Why a label may not be added under this name; `None` if it may.
     ///
-    /// The first of: `Empty`, the name is the empty text; `Shape`, it is not
-    /// `[a-zA-Z_][a-zA-Z0-9_]*` (Prometheus data model); `Duplicate`, a label of the universe has
+    /// The first that applies: `Empty` if the name is the empty text; `Shape` if it is not
+    /// `[a-zA-Z_][a-zA-Z0-9_]*` (Prometheus data model); `Duplicate` if a label of the universe has
     /// it.
     pub fn name_fault(&self, name: &str) -> Option<Kind>
         ensures fault { result ≡ name_fault self.now name.now }
@@ -83,7 +83,7 @@ impl Universe {
         None
     }
 
-    /// Why a label may not have so many values; `None` if it may.
+    /// Why a label may not have this number of values; `None` if it may.
     ///
     /// `Empty` for no value, and `Limit` for more than [`MAX_VALUES`].
     pub fn count_fault(count: usize) -> Option<Kind>
@@ -100,8 +100,8 @@ impl Universe {
 
     /// Why a label may not have this value after those before it; `None` if it may.
     ///
-    /// The first of: `Empty`, the value is the empty text; `Duplicate`, it is the same as one
-    /// before it. The value `None` is absence.
+    /// The first that applies: `Empty` if the value is the empty text; `Duplicate` if it is the
+    /// same as one before it. The value `None` is absence.
     pub fn value_fault(before: &[Option<String>], value: Option<&str>) -> Option<Kind>
         ensures fault { result
             ≡ value_fault (texts_of before.now) (option_map (λ t. t.now) value.entry) }
@@ -117,10 +117,10 @@ impl Universe {
 
     /// Adds a label after the others, with its values in declared order.
     ///
-    /// Fails with the first fault of the label, and then nothing has changed: `Limit` at `Label` if
-    /// there are [`MAX_LABELS`] already; the faults of `name_fault`, at `Name`; those of
-    /// `count_fault`, at `Values`; and those of `value_fault`, at the first value that has one.
-    /// `Memory`, at `Label`, comes only for a label without a fault.
+    /// Fails with the first fault of the label; then nothing has changed. In order, the faults are:
+    /// `Limit` at `Label` if there are [`MAX_LABELS`] already; those of `name_fault`, at `Name`;
+    /// those of `count_fault`, at `Values`; and those of `value_fault`, at the first value that has
+    /// one. Fails with `Memory`, at `Label`, only if the label has no fault.
     pub fn add(&mut self, name: String, values: Vec<Option<String>>) -> Result<(), LabelFault>
         ensures ok { OnOk result (self.new ≡ self.old ++ label_of name values ∷ []) }
         ensures accepted { OnOk result (label_fault self.old (label_of name values) ≡ None) }
@@ -139,7 +139,7 @@ impl Universe {
         }
     }
 
-    /// The first fault of a label that is to follow the others.
+    /// The first fault of a label that is to be added after the others.
     fn label_fault(&self, name: &str, values: &[Option<String>]) -> Option<LabelFault>
         ensures { result
             ≡ label_fault self.now (record { name = name.now; values = texts_of values.now }) }
@@ -243,7 +243,7 @@ fn label_values_fault(values: &[Option<String>]) -> Option<LabelFault>
     None
 }
 
-/// Whether the value is one of those.
+/// Whether the value is among the others.
 fn is_among(others: &[Option<String>], value: Option<&str>) -> bool
     ensures { result
         ≡ list_any (λ other. same_value other (option_map (λ t. t.now) value.entry))

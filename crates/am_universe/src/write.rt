@@ -33,7 +33,7 @@ pub fn put_str<W: Sink>(out: &mut W, text: &str) -> Result<(), Kind>
     put_all(out, text.as_bytes())
 }
 
-/// How a byte is written between quotes, if it does not stand for itself.
+/// The escape of a byte between quotes; `None` if the byte stands for itself.
 fn escape_of(byte: u8) -> Option<&'static [u8]>
     ensures some { IfSome result (λ escape. escape.now ≡ label_value_escape byte) }
     ensures none { IfNone result (label_value_escape byte ≡ byte ∷ []) }
@@ -57,7 +57,7 @@ pub fn write_text<W: Sink>(out: &mut W, text: &str) -> Result<(), Kind>
     put_all(out, b"\"")
 }
 
-/// Writes the bytes, each as it stands between quotes.
+/// Writes the bytes, escaped as between quotes.
 fn write_escaped<W: Sink>(out: &mut W, bytes: &[u8]) -> Result<(), Kind>
     ensures { Writes W.taken W.failures out.old out.new
         (flat_map label_value_escape bytes.now) result }
@@ -124,7 +124,7 @@ pub fn write_pair<W: Sink>(
     write_text(out, value)
 }
 
-/// Returns what a write returned, with its failure as a fault of writing.
+/// Returns the result of a write, with a failure turned into a fault of writing.
 pub fn answer_of_write<T: Drop>(alloc: Global, written: Result<T, Kind>) -> Result<T, Fault>
     ensures answer { IsAnswerOfWrite written result }
 {

@@ -1,4 +1,4 @@
--- What is among the matchers that decide.
+-- Matchers that are among those that decide.
 use Rattle.std.proofs.Common.{List, ◌++◌, Bool}
 use Rattle.am_labels.specs.Matcher.{Condition}
 use Rattle.am_eval.specs.Question.{Question}
@@ -12,7 +12,7 @@ last_of_three : (ms ns ks : List Condition) → AreAmong ks (ms ++ (ns ++ ks))
 last_of_three ms ns ks =
     among_through ks (ns ++ ks) (ms ++ (ns ++ ks)) (last_among ns ks) (last_among ms (ns ++ ks))
 
--- impossible lists are among what decides
+-- the matchers of the impossible lists are among those that decide
 pub lists_decide : (routes : Bool) (w : World) (questions : List Question)
     (lists : List (List Condition))
     → AreAmong (impossible_conditions lists) (deciding_conditions routes w questions lists)

@@ -1,8 +1,8 @@
--- What was found of a universe is what is said of it.
+-- What was found about a universe is what the text says.
 use Rattle.std.proofs.Common.{Option, Some, None, is_some, option_copied, refl, Bor, ◌≡◌, ◌↔◌, Bool}
 use Rattle.std.proofs.Common.{true, false, not}
 
--- nothing was found, as is told
+-- nothing was found exactly if the answer says so
 pub none_told : {X : Type 0} (found : Option X) (none : Bool) → is_some found ≡ not none
     → found ≡ None ↔ none ≡ true
 none_told None true e = (λ n. refl, λ n. refl)
@@ -10,7 +10,7 @@ none_told None false e = cc
 none_told (Some x) true e = cc
 none_told (Some x) false e = (λ n. cc, λ n. cc)
 
--- a file is there, also as its bytes
+-- a file is given exactly if its bytes are
 pub is_there : {A : Type 0} (o : Option (Bor A)) → is_some o ≡ is_some (option_copied o)
 is_there None = refl
 is_there (Some x) = refl

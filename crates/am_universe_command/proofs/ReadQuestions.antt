@@ -23,7 +23,7 @@ text_there [] i d lt = absurd (omega (arith, lt))
 text_there (text ∷ texts) zero d lt = refl
 text_there (text ∷ texts) (suc i) d lt = text_there texts i d (omega (arith, lt))
 
--- one question more
+-- one more question
 pub read_more : (c : Configuration) (texts : List (List ℕ)) (i : ℕ) (text : List ℕ)
     (questions next : List Question) (question : Question)
     → slice_get texts i ≡ Some text → ReadsQuestions c (take i texts) questions

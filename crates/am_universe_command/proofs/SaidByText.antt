@@ -1,4 +1,4 @@
--- The text of a universe and of texts of lists is read as the universe and the lists.
+-- The text of a universe and of texts of lists is read back as that universe and those lists.
 use Rattle.std.proofs.Common.{◌≡◌, ◌≤◌, ℕ, List, [], ◌∷◌, length, Option, Some, None, refl, sym, ap}
 use Rattle.std.proofs.Common.{◌∙◌, append-nil, arith, codes, inl, inr, map, option_and_then}
 use Rattle.std.specs.List.{AllZip}
@@ -42,7 +42,7 @@ abbrev labels_data : List Label → Items
 labels_data [] = no_items
 labels_data (label ∷ u) = item (label_data label) (labels_data u)
 
--- the members go by the bytes of their keys
+-- the members are in the order of the bytes of their keys
 abbrev with_lists : List (List ℕ) → Members → Members
 with_lists [] members = members
 with_lists (text ∷ texts) members =
@@ -187,11 +187,11 @@ pub texts_kept : (u : List Label) (texts : List (List ℕ)) → IsUtf8 (universe
 texts_kept u texts utf8 short =
     (short, universe_data u texts, json_of_text u texts utf8, texts_said u texts)
 
--- no texts say no lists
+-- no texts are those of no lists
 pub no_texts : AreTextsOfLists [] []
 no_texts = record { few = omega arith; each = tt }
 
--- a text that is that of a universe and of texts of lists
+-- a text that is equal to that of a universe and of texts of lists
 pub text_says : (u : List Label) (texts : List (List ℕ)) (lists : List (List Condition))
     (text : List ℕ) → text ≡ universe_text u texts → IsUniverse u → AreTextsOfLists texts lists
     → IsUtf8 text → length text ≤ MAX_FILE_BYTES → FileSaysUniverse text (space_of u lists)

@@ -1,4 +1,4 @@
--- The text of one more value, of one more label, and of one more list.
+-- The text with one more value, one more label, or one more list.
 use Rattle.std.proofs.Common.{◌≡◌, ◌≤◌, ◌<◌, ◌+◌, ℕ, List, [], ◌∷◌, ◌++◌, length, take, Option, Some}
 use Rattle.std.proofs.Common.{None, sym, ap, ◌∙◌, append_assoc, codes, slice_get, get_or, option_map}
 use Rattle.std.proofs.Common.{ap₂, option_and_then, arith, ◌==◌, false, map, refl}
@@ -14,7 +14,7 @@ use Rattle.am_universe_command.specs.UniverseText.{lists_text, impossible_text}
 
 -- ---- Values and labels.
 
--- what the code reads of a label
+-- what the code reads from a label
 part_here : {Y : Type 0} (f : Label → Y) (u : List Label) (i : ℕ) (label : Label) (y : Y)
     → slice_get u i ≡ Some label → slice_get (map f u) i ≡ Some y → y ≡ f label
 part_here f u i label y here there =

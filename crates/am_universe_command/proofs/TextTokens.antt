@@ -34,7 +34,7 @@ abbrev pub labels_tree : List Label → json.Items
 labels_tree [] = json.no_items
 labels_tree (label ∷ later) = json.item (label_tree label) (labels_tree later)
 
--- texts of lists, as values
+-- the texts of lists, as values
 abbrev pub as_values : List (List ℕ) → Values
 as_values texts = map (λ text. Some text) texts
 
@@ -81,7 +81,7 @@ lists_lexemes (text ∷ texts) rest =
     comma ∷ token (string (codes "impossible")) ∷ colon ∷ token begin_array
     ∷ value_lexemes (as_values (text ∷ texts)) (token end_array ∷ rest)
 
--- the texts of the values, of the labels and of the lists behind the first
+-- the texts of the values, of the labels and of the lists after the first
 abbrev later_values_text : Values → List ℕ
 later_values_text values = texts_behind (codes ", ") (codes ", ") value_text values
 
@@ -98,7 +98,7 @@ lex-quoted s r =
     ap (λ l. lex between (34 ∷ l)) e
     ∙ ap₂ (λ o l. token (string_token o) ∷ l) (content-escape s r) (lex-escape s r)
 
--- behind a value stands a comma or the bracket
+-- a value is followed by a comma or by the bracket
 lex_value_comma : (v : Option (List ℕ)) (r : List ℕ)
     → lex between (value_text v ++ 44 ∷ r) ≡ token (value_token v) ∷ lex between (44 ∷ r)
 unfolding lex word content
@@ -129,7 +129,7 @@ lex_values (v ∷ vs) r =
     ap (lex between) (append_assoc (value_text v) (later_values_text vs) (93 ∷ r))
     ∙ lex_values_from v vs r
 
--- a label, before what stands behind it
+-- a label, followed by more text
 lex_label : (label : Label) (r : List ℕ)
     → lex between (label_text label ++ r) ≡ label_lexemes label (lex between r)
 unfolding lex content

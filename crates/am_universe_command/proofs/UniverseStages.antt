@@ -1,4 +1,4 @@
--- Where the first fault of making a universe, or of checking one, stands.
+-- The stage of the first fault of making a universe, or of checking one.
 use Rattle.std.proofs.Common.{◌≡◌, ◌∷◌, ◌++◌, List, [], inl, inr, sym, string_bytes}
 use Rattle.am_universe.specs.declared.fault.Fault.{Fault}
 use Rattle.am_universe.specs.declared.kind.Kind.{Kind}
@@ -21,12 +21,12 @@ use Rattle.am_universe_command.specs.UniverseInputs.{universe_input_stages, ques
 use Rattle.am_universe_command.specs.Universes.{origin_place, made_stages, UnprovedFor}
 use Rattle.am_universe_command.specs.Universes.{unproved_stage, length_stage}
 
--- a fault at a place as a whole, without a pointer
+-- the refusal of a fault with the empty pointer
 pub refused_here : (fault : Fault) (kind : Kind) → fault.kind ≡ kind
     → string_bytes fault.pointer ≡ [] → refusal_of fault ≡ refusal_here kind
 refused_here fault kind same whole = λ i. record { kind = same i; pointer = whole i }
 
--- behind inputs that are accepted the first fault is that of the later stages
+-- if the inputs are accepted, the first fault is that of the later stages
 pub first_behind_inputs : (inputs : UniverseInputs) (s : Space) (w : World)
     (questions : List Question) (later : List Stage) (place : Place) (r : Refusal)
     → AcceptsUniverseInputs inputs s w questions → IsFirstFaultOfCall later place r
@@ -50,7 +50,7 @@ first_behind_inputs inputs s w questions later place r accepts behind =
         accepts.accepts_files
         (inr ((w.config, accepts.accepts_files.says_config, questions, accepts.reads), behind))
 
--- a label that is unproved, by where it is first asked of
+-- an unproved label, by what first asks about it
 pub by_origin : (inputs : UniverseInputs) (form : UniverseForm) (place : Place) (r : Refusal)
     → ((p : Place) → p ≡ place → UnprovedFor inputs form p r)
     → (o : Origin) → place ≡ origin_place o

@@ -1,4 +1,4 @@
--- What is written of a universe that is checked. (This project's own.)
+-- The text that is written about a universe that is checked. (This project's own.)
 use Rattle.std.specs.Prelude.{ℕ, ◌*◌, ◌^◌, List, [], ◌∷◌, ◌++◌, Bool, if◌then◌else◌, codes, decimal}
 use Rattle.std.specs.Prelude.{string_bytes, nat_lt}
 use Rattle.std.specs.List.{flat_map, list_all}
@@ -11,11 +11,11 @@ use Rattle.am_complete.specs.declared.origin.Origin.{Origin}
 use Rattle.am_complete.specs.declared.origin.Origin.TheVariants as origin_is
 use Rattle.am_complete.specs.LabelState.{is_settled}
 
--- The pointer to what a matcher stands in, in its file: a route, a rule, a silence, or an
--- impossible list; and that to a question, among those that are asked.
+-- The pointer to what a matcher stands in: a route, a rule, a silence, or an impossible list, in
+-- its file; or a question, among those of the call.
 -- Source: RFC 6901, over the forms of the files.
--- Example: that of the second child of the first child of the top-level route is
--- `/route/routes/0/routes/1`, and that of the third rule `/inhibit_rules/2`.
+-- Example: for the second child of the first child of the top-level route it is
+-- `/route/routes/0/routes/1`, and for the third rule it is `/inhibit_rules/2`.
 abbrev pub child_pointer : ℕ → List ℕ
 child_pointer position = codes "/routes/" ++ decimal position
 
@@ -26,8 +26,8 @@ origin_pointer (origin_is.Silence position) = codes "/" ++ decimal position
 origin_pointer (origin_is.Question position) = codes "/" ++ decimal position
 origin_pointer (origin_is.Impossible position) = codes "/impossible/" ++ decimal position
 
--- The name of a label: as it stands where it is a label name, and else in quotes. And a text that
--- it lacks: in quotes, or `absent` for the empty text.
+-- The name of a label: as it is if it is a label name, and else in quotes. And a text that the
+-- label lacks: in quotes, or `absent` for the empty text.
 abbrev pub name_text : List ℕ → List ℕ
 name_text name = if is_label_name name then name else quoted_text name
 
@@ -35,7 +35,7 @@ abbrev pub lacking_text : List ℕ → List ℕ
 lacking_text [] = codes "absent"
 lacking_text (c ∷ cs) = quoted_text (c ∷ cs)
 
--- How a universe stands at a label, in words.
+-- The state of a label, in words.
 abbrev pub state_text : Completeness → List ℕ
 state_text (state_is.Complete classes) = codes "complete " ++ decimal classes
 state_text (state_is.Lacks text) = codes "lacks " ++ lacking_text (string_bytes text)
@@ -48,18 +48,20 @@ unseen_text unseen = if unseen then codes " unseen" else []
 
 -- The line of a label.
 -- Source: own choice.
--- Example: `team complete 3`, `severity lacks absent unseen` and `"a/b" undeclarable` are three.
+-- Example: `team complete 3`, `severity lacks absent unseen` and `"a/b" undeclarable` are three
+-- such lines.
 abbrev pub state_line : LabelState → List ℕ
 state_line state =
     name_text (string_bytes state.name)
     ++ (codes " " ++ (state_text state.completeness
     ++ (unseen_text state.unseen ++ codes "\n")))
 
--- How many label sets there are where the labels have so many values, impossible ones included; and
--- the line that says it, and whether all are impossible. From 2^64 on it is not counted.
+-- The number of label sets, impossible ones included, for labels with these numbers of values; and
+-- the line that has this number and says whether all are impossible. A number of 2^64 or more is
+-- not written.
 -- Source: own choice.
--- Example: of three labels with 3, 3 and 10 values there are 90, and the line is `90 label sets`;
--- where none of them is possible, it is `90 label sets, all impossible`.
+-- Example: for three labels with 3, 3 and 10 values the number is 90, and the line is
+-- `90 label sets`. If none of them is possible, it is `90 label sets, all impossible`.
 abbrev pub label_sets : List ℕ → ℕ
 label_sets [] = 1
 label_sets (size ∷ sizes) = size * label_sets sizes
@@ -82,10 +84,10 @@ verdict_text states =
     if list_all (λ state. is_settled state.completeness) states then codes "# complete\n"
     else codes "# incomplete\n"
 
--- The whole: a line for each label, the number of label sets and whether all are impossible, and
--- the verdict.
+-- The whole text: a line for each label, the number of label sets and whether all are impossible,
+-- and the verdict.
 -- Source: own choice.
--- Example: of a universe without labels that nothing asks of it is `1 label sets` and `# complete`.
+-- Example: for a universe without labels, and no matchers, it is `1 label sets` and `# complete`.
 abbrev pub check_text : List ℕ → Bool → List LabelState → List ℕ
 check_text sizes all_impossible states =
     flat_map state_line states

@@ -1,4 +1,4 @@
--- What `universe` is handed, when that is accepted, and the order of its faults. (This project's
+-- The inputs of `universe`, when they are accepted, and the order of their faults. (This project's
 -- own.)
 use Rattle.std.specs.Prelude.{◌≡◌, ℕ, List, [], ◌∷◌, ◌++◌, take, Option, Some, None, codes, decimal}
 use Rattle.std.specs.Prelude.{slice_get}
@@ -22,18 +22,18 @@ pub record UniverseInputs : Type 0 where
   pub files : Files
   pub questions : List (List ℕ)
 
--- The bytes of a universe file, if there is one, say a space; without one it has no labels, and
--- nothing is impossible.
+-- The bytes of a universe file, if there is one, say a space. Without a file the space has no
+-- labels, and nothing is impossible in it.
 abbrev pub SaysUniverseIfAny : Option (List ℕ) → Space → Type 0
 SaysUniverseIfAny None s = s ≡ record { labels = []; impossible = [] }
 SaysUniverseIfAny (Some bytes) s = FileSaysUniverse bytes s
 
--- The impossible lists of a universe file, if there is one, have these texts, word for word.
+-- The texts of the impossible lists of a universe file, if there is one, are these, word for word.
 abbrev pub HasListsIfAny : Option (List ℕ) → List (List ℕ) → Type 0
 HasListsIfAny None lists = lists ≡ []
 HasListsIfAny (Some bytes) lists = FileHasImpossibleTexts bytes lists
 
--- The texts are questions about a configuration, each the one at its position.
+-- Each text is read as the question at its position, about a configuration.
 abbrev pub ReadsQuestions : Configuration → List (List ℕ) → List Question → Type 0
 ReadsQuestions c texts questions = AllZip (ReadsQuestion c) texts questions
 
@@ -68,10 +68,11 @@ ReadsSomeQuestions bytes texts =
     (c : Configuration) × FileSaysConfig bytes c
     × (questions : List Question) × ReadsQuestions c texts questions
 
--- Why texts are refused as questions about a configuration: the text at a position is, and each
--- before it is a question. The pointer is the position.
+-- Why texts are refused as questions about a configuration: the text at a position is refused, and
+-- each text before it is a question. The pointer is the position.
 -- Source: own choice.
--- Example: of `any`, `all` and `none` the second is refused first, and the pointer is `/1`.
+-- Example: of `any`, `all` and `none` the second is the first to be refused, and the pointer is
+-- `/1`.
 pub record QuestionsRefusedFor (c : Configuration) (texts : List (List ℕ)) (r : Refusal)
     : Type 0 where
   pub position : ℕ
@@ -93,10 +94,10 @@ questions_stage bytes texts = record {
   refuses = QuestionsOfFileRefusedFor bytes texts;
 }
 
--- The stages of reading them, in order: the universe file, if there is one, the files of a world
--- without a look at the instant, and the questions.
+-- The stages of reading the inputs, in order: the universe file, if there is one, the files of a
+-- world without its instant, and the questions.
 -- Source: own choice.
--- Example: where the universe file is `{}` and the configuration is no JSON, the first fault is the
+-- Example: if the universe file is `{}` and the configuration is not JSON, the first fault is the
 -- `shape` of the universe.
 abbrev pub universe_input_stages : UniverseInputs → List Stage
 universe_input_stages inputs =

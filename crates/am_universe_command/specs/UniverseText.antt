@@ -4,16 +4,16 @@ use Rattle.json.specs.Print.{quoted}
 use Rattle.am_universe.specs.Universe.{Label, Values}
 use Rattle.am_report_texts.specs.Separated.{texts_behind}
 
--- A value of a label: a text in quotes, or `null`, which stands for absence.
+-- A value of a label: a text in quotes, or `null` for absence.
 abbrev pub value_text : Option (List ℕ) → List ℕ
 value_text None = codes "null"
 value_text (Some text) = quoted text
 
--- The values of a label, between commas.
+-- The values of a label, with a comma between each two.
 abbrev pub values_text : Values → List ℕ
 values_text values = texts_behind [] (codes ", ") value_text values
 
--- A label, in one line.
+-- A label, on one line.
 -- Source: own choice.
 -- Example: `{"name": "team", "values": ["db", null]}`.
 abbrev pub label_text : Label → List ℕ
@@ -29,18 +29,19 @@ labels_text u = texts_behind (codes "\n  ") (codes ",\n  ") label_text u
 abbrev pub lists_text : List (List ℕ) → List ℕ
 lists_text texts = texts_behind (codes "\n  ") (codes ",\n  ") quoted texts
 
--- The field of the impossible lists, behind the labels; without a list there is none.
+-- The field of the impossible lists, which follows the labels. It is left out if there are no
+-- lists.
 -- Source: own choice.
--- Example: of the text `team=web` it is `, "impossible": [`, a line feed, two spaces, `"team=web"`,
--- a line feed and `]`.
+-- Example: for the text `team=web` it is `, "impossible": [`, a line feed, two spaces,
+-- `"team=web"`, a line feed and `]`.
 abbrev pub impossible_text : List (List ℕ) → List ℕ
 impossible_text [] = []
 impossible_text (text ∷ texts) =
     codes ", \"impossible\": [" ++ (lists_text (text ∷ texts) ++ codes "\n]")
 
--- The file: an object that has the labels, and the texts of impossible lists where there are some.
+-- The file: an object with the labels and, if there are impossible lists, their texts.
 -- Source: own choice.
--- Example: without a label and a list it is `{"labels": [`, a line feed, `]}` and a line feed.
+-- Example: without labels and lists it is `{"labels": [`, a line feed, `]}` and a line feed.
 abbrev pub universe_text : List Label → List (List ℕ) → List ℕ
 universe_text u impossible =
     codes "{\"labels\": [" ++ (labels_text u

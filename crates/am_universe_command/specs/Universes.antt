@@ -1,4 +1,4 @@
--- What `universe` makes, and what it says of a universe. (This project's own.)
+-- What `universe` makes, and what it says about a universe. (This project's own.)
 use Rattle.std.specs.Prelude.{◌≡◌, ◌<◌, ℕ, List, [], ◌∷◌, ◌++◌, length, map, Bool, false, ⊤}
 use Rattle.std.specs.Prelude.{IsTrue, string_bytes, if◌then◌else◌, Option, Some, None, is_some}
 use Rattle.std.specs.Prelude.{slice_get, ◌↔◌}
@@ -39,21 +39,21 @@ use Rattle.am_universe_command.specs.UniverseInputs.{universe_input_stages, HasL
 
 -- ---- What is asked.
 
--- The matchers that decide: those of the routes alone, or all of a world; those of questions; and
+-- The matchers that decide: those of the routes, or all of a world; those of the questions; and
 -- those that say what is impossible.
 -- Source: own choice.
--- Example: with `--routes` those of silences are not among them.
+-- Example: with `--routes` the matchers of silences are not among them.
 abbrev pub deciding_conditions :
     Bool → World → List Question → List (List Condition) → List Condition
 deciding_conditions routes w questions impossible =
     (if routes then route_conditions w.config.root else world_conditions w)
     ++ (questions_conditions questions ++ impossible_conditions impossible)
 
--- The labels that these ask of, each with where it is first asked of, in the order of the files,
+-- The labels that these ask about, each with what first asks about it, in the order of the files,
 -- the questions, and the impossible lists.
 -- Source: own choice.
--- Example: where a route asks of `team`, a rule of `env`, and a silence of `team`, they are `team`,
--- first asked of at the route, and `env`, at the rule.
+-- Example: if a route asks about `team`, a rule about `env`, and a silence about `team`, they are
+-- `team`, which the route first asks about, and `env`, which the rule does.
 abbrev pub deciding_labels :
     Bool → World → List Question → List (List Condition) → List AskedLabel
 deciding_labels routes w questions impossible =
@@ -62,11 +62,12 @@ deciding_labels routes w questions impossible =
 
 -- ---- A universe that is made.
 
--- A universe is made beside a space, for matchers: with the impossible lists of the space it is
--- complete for them, unless it may be open; it keeps the labels of the space, and has beside their
--- values only what is needed; and what it has beside them is over the alphabet.
+-- A universe is made for matchers, from the labels of a space. With the impossible lists of the
+-- space it is complete for the matchers, unless it may be open. It keeps the labels and values of
+-- the space, and adds only what is needed. If the texts of the space are over the alphabet, so are
+-- its own.
 -- Source: own choice.
--- Example: beside a space without labels, for `team="db"`, it has `team` with absence and `db`.
+-- Example: from a space without labels, for `team="db"`, it has `team` with absence and `db`.
 pub record IsMadeBeside (form : UniverseForm) (s : Space) (ms : List Condition) (u : List Label)
     : Type 0 where
   pub universe : IsUniverse u
@@ -76,12 +77,12 @@ pub record IsMadeBeside (form : UniverseForm) (s : Space) (ms : List Condition) 
   pub adds : AddsNeeded form.alphabet s ms u
   pub over : HasTextsOver form.alphabet s.labels → HasTextsOver form.alphabet u
 
--- The text is that of a universe file made beside a space, whose impossible lists have these
--- texts, for a world and for questions. It says such a universe, of which the same is impossible as
--- of the space, and has the texts of the lists word for word.
+-- The text is that of a universe file made from a space, for a world and for questions. `lists` are
+-- the texts of the impossible lists of the space. The file says such a universe, with the same
+-- impossible lists, and has their texts word for word.
 -- Source: own choice.
--- Example: for a world whose one matcher is `team="db"`, without questions and beside nothing, it
--- says `team` with absence and `db`.
+-- Example: if `team="db"` is the only matcher of a world, and there are no questions, labels and
+-- impossible lists, the file says `team` with absence and `db`.
 pub record IsMadeUniverse (form : UniverseForm) (s : Space) (lists : List (List ℕ)) (w : World)
     (questions : List Question) (text : List ℕ) : Type 0 where
   pub labels : List Label
@@ -91,8 +92,8 @@ pub record IsMadeUniverse (form : UniverseForm) (s : Space) (lists : List (List 
 
 -- The inputs are accepted, and the text is that of a universe file made for what they say.
 -- Source: own choice.
--- Example: for a configuration of which one route asks `team=db`, and nothing else asks of a label,
--- the universe file `{"labels": [{"name": "team", "values": [null, "db"]}]}` may be written.
+-- Example: if one route of a configuration asks for `team=db`, and nothing else asks about a label,
+-- the file `{"labels": [{"name": "team", "values": [null, "db"]}]}` may be written.
 pub record MakesUniverse (inputs : UniverseInputs) (form : UniverseForm) (text : List ℕ)
     : Type 0 where
   pub space : Space
@@ -103,7 +104,7 @@ pub record MakesUniverse (inputs : UniverseInputs) (form : UniverseForm) (text :
   pub has_lists : HasListsIfAny inputs.universe lists
   pub made : IsMadeUniverse form space lists world questions text
 
--- The file in which a matcher stands, or that it stands in a question.
+-- The file in which a matcher stands, or `Question` if it stands in a question.
 abbrev pub origin_place : Origin → Place
 origin_place (origin_is.Route path) = places.Config
 origin_place (origin_is.Rule position) = places.Config
@@ -111,10 +112,11 @@ origin_place (origin_is.Silence position) = places.Silences
 origin_place (origin_is.Question position) = places.Question
 origin_place (origin_is.Impossible position) = places.Universe
 
--- No universe is made, since there is no room for the labels that are asked of: one of them needs
--- more values than a label may have, or more of them need values than a universe may have labels.
+-- No universe is made, since there is no room for the labels that are asked about: one of them
+-- needs more values than a label may have, or more labels have to be declared than a universe may
+-- have.
 -- Source: own choice.
--- Example: it is so where 65 routes ask of 65 labels, each with one matcher `=`.
+-- Example: this is so if 65 routes ask about 65 labels, each with one matcher `=`.
 pub record NoRoomFor (inputs : UniverseInputs) (form : UniverseForm) (r : Refusal) : Type 0 where
   pub space : Space
   pub world : World
@@ -124,21 +126,21 @@ pub record NoRoomFor (inputs : UniverseInputs) (form : UniverseForm) (r : Refusa
       (deciding_labels form.routes world questions space.impossible)
   pub refusal : r ≡ refusal_here kinds.Limit
 
--- Some universe keeps the labels of a space and covers each label that is asked of, but for those
+-- Some universe keeps the labels of a space and covers each label that is asked about, except those
 -- at some positions.
 -- Source: own choice.
--- Example: where 65 labels are asked of, and one of them stands at such a position, one may.
+-- Example: if 65 labels are asked about, and one of them is at such a position, one may.
 abbrev pub HaveRoomBut : Alphabet → Space → List AskedLabel → List ℕ → Type 0
 HaveRoomBut a s asked unproved =
     (u : List Label) × IsUniverse u × KeepsLabels s.labels u
     × CoversEachBut a s.impossible u asked unproved
 
 -- No universe is made, since some labels are unproved, though there is room for the others. The
--- first matcher that asks of the first of these labels stands in this file, and there the refusal
--- points to it.
+-- first matcher on the first of these labels stands in this file, and the refusal points to what it
+-- stands in.
 -- Source: own choice.
--- Example: where the first child of the top-level route has `team=~"\bdb"`, and no matcher before
--- it is on `team`, the pointer is `/route/routes/0`.
+-- Example: if the first child of the top-level route has `team=~"\bdb"`, and no matcher before it
+-- is on `team`, the pointer is `/route/routes/0`.
 pub record UnprovedFor (inputs : UniverseInputs) (form : UniverseForm) (place : Place)
     (r : Refusal) : Type 0 where
   pub space : Space
@@ -159,10 +161,10 @@ pub record UnprovedFor (inputs : UniverseInputs) (form : UniverseForm) (place : 
   pub stands : place ≡ origin_place label.first
   pub refusal : r ≡ record { kind = kinds.Unproved; pointer = origin_pointer label.first }
 
--- No universe is made, since the file of the one that there is would be longer than a file that is
--- read may be. This is found last.
+-- No universe is made, since the file of the universe would have more bytes than a file may have.
+-- This is checked last.
 -- Source: own choice.
--- Example: it is so where one matcher names a text of 20 megabytes.
+-- Example: this is so if a matcher of a question names a text of 20 megabytes.
 pub record TooLongFor (inputs : UniverseInputs) (form : UniverseForm) (r : Refusal) : Type 0 where
   pub space : Space
   pub world : World
@@ -176,12 +178,12 @@ pub record TooLongFor (inputs : UniverseInputs) (form : UniverseForm) (r : Refus
   pub long : MAX_FILE_BYTES < length (universe_text labels texts)
   pub refusal : r ≡ refusal_here kinds.Limit
 
--- The stages of making one: that there is room, that no label is unproved, whose fault may stand at
--- any of the files or at a question, and that the file is not too long; and what `universe` owes,
--- whose stages are those of the inputs and these.
+-- The stages of making a universe: there is room, no label is unproved, whose fault may be at any
+-- of the files or at a question, and the file is not too long; and what `universe` owes, whose
+-- stages are those of the inputs and then these.
 -- Source: own choice.
--- Example: where the file of alerts is `{}` and a label is unproved, the first fault is the `shape`
--- of the alerts. Where a label is unproved and there is no room for the others, it is the `limit`.
+-- Example: if the file of alerts is `{}` and a label is unproved, the first fault is the `shape` of
+-- the alerts. If a label is unproved and there is no room for the others, it is the `limit`.
 abbrev pub room_stage : UniverseInputs → UniverseForm → Stage
 room_stage inputs form = record {
   place = places.Universe;
@@ -221,16 +223,16 @@ universe_promise inputs form = record {
 
 -- ---- A universe that is checked.
 
--- The alerts of a world, where they are handed in.
+-- The alerts of a world, if a file of alerts is given.
 abbrev pub alerts_if_any : Bool → World → Option (List LabelMap)
 alerts_if_any has_alerts w = if has_alerts then Some w.alerts else None
 
--- The text says how a space stands in a world and for questions, for alerts whose texts are over an
--- alphabet: of each label that the space declares, and then of each other one that is asked of,
--- what is so, and where there are alerts whether none has the label; and whether all label sets are
--- impossible. Where nothing is missing, the space is complete.
+-- The text says what a space lacks for a world and for questions, for alerts whose texts are over
+-- an alphabet. It has the state of each label that the space declares, and then of each other label
+-- that is asked about; if there are alerts, whether none of them has the label; and whether all
+-- label sets are impossible. What it says is true. If nothing is missing, the space is complete.
 -- Source: own choice.
--- Example: of a space with `team` alone, whose values are `db` and `web`, and a world whose one
+-- Example: for a space with just `team`, whose values are `db` and `web`, and a world whose only
 -- matcher is `team="db"`, it says `team complete 2`, `2 label sets` and `# complete`.
 pub record IsCheckOf (a : Alphabet) (s : Space) (w : World) (questions : List Question)
     (has_alerts routes : Bool) (report : List ℕ) : Type 0 where
@@ -250,11 +252,11 @@ pub record IsCheckOf (a : Alphabet) (s : Space) (w : World) (questions : List Qu
   pub impossible : IsTrue all_impossible ↔ all_choices s ≡ []
   pub text : report ≡ check_text (sizes s.labels) all_impossible states
 
--- The inputs are accepted, and the text says how the space of the universe file stands in the world
--- and for the questions that they say.
+-- The inputs are accepted, and the text says what the space of the universe file lacks for the
+-- world and for the questions that they say.
 -- Source: own choice.
--- Example: of the universe file `{"labels": [{"name": "team", "values": ["db"]}]}`, and a
--- configuration with the top-level route alone, the report is the lines `team unasked`,
+-- Example: for the universe file `{"labels": [{"name": "team", "values": ["db"]}]}` and a
+-- configuration with only the top-level route, the report is the lines `team unasked`,
 -- `1 label sets` and `# complete`.
 pub record ChecksUniverse (a : Alphabet) (inputs : UniverseInputs) (routes : Bool)
     (report : List ℕ) : Type 0 where
@@ -266,7 +268,7 @@ pub record ChecksUniverse (a : Alphabet) (inputs : UniverseInputs) (routes : Boo
 
 -- What `check_universe` owes.
 -- Source: own choice.
--- Example: where the universe file is `{}` and the configuration is no JSON, the first fault is the
+-- Example: if the universe file is `{}` and the configuration is not JSON, the first fault is the
 -- `shape` of the universe.
 abbrev pub check_promise : Alphabet → UniverseInputs → Bool → Promise ⊤
 check_promise a inputs routes = record {

@@ -1,4 +1,4 @@
-//! The text that is written of a checked universe.
+//! The text that is written about a checked universe.
 
 ghost use Rattle.std.specs.Prelude.{◌≡◌, ◌≤◌, ◌^◌, ◌++◌, string_bytes, decimal, codes, MatchOption};
 ghost use Rattle.std.specs.Prelude.{IfOk, OnOk};
@@ -16,9 +16,8 @@ use am_report_texts::push_quoted;
 use am_universe::Universe;
 use std::alloc::{AllocError, Global};
 
-/// How a universe stands, as a text: a line for each label, the number of its label sets and
-/// whether all of them are impossible, and whether nothing is missing. Fails only if memory runs
-/// out.
+/// Says what a universe lacks: a line for each label, the number of its label sets and whether all
+/// of them are impossible, and whether anything is missing. Fails only if memory runs out.
 pub(crate) fn text_of_check(
     alloc: Global,
     universe: &Universe,
@@ -49,7 +48,7 @@ fn push_state(alloc: Global, text: &mut String, state: &LabelState) -> Result<()
     Ok(())
 }
 
-/// Adds the name of a label, in quotes where it is no label name.
+/// Adds the name of a label, in quotes if it is not a label name.
 fn push_name(alloc: Global, text: &mut String, name: &str) -> Result<(), AllocError>
     ensures { OnOk result (string_bytes text.new ≡ string_bytes text.old ++ name_text name.now) }
 {
@@ -60,7 +59,7 @@ fn push_name(alloc: Global, text: &mut String, name: &str) -> Result<(), AllocEr
     }
 }
 
-/// Adds how the universe stands at a label.
+/// Adds the state of a label.
 fn push_completeness(
     alloc: Global,
     text: &mut String,
@@ -97,7 +96,7 @@ fn push_unproved(text: &mut String, pointer: &str) -> Result<(), AllocError>
     text.push_str(pointer)
 }
 
-/// Adds a text that is missing; the empty one is absence.
+/// Adds a text that is missing. The empty text is absence.
 fn push_lacking(text: &mut String, lacking: &str) -> Result<(), AllocError>
     ensures { OnOk result (string_bytes text.new
         ≡ string_bytes text.old ++ (codes "lacks " ++ lacking_text lacking.now)) }
@@ -116,8 +115,8 @@ fn unseen_text(unseen: bool) -> &'static str
     if unseen { " unseen" } else { "" }
 }
 
-/// Adds how many label sets a universe has, impossible ones included, and whether all of them are
-/// impossible.
+/// Adds the number of label sets of a universe, impossible ones included, and whether all of them
+/// are impossible.
 fn push_count(
     alloc: Global,
     text: &mut String,
@@ -156,7 +155,7 @@ fn all_impossible_text(all_impossible: bool) -> &'static str
     }
 }
 
-/// How many label sets a universe has; `None` where they are more than a `u64` counts.
+/// The number of label sets of a universe. Returns `None` if it does not fit in a `u64`.
 fn label_sets(universe: &Universe) -> Option<u64>
     ensures { MatchOption result (2 ^ 64 ≤ label_sets (sizes universe.now))
         (λ count. count ≡ label_sets (sizes universe.now)) }

@@ -1,4 +1,4 @@
-//! Checking what a universe lacks to stand for every alert.
+//! Checks what a universe lacks to stand for every alert.
 
 ghost use Rattle.std.specs.Prelude.{◌≡◌, map, option_map, string_bytes, IfOk};
 ghost use Rattle.am_eval.specs.QuestionView.{question_view};
@@ -37,7 +37,7 @@ pub fn check_universe<W: Sink>(
     alphabet: Alphabet,
     out: &mut W,
 ) -> Result<(), Fault>
-    // What each line says is so. If nothing is missing, the space is complete.
+    // What each line says is true. If nothing is missing, the space is complete.
     ensures kept { IsKept (check_promise alphabet inputs.now routes)
         W.taken W.failures out.old out.new result }
 {
@@ -73,7 +73,7 @@ fn checked_text(
     Ok(text)
 }
 
-/// The alerts of a world, where they are handed in.
+/// The alerts of a world, if a file of alerts is given.
 fn alerts_if_any(world: &World, has_alerts: bool) -> Option<&Alerts>
     ensures { option_map (λ a. a.now) result ≡ alerts_if_any has_alerts world.now }
 {

@@ -4,7 +4,7 @@
 //! and [`check_universe`] says what another universe lacks.
 #![tactic(auto)]
 
-// What the calls are handed, and what that says.
+// The inputs of the calls, and what they say.
 mod asked_labels;
 mod read_inputs;
 mod universe_form;
@@ -14,7 +14,7 @@ pub use read_inputs::read_universe_if_any;
 pub use universe_form::UniverseForm;
 pub use universe_inputs::UniverseInputs;
 
-// The text of a universe file, where a matcher stands, and how a universe stands.
+// The text of a universe file, the pointer to a matcher, and the text of a check.
 mod check_text;
 mod origin_pointer;
 mod universe_file;
@@ -28,5 +28,5 @@ mod making;
 pub use checking::check_universe;
 pub use making::{universe, unproved_fault};
 
-// What holds of the definitions by themselves.
+// Facts about the definitions alone.
 pub mod laws;

@@ -1,4 +1,4 @@
-//! Making universes that stand for every alert.
+//! Makes universes that stand for every alert.
 
 ghost use Rattle.std.specs.Prelude.{◌≡◌, ◌≢◌, ◌<◌, ℕ, List, Some, IfOk, IfErr, IfSome, IfNone, []};
 ghost use Rattle.std.specs.Prelude.{false, length, map, slice_get, string_bytes};
@@ -62,9 +62,9 @@ pub fn universe<W: Sink>(
     form: UniverseForm,
     out: &mut W,
 ) -> Result<(), Fault>
-    // The file says a universe that keeps what was given and, unless it is open, is complete for
-    // the matchers that decide, with the same impossible lists. No value is added that is not
-    // needed.
+    // The file says a universe that keeps the given labels and values and, unless it is open, is
+    // complete for the matchers that decide, with the same impossible lists. No value is added that
+    // is not needed.
     ensures kept { IsKept (universe_promise inputs.now form)
         W.taken W.failures out.old out.new result }
 {
@@ -133,7 +133,7 @@ fn made_universe(alloc: Global, read: &ReadInputs, form: UniverseForm) -> Result
     Ok(made.universe)
 }
 
-/// The first label that is unproved, unless the form is open. `positions` are those of such labels.
+/// The first unproved label, unless the form is open. `positions` are those of the unproved labels.
 fn first_unproved<'a, 'm>(
     asked: &'a [AskedLabel<'m>],
     positions: &[usize],

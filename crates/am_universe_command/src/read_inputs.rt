@@ -1,4 +1,4 @@
-//! Reading the inputs for which a universe is made or checked.
+//! Reads the inputs for which a universe is made or checked.
 
 ghost use Rattle.std.specs.Prelude.{◌≡◌, ◌≢◌, ◌++◌, [], ◌∷◌, map, codes, decimal, string_bytes};
 ghost use Rattle.std.specs.Prelude.{option_copied, IfOk, IfErr, OnOk};
@@ -77,7 +77,7 @@ pub fn read_universe_if_any(
     }
 }
 
-/// Reads questions about a configuration, each in its turn.
+/// Reads questions about a configuration, one after another. Fails with the first fault.
 fn read_questions(alloc: Global, texts: &[&str], config: &Config) -> Result<Vec<Question>, Fault>
     ensures reads { IfOk result (λ questions. ReadsQuestions (config_view config.now)
         (map (λ text. text.now) texts.now) (map question_view questions.items)) }
@@ -107,7 +107,7 @@ fn add_question(
     }
 }
 
-/// Reads the question at a position, to which the pointer of a fault leads.
+/// Reads the question at a position. The pointer of a fault leads to that position.
 fn read_question(
     alloc: Global,
     position: usize,

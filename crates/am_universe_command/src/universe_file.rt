@@ -12,10 +12,10 @@ use am_universe::Universe;
 use serde_json::Value;
 use std::alloc::{AllocError, Global};
 
-/// The text of the universe file that says a universe and, by these texts, the lists of matchers
-/// that are impossible: JSON, with one label and one list a line. It is read back as them, as long
-/// as each text is that of a list and it has no more than `MAX_FILE_BYTES` bytes. Fails only if
-/// memory runs out.
+/// The text of the universe file that says a universe and the impossible lists with these texts:
+/// JSON, with each label and each list on a line of its own. Reading it gives them back, if each
+/// text is that of a list and the file has at most `MAX_FILE_BYTES` bytes. Fails only if memory
+/// runs out.
 pub(crate) fn universe_text(
     alloc: Global,
     universe: &Universe,
@@ -35,7 +35,7 @@ pub(crate) fn universe_text(
     Ok(text)
 }
 
-/// Adds the field of the impossible lists, where there are some.
+/// Adds the field of the impossible lists, if there are any.
 fn push_impossible(
     alloc: Global,
     text: &mut String,
@@ -56,7 +56,7 @@ fn push_impossible(
     Ok(())
 }
 
-/// Adds the label at `i`, in one line.
+/// Adds the label at `i`, on one line.
 fn push_label(
     alloc: Global,
     text: &mut String,
@@ -75,7 +75,7 @@ fn push_label(
     Ok(())
 }
 
-/// Adds the values of the label at `i`, between commas.
+/// Adds the values of the label at `i`, with a comma between each two.
 fn push_values(
     alloc: Global,
     text: &mut String,

@@ -1,7 +1,7 @@
 use am_eval::Files;
 use std::marker::Model;
 
-/// What a universe is made for or checked for.
+/// The inputs for which a universe is made or checked.
 #[derive(Drop)]
 pub struct UniverseInputs<'a> {
     /// The bytes of a universe file, whose labels, values and impossible lists the made universe

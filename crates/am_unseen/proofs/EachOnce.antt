@@ -1,4 +1,5 @@
--- The texts of a list, each once: which is missing, and which is found first, is the same.
+-- If each text of a list is taken once, the same texts are missing, and the same text is found
+-- first.
 use Rattle.std.proofs.Common.{◌≡◌, ℕ, List, [], ◌∷◌, refl, sym, ap, ◌∙◌, Bool, true, false}
 use Rattle.std.proofs.Common.{cond, Option, Some, None, inl, inr, ◌⊎◌, fold, not, ◌&&◌, nat_le}
 use Rattle.std.specs.Option.{option_or}
@@ -72,7 +73,7 @@ fold_in before (t ∷ ts) x i = elim (fold_in (with_text before t) ts x i) [
   | inr later ↦ inr (inr later)
 ]
 
--- each text of a list is among those that are there once, and no other
+-- a list with each text once has the same texts as before
 pub once_same : (texts : List (List ℕ)) → HaveSame (each_once texts) texts
 once_same texts = (
   λ x i. elim (fold_in [] texts x i) [

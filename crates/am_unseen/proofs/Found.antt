@@ -31,7 +31,7 @@ found_in test (y ∷ xs) x e = elim (cases_Bool (test y)) [
       let r = found_in test xs x (rw fails at e) in (inr r.0, r.1)
 ]
 
--- where one passes, one is found
+-- if one passes, one is found
 pub one_found : {X : Type 0} (test : X → Bool) (xs : List X) (x : X) → IsIn xs x
     → test x ≡ true → (y : X) × (find test xs ≡ Some y)
 one_found test [] x i passes = absurd i
@@ -62,7 +62,7 @@ each_all test (x ∷ xs) each = rw (each x (inl refl)) (each_all test xs (λ y i
 abbrev pub HaveSame : {X : Type 0} → List X → List X → Type 0
 HaveSame {X} xs ys = ((x : X) → IsIn xs x → IsIn ys x) × ((x : X) → IsIn ys x → IsIn xs x)
 
--- two tests that imply each other are one
+-- two truth values that imply each other are equal
 pub one_test : (a b : Bool) → (a ≡ true → b ≡ true) → (b ≡ true → a ≡ true) → a ≡ b
 one_test true b there back = sym (there refl)
 one_test false true there back = back refl

@@ -20,7 +20,7 @@ use Rattle.am_unseen.specs.Search.{Search, after_matcher}
 
 -- ---- Silences.
 
--- the matchers of those from a position on that are not over
+-- the matchers of the silences from a position on that are not over
 abbrev pub left_from : World → ℕ → List (Origin × Condition)
 left_from w i =
     flat_map placed_in_silence (filter (is_left w) (enumerate_from i (drop i w.silences)))
@@ -39,7 +39,7 @@ stands_at [] i lt = absurd (omega (arith, lt))
 stands_at (x ∷ xs) zero lt = (x, refl)
 stands_at (x ∷ xs) (suc i) lt = stands_at xs i (omega (arith, lt))
 
--- one that is over is passed over
+-- a silence that is over is skipped
 pub one_over : (w : World) (i : ℕ) (silence : Silence) (now whole : Search)
     → slice_get w.silences i ≡ Some silence → is_over w.instant silence ≡ true
     → fold after_matcher now (left_from w i) ≡ whole
@@ -48,7 +48,7 @@ one_over w i silence now whole at over before =
     let same : left_from w i ≡ left_from w (i + 1) = with_first w i silence at ∙ rw over refl in
     ap (fold after_matcher now) (sym same) ∙ before
 
--- and one that is not is looked at
+-- and the matchers of one that is not over are looked at
 pub one_left : (w : World) (i : ℕ) (silence : Silence) (now next whole : Search)
     → slice_get w.silences i ≡ Some silence → is_over w.instant silence ≡ false
     → next ≡ fold after_matcher now (placed_in_silence (i, silence))

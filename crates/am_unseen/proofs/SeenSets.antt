@@ -18,7 +18,7 @@ use Rattle.am_unseen.proofs.EachOnce.{missing_once, similar_once}
 
 -- ---- What is said of a matcher.
 
--- what is said of it beside some texts
+-- what is said of a matcher, given some texts
 abbrev said_beside : Origin → Condition → List (List ℕ) → Option UnseenValue
 said_beside origin m texts =
     if is_missing m.value texts
@@ -30,7 +30,7 @@ said_beside origin m texts =
     })
     else None
 
--- beside the values of its label, each once, it is what is said beside all
+-- given the values of its label, each once, the same is said as given all of them
 pub said_of_all : (alerts : List LabelMap) (origin : Origin) (m : Condition)
     (texts : List (List ℕ)) → texts ≡ each_once (seen_values alerts m.name)
     → said_beside origin m texts
@@ -71,7 +71,7 @@ module _ {S : Type 0} (alerts : List LabelMap)
         seen q found (sym there ∙ at)
   ]
 
-  -- the set of a label was put in, or memory was refused
+  -- the set of a label was inserted, or memory ran out
   pub seen_still : {T E : Type 0} (r : Result T E) (name : List ℕ)
       (values : IndexSet (Bor (List ℕ)) S) → AreSeen alerts before
       → texts_of values ≡ each_once (seen_values alerts name)

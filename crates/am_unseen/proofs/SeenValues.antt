@@ -1,4 +1,4 @@
--- The values that alerts have for a label, alert by alert, and what a set of them is asked.
+-- The values that alerts have for a label, alert by alert, and what the code asks of a set of them.
 use Rattle.std.proofs.Common.{◌≡◌, ℕ, ◌+◌, List, [], ◌∷◌, ◌++◌, refl, sym, ap, ◌∙◌, Bool, true, false}
 use Rattle.std.proofs.Common.{Some, take, map, fold, length, Bor, not, inl, inr, ◌≢◌}
 use Rattle.std.specs.Prelude.{slice_get}
@@ -66,7 +66,7 @@ module _ (eq : Bor (List ℕ) → Bor (List ℕ) → Bool)
   any_text [] k = refl
   any_text (x ∷ keys) k = rw (same k x, any_text keys k) refl
 
-  -- one text more
+  -- one more text
   pub texts_inserted : (keys : List (Bor (List ℕ))) (k : Bor (List ℕ))
       → map (λ t. t.now) (insert_key eq keys k) ≡ with_text (map (λ t. t.now) keys) k.now
   texts_inserted keys k = elim (cases_Bool (list_any (eq k) keys)) [

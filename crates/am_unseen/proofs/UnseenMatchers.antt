@@ -1,4 +1,4 @@
--- What is so of a matcher that names an unseen value, and of the most similar value.
+-- What holds for a matcher that names an unseen value, and for the most similar value.
 use Rattle.std.proofs.Common.{◌≡◌, ◌≢◌, ◌≤◌, ◌<◌, ℕ, List, [], ◌∷◌, refl, sym, ap, ◌∙◌, Bool, true}
 use Rattle.std.proofs.Common.{false, ◌&&◌, inl, Some, None, Contains, map}
 use Rattle.std.specs.Prelude.{IsTrue, nat_le}
@@ -23,7 +23,7 @@ use Rattle.am_unseen.proofs.Nearest.{all_too_far}
 
 -- ---- The values of a label.
 
--- an alert with a value for a label is there
+-- each seen value is that of an alert, and each value of an alert is seen
 seen_in : (alerts : List LabelMap) (name value : List ℕ) → IsIn (seen_values alerts name) value
     → (a : LabelMap) × IsIn alerts a × (value_of a name ≡ value) × (begins value ≡ true)
 seen_in alerts name value i =
@@ -63,7 +63,7 @@ not_in_missing text (x ∷ xs) t i none =
 
 -- ---- A matcher.
 
--- the three parts of what it says
+-- the three conditions on a matcher that names an unseen value
 parts : (alerts : List LabelMap) (m : Condition) → IsTrue (names_unseen_value alerts m)
     → (is_equality m.op ≡ true) × (begins m.value ≡ true)
     × (is_missing m.value (seen_values alerts m.name) ≡ true)

@@ -18,7 +18,7 @@ pub record Search : Type 0 where
   pub alerts : List LabelMap
   pub found : List UnseenValue
 
--- A search that has looked at one matcher more, which stands somewhere.
+-- The search after it has looked at one more matcher, which comes with its origin.
 abbrev pub after_matcher : Search → Origin × Condition → Search
 after_matcher s placed =
     if names_unseen_value s.alerts placed.1
@@ -36,7 +36,8 @@ each_once texts = fold with_text [] texts
 abbrev pub texts_of : {S : Type 0} → IndexSet (Bor (List ℕ)) S → List (List ℕ)
 texts_of texts = map (λ t. t.now) texts.keys
 
--- A map has for some names the values that alerts have for these labels, each once.
+-- The set that a map has for a label name. The sets of a map are the values that alerts have for
+-- these labels, each once.
 abbrev pub set_at : {S : Type 0} → BTreeMap (Bor (List ℕ)) S → List ℕ → Option S
 set_at sets name = get_by (λ k. slice_cmp nat_cmp name k.now) sets
 

@@ -8,7 +8,7 @@ use Rattle.am_complete.specs.contracts.origin.Origin as origin
 use Rattle.am_unseen.specs.Unseen.{UnseenValue}
 use Rattle.am_unseen.specs.Search.{Search}
 
--- The codes of a text, and of an unseen value, as that of its parts.
+-- The code of a text, and the code of an unseen value, which is that of its parts.
 abbrev coded_text : Coded (List ℕ)
 coded_text = coded_list coded_ℕ
 
@@ -20,7 +20,7 @@ coded_unseen_value =
     (λ p. record { origin = p.0; name = p.1.0; value = p.1.1.0; similar = p.1.1.1 })
     (λ _. refl)
 
--- The code of a search, as that of its parts.
+-- The code of a search, which is that of its parts.
 abbrev pub coded_search : Coded Search
 coded_search =
     code_by (List LabelMap × List UnseenValue)

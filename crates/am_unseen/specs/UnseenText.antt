@@ -1,4 +1,4 @@
--- What is written of unseen values. (This project's own.)
+-- The lines of unseen values. (This project's own.)
 use Rattle.std.specs.Prelude.{ℕ, List, ◌++◌, Option, Some, None, codes, decimal}
 use Rattle.std.specs.List.{flat_map}
 use Rattle.am_universe.specs.Text.{quoted_text}
@@ -7,7 +7,8 @@ use Rattle.am_complete.specs.declared.origin.Origin.{Origin}
 use Rattle.am_complete.specs.declared.origin.Origin.TheVariants as origin_is
 use Rattle.am_unseen.specs.Unseen.{UnseenValue}
 
--- The place of a matcher: the path of its route, or what it stands in and the position of that.
+-- The place of a matcher: the path of its route, or, if it stands elsewhere, the kind and the
+-- position of what it stands in.
 -- Source: own choice.
 -- Example: `/2/0`, `rule 3` and `silence 0`.
 abbrev pub place_text : Origin → List ℕ

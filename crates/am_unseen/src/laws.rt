@@ -9,8 +9,9 @@ ghost use Rattle.am_complete.specs.FoundState.{has_label};
 ghost use Rattle.am_unseen.specs.declared.limits.TheConstants.{MOST_EDITS};
 ghost use Rattle.am_unseen.specs.Unseen.{names_unseen_value, most_similar, edits_between};
 
-/// A matcher with an unseen value matches no alert, though some alert has its label. Conversely, a
-/// matcher with `=` and a value that is not empty, of which both are so, has an unseen value.
+/// A matcher with an unseen value matches no alert, though some alert has its label. Conversely, if
+/// both are true of a matcher with `=` and a value that is not empty, the matcher has an unseen
+/// value.
 pub fn a_matcher_of_an_unseen_value_matches_no_alert()
     ensures matches_none { (alerts : List LabelMap) (m : Condition)
         → IsTrue (names_unseen_value alerts m)

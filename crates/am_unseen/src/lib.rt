@@ -6,7 +6,7 @@
 //! each.
 #![tactic(auto)]
 
-// How much there may be.
+// How similar a value has to be to be shown.
 pub mod limits;
 
 // An unseen value, and the value that is most similar to it.
@@ -15,16 +15,16 @@ mod unseen_value;
 
 pub use unseen_value::UnseenValue;
 
-// The search for them, in the order of the files.
+// The search for unseen values, in the order of the files.
 mod search;
 mod world_search;
 
 pub use world_search::unseen_values;
 
-// Their text.
+// The lines of unseen values.
 mod unseen_text;
 
 pub use unseen_text::push_unseen;
 
-// What holds of the definitions by themselves.
+// What follows from the definitions alone.
 pub mod laws;

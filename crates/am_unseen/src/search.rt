@@ -39,7 +39,7 @@ impl<'w> Model for Search<'w> {
 }
 
 impl<'w> Search<'w> {
-    /// A search among these alerts that has visited no matcher yet.
+    /// Returns a search among these alerts that has visited no matcher yet.
     pub(crate) fn among(alloc: Global, alerts: &'w Alerts) -> Search<'w>
         ensures { result ≡ record { alerts = alerts.now; found = [] } }
     {
@@ -51,7 +51,8 @@ impl<'w> Search<'w> {
         }
     }
 
-    /// The unseen value of a matcher with `=` and a value, if no alert has that value.
+    /// Returns the unseen value of a matcher with `=` and a value, if some alert has the label and
+    /// none has the value.
     fn unseen_value(
         &mut self,
         origin: &Origin,
@@ -74,7 +75,7 @@ impl<'w> Search<'w> {
         }
     }
 
-    /// What was found.
+    /// Returns what was found.
     pub(crate) fn into_found(self) -> Vec<UnseenValue<'w>>
         ensures { result.items ≡ self.entry.found }
     {
@@ -96,7 +97,8 @@ impl<'w> Visitor<'w> for Search<'w> {
     }
 }
 
-/// The values that alerts have for a label, each once, in the order in which they come first.
+/// Returns the values that alerts have for a label, each once, in the order in which they come
+/// first.
 fn values_of<'w>(
     alloc: Global,
     alerts: &'w Alerts,
@@ -115,8 +117,8 @@ fn values_of<'w>(
     Ok(values)
 }
 
-/// The value of a matcher with the most similar one of these, where there are some and it is none
-/// of them.
+/// Returns the value of a matcher with the most similar of the given values, if there are values
+/// and the value of the matcher is none of them.
 fn unseen_beside<'w>(
     alloc: Global,
     values: &IndexSet<&'w str>,

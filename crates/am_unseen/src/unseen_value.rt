@@ -1,4 +1,4 @@
-// The module of words stands on this type, so its own words come from where they stand.
+//! Unseen values, as they are kept in memory.
 ghost use Rattle.std.specs.Prelude.{◌≡◌, option_map};
 
 use am_complete::Origin;

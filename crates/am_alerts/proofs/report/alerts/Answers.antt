@@ -1,4 +1,4 @@
--- What was read is accepted, and what is written is what was found.
+-- What was read is accepted, and what was found is what is written.
 use Rattle.std.proofs.Common.{◌≡◌, ℕ, List, [], ◌∷◌, ◌++◌, Option, map, inl, refl, ap, ◌∙◌, codes}
 use Rattle.std.specs.Prelude.{option_copied}
 use Rattle.std.specs.List.{flat_map}
@@ -37,7 +37,7 @@ text_of_found w q file config ids found all c i f is =
     one_by_one [] = refl
     one_by_one (alert ∷ others) = ap (λ text. found_text config ids alert ++ text) (one_by_one others)
 
--- the stage behind those of the files
+-- the stage after those of the files
 abbrev last_stage : Files → Option (List ℕ) → List Stage
 last_stage files asked = question_stage (config_of files.config) (asked_text asked) ∷ []
 

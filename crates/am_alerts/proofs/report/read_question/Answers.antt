@@ -1,4 +1,4 @@
--- What the text is refused for stands at its place.
+-- The fault of the text is at `Question`.
 use Rattle.std.proofs.Common.{arith, ◌≢◌, ◌∙◌, sym, subst}
 use Rattle.am_universe.specs.declared.kind.Kind.{Kind}
 use Rattle.am_universe.specs.declared.kind.Kind.TheVariants as kinds

@@ -1,4 +1,4 @@
--- What was found of an alert tells its properties.
+-- The fate of an alert tells its properties.
 use Rattle.std.proofs.Common.{◌≡◌, not, length, ap, ◌∙◌, arith, vec_len}
 use Rattle.std.specs.Prelude.{◌==◌}
 use Rattle.am_eval.specs.Silencing.{is_silenced, silencers}

@@ -1,4 +1,4 @@
--- A pair of the world's is a rule of its configuration and an alert that fires.
+-- A pair of a world has a rule of its configuration and an alert that fires.
 use Rattle.std.proofs.Common.{◌≡◌, List, [], ◌++◌, Some, drop, length, refl, sym, ap, ◌∙◌, arith}
 use Rattle.std.specs.Prelude.{slice_get}
 use Rattle.std.proofs.lemmas.List.{append-nil, drop_all}

@@ -4,7 +4,7 @@ use Rattle.am_asked.specs.Placed.{placed_in_list, placed_in_lists}
 use Rattle.am_asked.proofs.PlacedSteps.{IsOnTheWay}
 use Rattle.am_asked.proofs.visiting.visit_lists.Given as goal
 
--- what there is so far, with the matchers that are left, are those with all
+-- the visitor so far, with the matchers that are left, gives the visitor after all matchers
 abbrev pub invariant-loop-i : goal.invariant-loop-i
 invariant-loop-i g l =
     IsOnTheWay g.V.Visitor.after l.fn.visitor (placed_in_lists l.lists) l.visitor

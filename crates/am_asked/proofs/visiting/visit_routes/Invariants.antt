@@ -6,7 +6,8 @@ use Rattle.am_asked.specs.Placed.{placed_by_route, placed_in_routes}
 use Rattle.am_asked.proofs.PlacedSteps.{IsOnTheWay}
 use Rattle.am_asked.proofs.visiting.visit_routes.Given as goal
 
--- what there is so far, with the matchers of the routes that are left, are those with all
+-- the visitor so far, with the matchers of the routes that are left, gives the visitor after all
+-- matchers
 abbrev pub invariant-loop-i : goal.invariant-loop-i
 invariant-loop-i g l =
     IsOnTheWay g.V.Visitor.after l.fn.visitor (placed_in_routes (config_view l.config)) l.visitor

@@ -7,6 +7,6 @@ use Rattle.am_classes.proofs.candidates.other_text.Given as goal
 abbrev pub invariant-loop-text : goal.invariant-loop-text
 invariant-loop-text l = IsOrdinary (string_bytes l.text)
 
--- a text that is named is no longer than all of these together
+-- a named text is no longer than all named texts together
 abbrev pub decreases-loop-text : goal.decreases-loop-text
 decreases-loop-text l = length_of_all (named_texts l.questions) + 1 - length (string_bytes l.text)

@@ -1,4 +1,4 @@
--- What was read is accepted, and what is owed where it was read is owed for the inputs.
+-- What was read is accepted, and what is owed after reading is what is owed for the inputs.
 use Rattle.std.proofs.Common.{refl}
 use Rattle.am_questions.specs.Inputs.{inputs_of}
 use Rattle.am_eval.proofs.Promises.{refused, kept_as}

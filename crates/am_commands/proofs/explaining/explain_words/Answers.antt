@@ -1,4 +1,4 @@
--- What was read is accepted, and what is written is what was found about it.
+-- What was read is accepted, and what was found about it is what is written.
 use Rattle.std.proofs.Common.{◌≡◌, ℕ, List, [], ◌∷◌, map, inl, refl}
 use Rattle.am_universe.specs.LabelSet.{LabelMap}
 use Rattle.am_json.specs.Reading.{refusal_of}

@@ -1,4 +1,4 @@
--- Each receiver of the configuration was found about, and what is written is a report on what the
+-- Each receiver of the configuration has a result, and what is written is a report on what the
 -- files say.
 use Rattle.std.proofs.Common.{length, ap, ◌∙◌, refl}
 use Rattle.std.proofs.lemmas.List.FromFn.{length-map-range_with_len}

@@ -6,7 +6,7 @@ use Rattle.am_complete.proofs.NeededTexts.{absence_stands, absence_fails}
 use Rattle.am_complete.proofs.completeness_at.completeness_by_absence.Goals as goal
 use Rattle.am_complete.proofs.completeness_at.completeness_by_absence.Goals.{After-len}
 
--- how many stand there
+-- how many texts stand there
 count : (c : After-len) → c.len.result ≡ length (standing_texts c.args.space.now c.args.label.now.name)
 count c = grind (arith, common_steps)
 

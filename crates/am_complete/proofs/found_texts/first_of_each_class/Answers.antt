@@ -10,7 +10,7 @@ use Rattle.am_complete.proofs.ApartTexts.{apart_pushed}
 use Rattle.am_complete.proofs.Pushed.{in_pushed}
 use Rattle.am_complete.proofs.found_texts.first_of_each_class.Goals as goal
 
--- what is found is of the texts so far
+-- each text that was found is among the texts so far
 one_more : (tried before : List (List ℕ)) (j : ℕ) (x : List ℕ) → slice_get tried j ≡ Some x
     → ((text : List ℕ) → IsIn before text → (k : ℕ) × (k < j) × (slice_get tried k ≡ Some text))
     → (text : List ℕ) → IsIn (before ++ x ∷ []) text

@@ -1,7 +1,7 @@
 use Rattle.std.proofs.Common.{◌≡◌, ◌++◌, map, take, string_bytes}
 use Rattle.am_complete.proofs.made_universe.add_texts.Given as goal
 
--- the texts so far stand behind the others
+-- the texts so far come after the others
 abbrev pub invariant-loop-text : goal.invariant-loop-text
 invariant-loop-text l =
     map string_bytes l.texts.items

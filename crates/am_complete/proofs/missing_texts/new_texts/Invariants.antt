@@ -3,7 +3,7 @@ use Rattle.std.specs.List.{filter}
 use Rattle.am_complete.specs.Truths.{is_new}
 use Rattle.am_complete.proofs.missing_texts.new_texts.Given as goal
 
--- the texts so far are the new ones of the wanted texts so far
+-- the texts so far are the new ones among the wanted texts so far
 abbrev pub invariant-loop-j : goal.invariant-loop-j
 invariant-loop-j l =
     map string_bytes l.texts.items

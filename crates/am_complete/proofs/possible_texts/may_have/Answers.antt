@@ -13,7 +13,7 @@ use Rattle.am_complete.proofs.possible_texts.may_have.Goals.{After-asks_only_of}
 use Rattle.am_complete.proofs.possible_texts.may_have.Goals.{else-asks_only_of-via-then-asks_only_of+in_ok-matches+else-branch}
 use Rattle.am_complete.proofs.possible_texts.may_have.Goals.{else-asks_only_of-via-else-asks_only_of}
 
--- the list at the position, and that it takes the text away where it matches the set
+-- the list at the position; it takes the text away if it matches the set
 at_position : (c : After-asks_only_of)
     → slice_get c.args.impossible.now c.loop-list.list-index ≡ Some c.list-item.result
 at_position c = grind (arith, common_steps, slice_get_read)

@@ -3,7 +3,7 @@ use Rattle.std.specs.List.{filter}
 use Rattle.am_complete.specs.Complete.{may_have}
 use Rattle.am_complete.proofs.possible_texts.possible_texts.Given as goal
 
--- those so far that the label may have are kept
+-- the texts so far that the label may have are kept
 abbrev pub invariant-loop-text : goal.invariant-loop-text
 invariant-loop-text l =
     map string_bytes l.kept.items

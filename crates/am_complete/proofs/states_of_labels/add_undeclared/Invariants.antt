@@ -5,7 +5,7 @@ use Rattle.am_complete.specs.FoundState.{IsSoOfName}
 use Rattle.am_complete.proofs.LabelStates.{names_of, undeclared}
 use Rattle.am_complete.proofs.states_of_labels.add_undeclared.Given as goal
 
--- the states are of the labels so far that are not declared, behind the others, and each is so
+-- after the others come the states of the labels so far that are not declared, and each is true
 abbrev pub invariant-loop-label : goal.invariant-loop-label
 invariant-loop-label l = record {
   names : names_of l.states.items ≡ names_of l.fn.states.items

@@ -8,7 +8,8 @@ use Rattle.am_config.specs.ConfigForm.{next_child_form}
 use Rattle.am_json.proofs.Readings.{Leads}
 use Rattle.am_config.proofs.config_file.+routes.Given as goal
 
--- what is left behind the children so far leads the reading of all, and they are counted
+-- reading the items that are left, after the children so far, gives what reading all items gives;
+-- and the children so far are counted
 abbrev pub invariant-read_routes-loop-item : goal.invariant-read_routes-loop-item
 invariant-read_routes-loop-item l = record {
   leads : Leads (read_items (next_child_form (names_of l.names) l.levels l.receiver l.before)

@@ -6,7 +6,7 @@ use Rattle.am_config.specs.RouteView.{names_of}
 use Rattle.am_json.proofs.Readings.{Leads}
 use Rattle.am_config.proofs.config_file.read_each_name.Given as goal
 
--- what is left behind the names so far leads the reading of all
+-- reading the items that are left, after the names so far, gives what reading all items gives
 abbrev pub invariant-loop-item : goal.invariant-loop-item
 invariant-loop-item g l =
     (reading : List (List ℕ) → Data → Reading (List ℕ))

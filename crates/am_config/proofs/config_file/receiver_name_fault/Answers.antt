@@ -9,7 +9,7 @@ use Rattle.am_config.specs.ConfigForm.{receiver_name_fault}
 use Rattle.am_config.proofs.Positions.{position_any}
 use Rattle.am_config.proofs.config_file.receiver_name_fault.Goals as goal
 
--- a name that is not empty is at fault where `position` finds it
+-- a name that is not empty is at fault exactly if `position` finds it
 fault_of : (before : List (List ℕ)) (name : List ℕ) (found : Bool) → (length name == 0) ≡ false
     → is_some (position (λ other. same_text other name) before) ≡ found
     → receiver_name_fault before name ≡ cond found (Some kinds.Duplicate) None

@@ -6,7 +6,7 @@ use Rattle.am_config.specs.ConfigForm.{next_text_form, each_text_form}
 use Rattle.am_json.proofs.Readings.{Leads}
 use Rattle.am_config.proofs.route_matchers.read_each_text.Given as goal
 
--- what is left behind the matchers so far leads the reading of all
+-- reading the texts that are left, after the matchers so far, gives what reading all texts gives
 abbrev pub invariant-loop-i : goal.invariant-loop-i
 invariant-loop-i l =
     Leads (read_each next_text_form l.all

@@ -4,7 +4,7 @@ use Rattle.am_config.specs.RouteView.{route_view}
 use Rattle.am_config.specs.RoutePaths.{routes_from}
 use Rattle.am_config.proofs.routes.+routes.Given as goal
 
--- the routes so far, and those of the children that are left, are all
+-- the routes so far, and those of the children that are left, are all routes
 abbrev pub invariant-add_children-loop-position : goal.invariant-add_children-loop-position
 invariant-add_children-loop-position l = record {
   paths : l.found.paths.items ++ map (λ r. r.0)

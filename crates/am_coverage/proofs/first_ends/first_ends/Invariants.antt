@@ -6,7 +6,7 @@ use Rattle.am_coverage.specs.Coverage.{first_end}
 use Rattle.am_coverage.specs.CoverageView.{end_view}
 use Rattle.am_coverage.proofs.first_ends.first_ends.Given as goal
 
--- of each route so far the first end and the receiver are found
+-- for each route so far, the first end and the receiver are found
 abbrev pub invariant-loop-i : goal.invariant-loop-i
 invariant-loop-i l = record {
   ends : map end_view l.found.items

@@ -5,7 +5,7 @@ use Rattle.am_config.specs.RoutePaths.{paths_of}
 use Rattle.am_coverage.proofs.ReceiverRoutes.{covered_by}
 use Rattle.am_coverage.proofs.receiver_coverage.receivers_covered.Given as goal
 
--- what is known of each receiver is what the routes so far tell
+-- the coverage of each receiver is its coverage by the routes so far
 abbrev pub invariant-loop-end : goal.invariant-loop-end
 invariant-loop-end l =
     l.found.items

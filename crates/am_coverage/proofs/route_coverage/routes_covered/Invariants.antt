@@ -7,7 +7,7 @@ use Rattle.am_coverage.specs.Coverage.{route_coverage}
 use Rattle.am_coverage.specs.CoverageView.{found_view, IsShownRoute}
 use Rattle.am_coverage.proofs.route_coverage.routes_covered.Given as goal
 
--- of each route so far it is found what becomes of it
+-- the coverage of each route so far is found
 abbrev pub invariant-loop-i : goal.invariant-loop-i
 invariant-loop-i l = record {
   routes : map found_view l.found.items

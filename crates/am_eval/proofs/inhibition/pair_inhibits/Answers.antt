@@ -1,4 +1,4 @@
--- A pair of the world's is a rule of its configuration and an alert that fires.
+-- A pair of a world has a rule of its configuration and an alert that fires.
 use Rattle.std.proofs.Common.{◌≡◌, List, ap, ◌∙◌, arith}
 use Rattle.std.proofs.lemmas.Result.{IfOk-weaker}
 use Rattle.am_config.specs.ConfigFile.{Configuration, Rule}

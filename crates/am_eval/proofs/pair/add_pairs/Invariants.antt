@@ -4,7 +4,7 @@ use Rattle.am_eval.specs.Pairs.{pairs_of_rule}
 use Rattle.am_eval.proofs.PairSteps.{pairs_from}
 use Rattle.am_eval.proofs.pair.add_pairs.Given as goal
 
--- what was found, and the pairs with the alerts that are left, are all
+-- what was found, and the pairs with the alerts that are left, are all pairs
 abbrev pub invariant-loop-i : goal.invariant-loop-i
 invariant-loop-i l = record {
   together : l.found.items ++ pairs_from (l.position, l.rule) l.i l.alerts

@@ -4,7 +4,7 @@ use Rattle.am_eval.specs.Pairs.{pairs_of}
 use Rattle.am_eval.proofs.PairSteps.{pairs_left}
 use Rattle.am_eval.proofs.pair.pairs_of.Given as goal
 
--- what was found, and the pairs of the rules that are left, are all
+-- what was found, and the pairs of the rules that are left, are all pairs
 abbrev pub invariant-loop-i : goal.invariant-loop-i
 invariant-loop-i l = record {
   together : l.found.items ++ pairs_left l.alerts l.i l.rules ≡ pairs_of l.rules l.alerts;

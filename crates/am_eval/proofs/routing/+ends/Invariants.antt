@@ -4,7 +4,7 @@ use Rattle.am_config.specs.RouteView.{route_view}
 use Rattle.am_eval.proofs.ChildEnds.{ends_from}
 use Rattle.am_eval.proofs.routing.+ends.Given as goal
 
--- the ends so far, and those of the children that are left, are those of all
+-- the ends so far, and those of the children that are left, are all ends
 abbrev pub invariant-add_ends_of_children-loop-position :
     goal.invariant-add_ends_of_children-loop-position
 invariant-add_ends_of_children-loop-position l =

@@ -1,4 +1,4 @@
--- What the words are refused for stands at their place.
+-- A fault of the words is at the place `Set`.
 use Rattle.std.proofs.Common.{arith, ◌≢◌, ◌∙◌, ℕ, List, map, sym, subst}
 use Rattle.am_universe.specs.declared.kind.Kind.{Kind}
 use Rattle.am_universe.specs.declared.kind.Kind.TheVariants as kinds

@@ -1,4 +1,4 @@
--- Where reading stops is the first fault: what was read before is accepted.
+-- Reading stops at the first fault: what was read before is accepted.
 use Rattle.std.proofs.Common.{◌∷◌, inl, inr}
 use Rattle.am_json.specs.Reading.{refusal_of}
 use Rattle.am_config.specs.ConfigView.{config_view}

@@ -1,4 +1,4 @@
--- What is first among those that are possible by the cubes.
+-- The first choice among those that are possible by the cubes.
 use Rattle.std.proofs.Common.{◌∙◌, ap, slice_get}
 use Rattle.am_universe.specs.Universe.{sizes}
 use Rattle.am_universe.specs.Choice.{choices}

@@ -1,4 +1,4 @@
--- By the two questions how far the list reaches is known.
+-- The two questions decide how far the list reaches.
 use Rattle.std.proofs.Common.{◌≡◌, true, false, sym, subst}
 use Rattle.am_labels.specs.Space.{Space}
 use Rattle.am_judged_lists.specs.Cube.{IsCubeOf}

@@ -1,4 +1,4 @@
--- What is found, or that nothing is, by the one literal.
+-- The result of the search with the one literal.
 use Rattle.std.proofs.Common.{refl, sym, ◌∙◌, true}
 use Rattle.am_first_sets.specs.PossibleRefuter.{possible_space}
 use Rattle.am_reasons.specs.declared.candidate.Candidate.{Candidate}

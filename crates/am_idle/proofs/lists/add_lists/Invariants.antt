@@ -5,7 +5,7 @@ use Rattle.am_asked.proofs.PlacedSteps.{IsOnTheWay}
 use Rattle.am_idle.specs.Lists.{placed_by_list, placed_by_lists}
 use Rattle.am_idle.proofs.lists.add_lists.Given as goal
 
--- the labels so far, with the matchers that are left, are those with all
+-- the labels so far, with the matchers that are left, give the labels with all matchers
 abbrev pub invariant-loop-i : goal.invariant-loop-i
 invariant-loop-i l =
     IsOnTheWay with_asked l.fn.gathering (placed_by_lists (map (λ list. list.now) l.lists)) l.gathering

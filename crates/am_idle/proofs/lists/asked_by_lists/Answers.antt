@@ -1,4 +1,4 @@
--- What is gathered is what is asked.
+-- The labels that are gathered are those that are asked about.
 use Rattle.std.proofs.Common.{◌≡◌, [], sym, subst, refl, List, map}
 use Rattle.std.proofs.lemmas.List.Sums.{fold-append}
 use Rattle.am_complete.specs.AskedLabel.{AskedLabel, IsAskedOf, with_asked}

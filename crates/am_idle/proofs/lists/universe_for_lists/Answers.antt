@@ -1,4 +1,4 @@
--- What is made for the labels that the lists ask of, and what is refused for them.
+-- What is made for the labels that the lists ask about, and what is refused for them.
 use Rattle.std.proofs.Common.{◌≡◌, ◌≢◌, List, [], length, inl, inr, map, refl, sym, ◌∙◌, subst}
 use Rattle.std.proofs.Common.{Bool, true, false, ℕ, ap, vec_len, rules}
 use Rattle.std.specs.Prelude.{◌==◌}

@@ -1,4 +1,4 @@
--- One rule more, or the first that is refused.
+-- One more rule, or the first that is refused.
 use Rattle.std.proofs.Common.{◌∙◌, subst}
 use Rattle.am_labels.specs.Space.{Space}
 use Rattle.am_complete.proofs.Pushed.{one_more_passes}

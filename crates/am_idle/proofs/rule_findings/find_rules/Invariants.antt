@@ -4,7 +4,7 @@ use Rattle.am_idle.specs.Rules.{IsRuleFinding}
 use Rattle.am_idle.specs.RuleFindings.{IsRuleAccepted}
 use Rattle.am_idle.proofs.rule_findings.find_rules.Given as goal
 
--- what is said of the rules so far is so, and none of them was refused
+-- what is said of the rules so far is true, and none of them was refused
 abbrev pub invariant-loop-i : goal.invariant-loop-i
 invariant-loop-i l = record {
   found : AllZip (IsRuleFinding l.alphabet l.fn.space) (take l.i l.rules) l.found.items;

@@ -1,4 +1,4 @@
--- What is so over the universe that is made is so over every alert.
+-- What holds over the universe that is made holds over every alert.
 use Rattle.std.proofs.Common.{◌≡◌, subst, List, [], ◌∷◌}
 use Rattle.am_labels.specs.Matcher.{Condition}
 use Rattle.am_labels.specs.Space.{Space}

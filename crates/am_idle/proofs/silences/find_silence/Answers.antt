@@ -1,4 +1,4 @@
--- What is said by how far the matchers reach.
+-- What is said of a silence, by how far its matchers reach.
 use Rattle.std.proofs.Common.{◌≡◌, false, sym, ap, ◌∙◌, inr}
 use Rattle.std.specs.Prelude.{◌&&◌}
 use Rattle.am_every_alert.specs.EveryAlert.{IsAlertOf}

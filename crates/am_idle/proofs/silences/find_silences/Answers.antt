@@ -1,4 +1,4 @@
--- One silence more, or the first that is refused.
+-- One more silence, or the first that is refused.
 use Rattle.std.proofs.Common.{◌<◌, length, ap, ◌∙◌, subst, arith}
 use Rattle.am_labels.specs.Space.{Space}
 use Rattle.am_complete.proofs.Pushed.{one_more_passes}

@@ -3,7 +3,7 @@ use Rattle.std.specs.List.{AllByRecursion, AllZip}
 use Rattle.am_idle.specs.Silences.{IsSilenceFinding, IsAccepted}
 use Rattle.am_idle.proofs.silences.find_silences.Given as goal
 
--- what is said of the silences so far is so, and none of them was refused
+-- what is said of the silences so far is true, and none of them was refused
 abbrev pub invariant-loop-i : goal.invariant-loop-i
 invariant-loop-i l = record {
   found : AllZip (IsSilenceFinding l.alphabet l.fn.space l.world l.alerts_given)

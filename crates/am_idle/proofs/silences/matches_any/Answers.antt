@@ -1,4 +1,4 @@
--- The alert of a turn is matched, or it is not, as those before.
+-- The alert of a turn is matched, or it is not, like those before.
 use Rattle.std.proofs.Common.{◌≡◌, true, false, sym, ap, ◌∙◌}
 use Rattle.am_universe.proofs.Members.{in_at}
 use Rattle.am_universe.specs.LabelSet.{LabelMap}

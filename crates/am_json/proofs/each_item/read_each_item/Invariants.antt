@@ -6,7 +6,7 @@ use Rattle.am_json.specs.Reading.{Gives, Reading, read_items}
 use Rattle.am_json.proofs.Readings.{Leads}
 use Rattle.am_json.proofs.each_item.read_each_item.Given as goal
 
--- what is left behind the items so far leads the reading of all
+-- reading the items that are left, after those so far, gives what reading all items gives
 abbrev pub invariant-loop-item : goal.invariant-loop-item
 invariant-loop-item g l = record {
   leads : (reading : Data → Reading g.row.T.Denot)

@@ -6,7 +6,7 @@ use Rattle.am_json.specs.Reading.{Gives, Reading, read_each}
 use Rattle.am_json.proofs.Readings.{Leads}
 use Rattle.am_json.proofs.each_item.read_each_member.Given as goal
 
--- what is left behind the members so far leads the reading of all
+-- reading the members that are left, after those so far, gives what reading all members gives
 abbrev pub invariant-loop-name : goal.invariant-loop-name
 invariant-loop-name g l =
     (reading : g.row.T.Denot → (List ℕ × Data) → Reading g.row.T.Denot)

@@ -4,7 +4,7 @@ use Rattle.am_json.specs.Json.{unknown_field}
 use Rattle.am_json.proofs.Keys.{Ascends}
 use Rattle.am_json.proofs.json.unknown_field.Given as goal
 
--- what is left has the same least unknown field as all members
+-- the members that are left have the same least unknown field as all members
 abbrev pub invariant-loop-key : goal.invariant-loop-key
 invariant-loop-key l = record {
   same : unknown_field (map (λ name. name.now) l.known) (members_view l.key-iterator)

@@ -3,7 +3,7 @@ use Rattle.std.specs.Vec.Iter.{into_iter_items, into_iter_len}
 use Rattle.am_labels.specs.MatcherRefusals.{have_valid_patterns}
 use Rattle.am_labels.proofs.matcher_text.matchers_of.Given as goal
 
--- those so far are taken over, and their patterns are valid
+-- The matchers so far are taken over, and their patterns are valid.
 abbrev pub invariant-loop-condition : goal.invariant-loop-condition
 invariant-loop-condition l = record {
   left : l.yielded ++ into_iter_items l.condition-iterator ≡ l.fn.list.items;

@@ -3,7 +3,7 @@ use Rattle.am_labels.specs.MatcherReading.{read_each_piece}
 use Rattle.am_labels.proofs.MatcherTextPieces.{after}
 use Rattle.am_labels.proofs.matcher_text.read_each_word.Given as goal
 
--- with the words that are left, the list so far is what all words give
+-- The list so far, followed by what the words that are left give, is what all words give.
 abbrev pub invariant-loop-word : goal.invariant-loop-word
 invariant-loop-word l =
     after l.list.items (read_each_piece (map (λ word. word.now) (drop l.word-index l.words)))

@@ -1,4 +1,4 @@
--- The index and the text that is left say what the whole text says.
+-- The context and the text that is left decide what the whole pattern decides.
 use Rattle.std.proofs.Common.{◌∙◌, sym}
 use Rattle.std.proofs.lemmas.List.{take_rest}
 use Rattle.am_labels.proofs.PatternCuts.{has_no_refused_piece-refused, has_no_refused_piece-stepped, has_no_refused_piece-empty}

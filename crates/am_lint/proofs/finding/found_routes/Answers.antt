@@ -1,4 +1,4 @@
--- One route more is found, and it stands at its path.
+-- One more route is found, and it stands at its path.
 use Rattle.std.proofs.Common.{◌≡◌, ◌<◌, ◌≤◌, ◌+◌, ◌++◌, ◌∷◌, [], List, ℕ, length, take, Some, None}
 use Rattle.std.proofs.Common.{refl, sym, ap, ◌∙◌, subst, arith, slice_get}
 use Rattle.std.specs.List.{AllByRecursion, AllZip}

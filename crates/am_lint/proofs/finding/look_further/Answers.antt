@@ -1,4 +1,4 @@
--- One route more is looked at.
+-- One more route is looked at.
 use Rattle.std.proofs.Common.{◌≡◌, ◌<◌, length, Some, refl, sym, ap, ◌∙◌, subst, slice_get, arith}
 use Rattle.std.proofs.Common.{ℕ, List}
 use Rattle.std.proofs.lemmas.Option.{slice_get_read}

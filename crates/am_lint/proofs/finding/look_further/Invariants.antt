@@ -4,7 +4,7 @@ use Rattle.am_config.specs.ConfigView.{config_view}
 use Rattle.am_lint.specs.FoundView.{IsSameButEvery, IsLookedAt}
 use Rattle.am_lint.proofs.finding.look_further.Given as goal
 
--- the routes so far are looked at, and all are the same else
+-- the routes so far are looked at, and all routes are otherwise the same
 abbrev pub invariant-loop-i : goal.invariant-loop-i
 invariant-loop-i l = record {
   same : AllZip IsSameButEvery l.fn.found l.found;

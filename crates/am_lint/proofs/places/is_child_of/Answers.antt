@@ -1,4 +1,4 @@
--- A child's path is longer by one step, and goes on from the other.
+-- The path of a child is one step longer, and begins with the other path.
 use borrow.Author.Tests.{ne_eqb}
 use Rattle.std.proofs.Common.{◌+◌, ◌∙◌, sym, arith}
 use Rattle.am_lint.proofs.PlaceSteps.{child_is, child_is_not}

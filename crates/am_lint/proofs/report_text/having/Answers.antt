@@ -1,4 +1,4 @@
--- The route of a turn is added where it has the receiver.
+-- The route of a turn is added if it has the receiver.
 use Rattle.std.proofs.Common.{◌∙◌, refl, ap, map, append-nil, eq-eqb, arith}
 use borrow.Author.Tests.{ne_eqb}
 use Rattle.std.proofs.lemmas.List.{take_all, map-append}

@@ -1,4 +1,4 @@
--- The reason, and then the label set that does enter.
+-- The reason, followed by the label set that does enter.
 use Rattle.std.proofs.Common.{ℕ, List, ◌++◌, codes, string_bytes, refl, append_assoc}
 use Rattle.std.proofs.lemmas.Result.{on_ok_weaker}
 use Rattle.am_universe.specs.WrittenLabelSet.{set_text}

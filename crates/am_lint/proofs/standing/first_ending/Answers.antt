@@ -1,4 +1,4 @@
--- What is found does as the parts want, and so it ends there.
+-- The label set that is found does what the parts want, and so it ends there.
 use Rattle.am_lint.specs.declared.literals.Part.TheVariants.{Children}
 use Rattle.am_lint.specs.Table.{table_space, table_config}
 use Rattle.am_lint.proofs.LiteralLemmas.{more_literals}

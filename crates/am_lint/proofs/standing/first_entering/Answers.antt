@@ -1,4 +1,4 @@
--- What is found does as the parts want, and so it is such a label set.
+-- The label set that is found does what the parts want, and so it enters the route.
 use Rattle.am_lint.specs.Table.{table_space, table_config}
 use Rattle.am_lint.proofs.PartsEntering.{to_enter, meets_enter}
 use Rattle.am_lint.proofs.PartsMet.{shown_if_found, none_if_unfound}

@@ -1,4 +1,4 @@
--- What is left of the literals behind the first ones.
+-- The literals behind the first ones.
 use Rattle.std.proofs.Common.{◌≡◌, ◌-◌, ℕ, length, take, drop, List, subst, sym, ap, ◌∙◌, arith}
 use Rattle.std.proofs.Common.{length-drop}
 use Rattle.std.proofs.lemmas.List.{take_all}

@@ -1,4 +1,4 @@
--- The literals are those of one part more, and those that are named a reason.
+-- The literals are those of one more part, and the named ones are a reason.
 use Rattle.std.proofs.Common.{◌≡◌, ◌+◌, ◌∷◌, ◌++◌, [], List, length, ap, ◌∙◌, subst, arith, drop}
 use Rattle.std.proofs.Common.{length-append}
 use Rattle.am_reasons.specs.declared.candidate.Candidate.{Candidate}

@@ -1,4 +1,4 @@
--- The children are a reason, beside what a label set meets that enters.
+-- The children are a reason, together with what a label set that enters the route meets.
 use Rattle.am_lint.specs.Reaching.{IsSetOf}
 use Rattle.am_lint.specs.Table.{table_space, table_config}
 use Rattle.am_lint.proofs.LiteralLemmas.{if_ok_more}

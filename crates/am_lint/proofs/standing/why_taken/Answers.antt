@@ -1,4 +1,4 @@
--- The siblings are a reason, beside the way.
+-- The siblings are a reason, together with the way.
 use Rattle.am_lint.specs.Reaching.{IsSetOf}
 use Rattle.am_lint.specs.Table.{table_space, table_config}
 use Rattle.am_lint.proofs.LiteralLemmas.{if_ok_more}

@@ -43,7 +43,7 @@ loop-item-preserved c =
       count = omega (arith, length-append l.universe (label ∷ []), l.invariant.count);
     })
 
--- what was read has no fault, and there is room
+-- the label that was read has no fault, and there is room for it
 pub add-requires : goal.add-requires
 add-requires c =
     let l = c.loop-item in

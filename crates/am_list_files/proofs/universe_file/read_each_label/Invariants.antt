@@ -5,7 +5,7 @@ use Rattle.am_list_files.specs.UniverseForm.{next_label_form}
 use Rattle.am_json.proofs.Readings.{Leads}
 use Rattle.am_list_files.proofs.universe_file.read_each_label.Given as goal
 
--- what is left behind the labels so far leads the reading of all
+-- reading the labels that are left, after those so far, gives what reading all labels gives
 abbrev pub invariant-loop-item : goal.invariant-loop-item
 invariant-loop-item l = record {
   leads : Leads (read_items next_label_form l.universe (map view (drop l.item-index l.items)))

@@ -6,7 +6,7 @@ use Rattle.am_list_files.specs.UniverseForm.{next_value_form}
 use Rattle.am_json.proofs.Readings.{Leads}
 use Rattle.am_list_files.proofs.universe_file.read_each_value.Given as goal
 
--- what is left behind the values so far leads the reading of all
+-- reading the values that are left, after those so far, gives what reading all values gives
 abbrev pub invariant-loop-item : goal.invariant-loop-item
 invariant-loop-item l =
     Leads (read_items next_value_form (texts_of l.values.items)

@@ -8,7 +8,7 @@ use Rattle.am_complete.specs.AskedLabel.{AskedLabel, IsAskedOf}
 use Rattle.am_complete.proofs.AmongMatchers.{last_among}
 use Rattle.am_notes.proofs.universes.states_by_routes.Goals as goal
 
--- the labels are asked of by the routes and by what is impossible
+-- the labels are those that the routes and the impossible lists ask about
 asked_as : (routes : List Condition) (s : Space) (asked items : List AskedLabel)
     (lists : List (List Condition)) → asked ≡ items → lists ≡ s.impossible
     → IsAskedOf items (routes ++ impossible_conditions lists)

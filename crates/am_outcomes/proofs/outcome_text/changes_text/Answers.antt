@@ -32,7 +32,7 @@ two_fates c =
     as_many c.requires.0 (config_view c.args.old.now ∷ config_view c.args.new.now ∷ [])
     (fates_view c.get.result.0.now, c.get.result.1.now) c.get.result.0.now (of_choice c) refl
 
--- its receivers are those that are read
+-- the receivers that the code reads are those of the outcome
 old_read : (c : After-as_slice-after)
     → under 0 (fates_view c.get.result.0.now) ≡ c.as_slice-before.result.now
 old_read c =
@@ -98,7 +98,7 @@ push_first-requires c =
     subst (λ (u : List Label). IsWhole (sizes u) c.get.result.1.now) c.requires.1
     (of_choice (goal.at.push_first-requires c).After-get).0
 
--- whether it is a change is what the names said
+-- the comparison of the names says whether it is a change
 is_one : (c : After-have_same_names) → is_change (config_view c.args.old.now)
     (config_view c.args.new.now) (fates_view c.get.result.0.now, c.get.result.1.now)
     ≡ not c.have_same_names.result

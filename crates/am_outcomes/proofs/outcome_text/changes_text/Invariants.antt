@@ -4,7 +4,7 @@ use Rattle.am_config.specs.ConfigView.{config_view}
 use Rattle.am_outcomes.specs.OutcomeText.{changes_of, change_line}
 use Rattle.am_outcomes.proofs.outcome_text.changes_text.Given as goal
 
--- the lines of the changes so far, and how many they are
+-- the lines of the changes so far, and their number
 abbrev pub invariant-loop-i : goal.invariant-loop-i
 invariant-loop-i l =
     (string_bytes l.text

@@ -19,7 +19,7 @@ of_choice c =
     outcome_at c.requires.0 (config_view c.args.config.now ∷ []) c.args.outcomes.now c.requires.2
     c.loop-i.i (fates_view c.get.result.0.now, c.get.result.1.now) c.get.ensures.outcome
 
--- its receivers are those that are read
+-- the receivers that the code reads are those of the outcome
 receivers_read : (c : After-as_slice)
     → under 0 (fates_view c.get.result.0.now) ≡ c.as_slice.result.now
 receivers_read c =

@@ -1,4 +1,4 @@
--- A pair of the world's is a rule of its configuration and an alert that fires.
+-- Each pair of a world is a rule of its configuration and an alert that fires.
 use Rattle.std.proofs.Common.{◌≡◌, List, ◌++◌, Some, map, refl, sym, ap, ◌∙◌, arith}
 use Rattle.std.specs.Prelude.{slice_get}
 use Rattle.am_config.specs.ConfigFile.{Configuration, Rule}

@@ -6,7 +6,7 @@ use Rattle.am_plans.specs.RouteSeen.{route_seen}
 use Rattle.am_plans.specs.RoutesByLists.{seen_by}
 use Rattle.am_plans.proofs.route_lists.+lists.Given as goal
 
--- the routes so far are seen as by their lists
+-- the lists so far show their routes as they are
 abbrev pub invariant-lists_of_routes-loop-route : goal.invariant-lists_of_routes-loop-route
 invariant-lists_of_routes-loop-route g l =
     (prefix : List ℕ) → g.L.JudgedList.Knows (sizes l.universe) prefix

@@ -6,7 +6,7 @@ use Rattle.am_judged_lists.specs.Certainty.{passes}
 use Rattle.am_plans.proofs.SilenceSteps.{hides}
 use Rattle.am_plans.proofs.world_lists.lists_of_silences.Given as goal
 
--- some list so far passes exactly where a silence so far hides
+-- some list so far passes exactly if a silence so far hides
 abbrev pub invariant-loop-i : goal.invariant-loop-i
 invariant-loop-i g l =
     (prefix : List ℕ) (m : Certainty) → g.L.JudgedList.Knows (sizes l.universe) prefix

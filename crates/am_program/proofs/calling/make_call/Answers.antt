@@ -1,4 +1,4 @@
--- What a command owes is what its request asks for.
+-- What a command owes is what is owed for its request.
 use Rattle.std.proofs.Common.{◌≡◌, map}
 use Rattle.std.specs.Prelude.{option_copied, Some}
 use Rattle.am_questions.specs.Inputs.{Inputs}

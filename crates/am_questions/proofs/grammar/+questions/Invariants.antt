@@ -6,7 +6,7 @@ use Rattle.am_questions.specs.TreeView.{tree_view}
 use Rattle.am_questions.proofs.Fronts.{SoFar}
 use Rattle.am_questions.proofs.grammar.+questions.Given as goal
 
--- A call goes down one tier of the grammar, or some lexeme was read before it.
+-- Each call goes down one tier of the grammar, or some lexeme was read before it.
 abbrev pub tiers_down : Connective → ℕ
 tiers_down by.And = 0
 tiers_down by.Or = 2

@@ -1,4 +1,4 @@
--- Where reading stops is the first fault: what was read before is accepted.
+-- Reading stops at the first fault: what was read before is accepted.
 use Rattle.std.proofs.Common.{arith, ◌≢◌, inl, inr, ◌∙◌, List, [], ◌∷◌}
 use Rattle.am_universe.specs.declared.kind.Kind.TheVariants as kinds
 use Rattle.am_json.specs.Reading.{refusal_of}
@@ -14,7 +14,7 @@ use Rattle.am_questions.proofs.HasFingerprint.{asked_is_start}
 use Rattle.am_questions.proofs.PartLemmas.{parts_unwritten}
 use Rattle.am_questions.proofs.inputs.read_inputs.Goals as goal
 
--- the stages behind those of the files
+-- the stages after those of the files
 abbrev last_stages : Inputs → List Stage
 last_stages inputs =
     question_stage (config_of inputs.files.config) inputs.question

@@ -1,4 +1,4 @@
--- A token that is refused is refused as one of two kinds.
+-- A token is refused with one of two kinds.
 use Rattle.std.proofs.Common.{◌≢◌, ◌∙◌, ℕ, List, inl, inr, sym}
 use Rattle.am_universe.specs.Universe.{sizes}
 use Rattle.am_universe.specs.declared.kind.Kind.{Kind}
@@ -6,7 +6,7 @@ use Rattle.am_universe.specs.declared.kind.Kind.TheVariants as kinds
 use Rattle.am_search.specs.Token.{RefusesToken}
 use Rattle.am_questions.proofs.inputs.read_start.Goals as goal
 
--- another kind than these is none of a token
+-- a token is refused with no other kind
 not_of : (sizes fingerprint text : List ℕ) (kind other : Kind) → kinds.BadToken ≢ other
     → kinds.OtherInputs ≢ other → RefusesToken sizes fingerprint text kind → kind ≢ other
 not_of sizes fingerprint text kind other none others (inl refused) e = none (sym refused.0 ∙ e)

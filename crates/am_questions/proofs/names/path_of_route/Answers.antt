@@ -1,4 +1,4 @@
--- Where no route is at a path with the text, the text is the path of none.
+-- If no route is at a path with the text, the text is the path of no route.
 use Rattle.std.proofs.Common.{refl, inl, inr}
 use Rattle.am_config.specs.ConfigView.{config_view}
 use Rattle.am_questions.proofs.RouteNames.{not_spelled, beyond_routes, no_route_there}

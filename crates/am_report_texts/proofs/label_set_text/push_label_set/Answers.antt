@@ -1,4 +1,4 @@
--- Each turn adds one more label, behind its separator.
+-- Each turn adds one more label, after its separator.
 use Rattle.std.proofs.Common.{◌≡◌, length, string_bytes, ap, sym, ◌∙◌, arith, rules}
 use Rattle.std.specs.Option.{option_map}
 use Rattle.std.proofs.lemmas.List.{length-map}

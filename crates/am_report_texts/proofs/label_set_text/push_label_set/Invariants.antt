@@ -5,7 +5,8 @@ use Rattle.am_universe.specs.LabelSet.{label_pairs}
 use Rattle.am_universe.proofs.SetTextLemmas.{joined, separator}
 use Rattle.am_report_texts.proofs.label_set_text.push_label_set.Given as goal
 
--- The brace and the pairs of the first labels are written; and what separates the next from them.
+-- The brace and the pairs of the first labels are written, and the separator is that of the next
+-- one.
 abbrev pub invariant-loop-i : goal.invariant-loop-i
 invariant-loop-i l =
     shadow (Utf8 l.separator)

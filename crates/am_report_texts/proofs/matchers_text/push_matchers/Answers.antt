@@ -1,4 +1,4 @@
--- The matchers so far are those before the next.
+-- Each turn adds one more matcher, after its separator.
 use Rattle.std.proofs.Common.{ℕ, List, ◌++◌, codes, string_bytes, ap, refl, ◌∙◌, append_assoc}
 use Rattle.std.proofs.Common.{arith}
 use Rattle.am_report_texts.specs.Separated.{texts_behind}

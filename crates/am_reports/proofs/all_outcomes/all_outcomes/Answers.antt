@@ -1,4 +1,4 @@
--- What is looked at, made and found is so of the space that was handed in.
+-- What is checked, made and found is true of the space that was passed.
 use Rattle.std.proofs.Common.{◌≡◌, ◌≢◌, false, is_some, option_copied, sym, ◌∙◌, subst, inl, inr}
 use Rattle.am_universe.specs.declared.kind.Kind.TheVariants as kinds
 use Rattle.am_universe.specs.declared.fault.Fault.{Fault}
@@ -18,14 +18,14 @@ use Rattle.am_reports.proofs.all_outcomes.all_outcomes.Goals.{After-alphabet_of-
 use Rattle.am_reports.proofs.all_outcomes.all_outcomes.Goals.{else-is_some}
 use Rattle.am_reports.proofs.all_outcomes.all_outcomes.Goals.{then-is_some+in_ok-check_declared}
 
--- a fault is as is said
+-- a fault is one that the contract allows
 abbrev IsRefused : (c : After-alphabet_of-alphabet) → Fault → Type 0
 IsRefused c f =
     f.kind ≢ kinds.Memory → SaysUniverseIfAny (option_copied c.args.file) c.args.space
     → IsOutcomesRefusal (alphabet_of c.args.ascii) c.args.space (configurations_of c.args.configs)
     f.place (refusal_of f)
 
--- where a universe file declares labels, they were looked at
+-- if there is a universe file, the labels that it declares were checked
 whole : (c : After-declare) → SaysUniverseIfAny (option_copied c.args.file) c.args.space
     → AreDeclaredWhole (alphabet_of c.args.ascii) c.args.space (configurations_of c.args.configs)
     c.args.space.labels

@@ -1,4 +1,4 @@
--- A fault of a file is none of writing, so it keeps what it has but for its place.
+-- A fault of a file is not one of writing, so only its place changes.
 use Rattle.std.proofs.Common.{◌≡◌, ◌≢◌, sym, ◌∙◌, subst}
 use Rattle.am_universe.specs.declared.kind.Kind.TheVariants as kinds
 use Rattle.am_universe.specs.declared.place.Place.TheVariants as places

@@ -1,4 +1,4 @@
--- The inputs come before what is made of them, and what is written is the comparison.
+-- The faults of the inputs come first, and the comparison is what is written.
 use Rattle.std.proofs.Common.{Ok, refl, string_bytes}
 use Rattle.std.specs.Result.{result_and}
 use Rattle.am_json.specs.Reading.{refusal_of}

@@ -1,4 +1,4 @@
--- The line of one rule more.
+-- One more rule, and its line.
 use Rattle.std.proofs.Common.{◌<◌, length, string_bytes, sym, subst}
 use Rattle.am_report_texts.proofs.PieceSteps.{item_here}
 use Rattle.am_idle.specs.RuleText.{rule_line, HasPositionsIfAny}

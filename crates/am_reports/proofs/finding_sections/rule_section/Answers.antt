@@ -1,4 +1,4 @@
--- There is a finding, or none, for each rule, and what it names stands in the rule.
+-- Each rule has a finding or none, and the positions that a finding names are in the rule.
 use Rattle.std.proofs.Common.{length, ap, ◌∙◌}
 use Rattle.am_idle.specs.Rules.{IsRuleFinding}
 use Rattle.am_idle.specs.RuleText.{HasPositionsIfAny}

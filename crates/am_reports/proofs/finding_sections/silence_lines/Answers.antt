@@ -1,4 +1,4 @@
--- The line of one silence more.
+-- One more silence, and its line.
 use Rattle.std.proofs.Common.{None, get_or, string_bytes}
 use Rattle.std.proofs.lemmas.Option.{slice_get-get_or}
 use Rattle.am_idle.specs.SilenceText.{silence_line}

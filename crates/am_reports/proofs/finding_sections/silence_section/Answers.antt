@@ -1,4 +1,4 @@
--- There is a finding, or none, for each silence.
+-- Each silence has a finding or none.
 use Rattle.std.proofs.Common.{length, sym, ap, ◌∙◌}
 use Rattle.am_idle.specs.Silences.{IsSilenceFinding}
 use Rattle.am_reports.proofs.EachLine.{same_length}

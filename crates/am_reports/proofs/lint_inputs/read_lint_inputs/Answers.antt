@@ -1,4 +1,4 @@
--- The first fault of the world comes behind a universe file that is accepted.
+-- If the universe file is accepted, the first fault is that of the world.
 use Rattle.std.proofs.Common.{inr, subst}
 use Rattle.am_json.specs.Reading.{refusal_of}
 use Rattle.am_eval.specs.Faults.{IsFirstFault, IsFirstFaultOfCall}

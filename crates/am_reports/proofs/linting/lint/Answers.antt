@@ -1,4 +1,4 @@
--- The inputs come before what is made of them, and what is written is the report.
+-- The faults of the inputs come first, and the report is what is written.
 use Rattle.std.proofs.Common.{Ok, refl, string_bytes}
 use Rattle.std.specs.Prelude.{nat_lt}
 use Rattle.std.specs.Result.{result_and}

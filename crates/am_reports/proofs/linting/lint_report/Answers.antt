@@ -1,5 +1,5 @@
--- What is refused is the first fault behind the inputs; and what is said of the space without labels
--- is said of the one that was read.
+-- A fault is the first one after those of the inputs; and what is said about the space without
+-- labels is true of the space that was read.
 use Rattle.std.proofs.Common.{◌≡◌, ◌∷◌, [], Bool, sym, ap, ◌∙◌, subst, false}
 use Rattle.std.specs.Prelude.{is_some}
 use Rattle.am_universe.specs.declared.fault.Fault.{Fault}
@@ -23,18 +23,18 @@ use Rattle.am_reports.proofs.linting.lint_report.Goals.{After-alphabet_of-alphab
 use Rattle.am_reports.proofs.linting.lint_report.Goals.{In_ok-rules, else-has_universe}
 use Rattle.am_reports.proofs.linting.lint_report.Goals.{then-has_universe+in_ok-check_declared}
 
--- which alerts count
+-- the alphabet of the alerts that count
 counted : (c : After-alphabet_of-alphabet)
     → c.alphabet_of-alphabet.result ≡ alphabet_of c.args.inputs.now.ascii
 counted c = c.alphabet_of-alphabet.ensures ∙ ap alphabet_of c.is_ascii.ensures
 
--- a fault is the first behind the inputs
+-- a fault is the first one after those of the inputs
 abbrev IsFirst : (c : After-alphabet_of-alphabet) → Fault → Type 0
 IsFirst c f =
     AcceptsLintInputs c.args.inputs.now c.args.read.space c.args.read.world
     → IsFirstFault (later_stages c.args.inputs.now) f
 
--- the space behind the routes, and behind the rules
+-- the space after the section on routes, and after that on rules
 routes_cleared : (c : In_ok-routes) → c.route_section.new.space ≡ undeclared c.args.read.space
 routes_cleared c = λ i. record {
   labels = c.in_ok-routes.ensures.labels i;
@@ -57,7 +57,7 @@ returns-in_err-check_declared-clause-first c =
     fault.place (refusal_of fault) accepts
     (rw (counted at, c.config.ensures.config) at (c.in_err-check_declared.ensures.refused remembered)))
 
--- at the labels that the universe file declares nothing is lacking
+-- no label that the universe file declares lacks a value
 declared_whole : (c : After-declare)
     → AcceptsLintInputs c.args.inputs.now c.args.read.space c.args.read.world
     → AreDeclaredWhole (alphabet_of c.args.inputs.now.ascii) c.args.read.space

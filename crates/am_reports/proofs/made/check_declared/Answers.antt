@@ -1,4 +1,4 @@
--- Where nothing is lacking at each label; and what is refused for the first at which something is.
+-- No label lacks a value; or the fault is that of the first label for which this is not known.
 use Rattle.std.proofs.Common.{◌≡◌, ◌≢◌, ◌<◌, ℕ, List, length, string_bytes, Some, slice_get}
 use Rattle.std.proofs.Common.{sym, ◌∙◌, subst, arith}
 use Rattle.std.proofs.lemmas.Option.{get_or_from_slice_get}
@@ -27,7 +27,7 @@ label_states-requires c =
       lists_decide s k,
     )
 
--- the label there, and what is so of it
+-- the label at this position, and what is true of it
 here : (c : After-index) → (l : Label) × (slice_get c.args.space.now.labels c.loop-i.i ≡ Some l)
     × (string_bytes c.index.result.now.name ≡ l.name)
     × IsSoAt c.args.alphabet c.args.space.now

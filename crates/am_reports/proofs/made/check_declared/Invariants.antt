@@ -3,7 +3,7 @@ use Rattle.am_reports.specs.ConfigsView.{configurations_of}
 use Rattle.am_reports.specs.Made.{AreDeclaredWhole}
 use Rattle.am_reports.proofs.made.check_declared.Given as goal
 
--- at each label so far nothing is lacking
+-- no label so far lacks a value
 abbrev pub invariant-loop-i : goal.invariant-loop-i
 invariant-loop-i l =
     AreDeclaredWhole l.fn.alphabet l.space (configurations_of l.configs) (take l.i l.space.labels)

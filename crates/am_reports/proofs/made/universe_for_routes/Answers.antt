@@ -1,4 +1,4 @@
--- What is made for the labels that the routes ask of, and what is refused for them.
+-- What is made for the labels that the routes ask about, and the faults.
 use Rattle.std.proofs.Common.{◌≡◌, ◌≢◌, ◌<◌, List, [], ◌∷◌, length, Some, None, slice_get, inl, inr}
 use Rattle.std.proofs.Common.{refl, sym, ◌∙◌, subst}
 use Rattle.std.specs.List.{AllByRecursion}
@@ -46,7 +46,7 @@ returns-in-Err-clause-refused c = λ remembered.
       ),
     )
 
--- what holds of each element holds of the first; and where there is no first there is none
+-- what is true of each element is true of the first; and an empty list has no first element
 all_first : {X : Type 0} (P : X → Type 0) (xs : List X) (x : X) → AllByRecursion P xs
     → slice_get xs 0 ≡ Some x → P x
 all_first P [] x all at = cc at

@@ -1,4 +1,4 @@
--- The inputs come before what is made of them, and what is written is the report.
+-- The faults of the inputs come first, and the report is what is written.
 use Rattle.std.proofs.Common.{refl, string_bytes}
 use Rattle.am_json.specs.Reading.{refusal_of}
 use Rattle.am_config.specs.ConfigView.{config_view}

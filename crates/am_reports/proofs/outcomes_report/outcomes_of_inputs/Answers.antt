@@ -1,4 +1,4 @@
--- What is found is said of what was read, and what is refused is the first fault behind the inputs.
+-- What is found is true of the inputs, and a fault is the first one after those of the inputs.
 use Rattle.std.proofs.Common.{sym, subst}
 use Rattle.am_json.specs.Reading.{refusal_of}
 use Rattle.am_config.specs.ConfigView.{config_view}

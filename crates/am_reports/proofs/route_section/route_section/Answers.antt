@@ -1,4 +1,4 @@
--- Where no universe is made for ordinary alerts, that is one of the two reasons.
+-- If no universe is made for ordinary alerts, that is one of the two reasons.
 use Rattle.std.proofs.Common.{◌≢◌, inr}
 use Rattle.am_universe.specs.declared.kind.Kind.TheVariants as kinds
 use Rattle.am_json.specs.Reading.{refusal_of}

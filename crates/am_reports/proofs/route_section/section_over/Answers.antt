@@ -1,4 +1,4 @@
--- What is found over the universes is so of the alerts that they stand for, and the lines say it.
+-- What is found over the universes is true of the alerts that they stand for, and the lines say it.
 use Rattle.std.proofs.Common.{List, is_none, length, sym, ap, subst, ◌∙◌}
 use Rattle.std.specs.List.{AllByRecursion, AllZip}
 use Rattle.std.proofs.lemmas.List.FromFn.{length-map-range_with_len}
@@ -23,7 +23,7 @@ look_further-requires c =
           c.in_ok-routes.ensures.found);
     }
 
--- the routes are found so, whether every alert counts or not
+-- what is found about the routes is true, whether every alert counts or only ordinary ones
 so : (c : After-as_slice-2)
     → AreFoundSo (is_none c.args.every) c.args.space.now c.match-every-2.space.labels
     (config_view c.args.config.now) c.match-every-2.routes.items

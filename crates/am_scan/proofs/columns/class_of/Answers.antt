@@ -1,4 +1,4 @@
--- The column was made of the byte.
+-- The column was made for the byte.
 use Rattle.std.proofs.Common.{◌≡◌, Some, slice_get, sym, subst}
 use Rattle.am_scan.proofs.columns.class_of.Goals as goal
 

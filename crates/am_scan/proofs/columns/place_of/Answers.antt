@@ -1,4 +1,4 @@
--- A column that is the same is there already, or the column stands last.
+-- A column that is the same was there already, or the column now comes last.
 use Rattle.std.proofs.Common.{◌≡◌, Some, slice_get, refl, subst, sym, length, arith}
 use Rattle.std.proofs.lemmas.Option.{slice_get_read}
 use Rattle.am_scan.proofs.Places.{get_last}

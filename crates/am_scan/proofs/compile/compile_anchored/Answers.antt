@@ -1,4 +1,4 @@
--- What was read of the anchored text was compiled.
+-- What was read in the anchored text was compiled.
 use Rattle.am_scan.proofs.CompiledLemmas.{IsSearchFor-compiled}
 use Rattle.am_scan.proofs.compile.compile_anchored.Goals as goal
 

@@ -1,4 +1,4 @@
--- One state more.
+-- One more state.
 use Rattle.std.proofs.Common.{◌+◌, ◌-◌, sym, ap, ◌∙◌, subst, arith}
 use Rattle.am_scan.specs.Closure.{reads_byte}
 use Rattle.am_scan.proofs.ClosureLemmas.{AreIdle, AreIdle-more, AreIdle-same}

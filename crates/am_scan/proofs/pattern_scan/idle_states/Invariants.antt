@@ -1,4 +1,4 @@
--- The states that read no byte among the last.
+-- The states that read no byte among the last ones.
 use Rattle.am_scan.proofs.ClosureLemmas.{AreIdle}
 use Rattle.am_scan.proofs.pattern_scan.idle_states.Given as goal
 

@@ -1,4 +1,4 @@
--- The places so far are marked.
+-- The positions so far are marked.
 use Rattle.std.proofs.Common.{◌≡◌, ℕ, ◌<◌, ◌||◌, false, length, take, slice_index_or}
 use Rattle.am_scan.specs.Closure.{contains}
 use Rattle.am_scan.proofs.pattern_scan.mark.Given as goal

@@ -3,7 +3,7 @@ use Rattle.am_universe.specs.Choice.{admits}
 use Rattle.am_search.specs.NextPrefix.{next_beside}
 use Rattle.am_search.proofs.answers.go_beside.Given as goal
 
--- what comes beside the front comes beside the whole prefix
+-- the positions that are removed do not change what comes beside the prefix
 abbrev pub invariant-loop-position : goal.invariant-loop-position
 invariant-loop-position g l = record {
   admitted : admits (g.J.Judge.sizes l.judge) l.prefix ≡ true;

@@ -2,7 +2,7 @@ use Rattle.std.proofs.Common.{◌≡◌, ◌-◌, length}
 use Rattle.am_search.specs.Jumps.{IsConflictUpTo}
 use Rattle.am_search.proofs.jumps.+search_below.Given as goal
 
--- the labels that are left
+-- how many labels are left
 abbrev pub decreases-search_below : goal.decreases-search_below
 decreases-search_below g l = length (g.R.Refuter.sizes l.refuter.now) - length l.prefix.now
 

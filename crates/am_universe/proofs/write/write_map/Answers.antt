@@ -1,4 +1,4 @@
--- Each turn writes one more entry, behind its separator.
+-- Each turn writes one more entry, after its separator.
 use Rattle.std.proofs.Common.{◌≡◌, ◌∷◌, ◌++◌, [], ap, sym, ◌∙◌, append-nil}
 use Rattle.std.specs.FinMap.{entries}
 use Rattle.am_universe.specs.LabelSetView.{entry_texts}

@@ -1,4 +1,4 @@
--- Each turn writes one more label, behind its separator.
+-- Each turn writes one more label, after its separator.
 use Rattle.std.proofs.Common.{◌≡◌, length, ap, sym, ◌∙◌, arith}
 use Rattle.std.specs.Option.{option_map}
 use Rattle.std.proofs.lemmas.List.{length-map}

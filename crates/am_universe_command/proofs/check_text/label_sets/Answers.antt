@@ -1,4 +1,4 @@
--- The label sets of the labels so far, which are no more than all.
+-- The label sets of the labels so far are no more than those of all labels.
 use Rattle.std.proofs.Common.{◌^◌}
 use Rattle.am_universe.specs.Universe.{sizes}
 use Rattle.am_universe_command.proofs.LabelSets.{one_size_more, too_many}

@@ -1,4 +1,4 @@
--- The inputs come first, and what is written is what was found.
+-- The faults of the inputs come first, and what was found is what is written.
 use Rattle.std.proofs.Common.{Bool, is_some, refl, string_bytes, subst, ap, map, ◌∙◌}
 use Rattle.am_eval.specs.Files.{Files}
 use Rattle.am_eval.specs.QuestionView.{question_view}

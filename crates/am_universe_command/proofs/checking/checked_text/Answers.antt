@@ -1,4 +1,4 @@
--- What was found is what is said.
+-- What the text says is what was found.
 use Rattle.std.proofs.Common.{◌≡◌, ap, map, ◌∙◌}
 use Rattle.am_universe.specs.Universe.{sizes}
 use Rattle.am_eval.specs.QuestionView.{question_view}
@@ -10,7 +10,7 @@ use Rattle.am_universe_command.proofs.CheckFacts.{none_told}
 use Rattle.am_universe_command.proofs.checking.checked_text.Goals as goal
 use Rattle.am_universe_command.proofs.checking.checked_text.Goals.{After-as_slice-2}
 
--- the labels are asked of by what decides and by what is impossible
+-- the labels are those that the deciding matchers ask about
 asked_as : (c : After-as_slice-2) → IsAskedOf c.as_slice-2.result.now
     (deciding_conditions c.args.routes c.args.read.now.world
     (map question_view c.args.read.now.questions.items) c.args.read.now.space.impossible)

@@ -1,4 +1,4 @@
--- What is made of the labels that are asked of, and what is refused for them.
+-- What is made for the labels that are asked about, and the faults.
 use Rattle.std.proofs.Common.{◌≡◌, ◌≢◌, inl, inr, sym, map, ◌∙◌}
 use Rattle.am_universe.specs.declared.kind.Kind.{Kind}
 use Rattle.am_universe.specs.declared.kind.Kind.TheVariants as kinds
@@ -11,12 +11,12 @@ use Rattle.am_universe_command.proofs.UniverseStages.{by_origin, refused_here}
 use Rattle.am_universe_command.proofs.making.made_universe.Goals as goal
 use Rattle.am_universe_command.proofs.making.made_universe.Goals.{In-Ok-labels_asked}
 
--- a fault that is not of memory is that there is no room
+-- a fault that is not one of memory is `Limit`
 of_room : (kind : Kind) → IsLimitOrMemory kind → kind ≢ kinds.Memory → kind ≡ kinds.Limit
 of_room kind (inl limit) other = limit
 of_room kind (inr memory) other = absurd (other memory)
 
--- the labels are those that matchers ask of which decide
+-- the labels are those that the deciding matchers ask about
 is_asked : (c : In-Ok-labels_asked) → IsAskedOf c.in-Ok-labels_asked.asked.items
     (deciding_conditions c.args.form.routes c.args.read.now.world
     (map question_view c.args.read.now.questions.items) c.args.read.now.space.impossible)

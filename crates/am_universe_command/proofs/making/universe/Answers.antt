@@ -1,4 +1,4 @@
--- The inputs come before what is made of them, and what is written is the text that is made.
+-- The faults of the inputs come first, and the text that was made is what is written.
 use Rattle.std.proofs.Common.{refl, string_bytes, map}
 use Rattle.am_json.specs.Reading.{refusal_of}
 use Rattle.am_eval.specs.QuestionView.{question_view}

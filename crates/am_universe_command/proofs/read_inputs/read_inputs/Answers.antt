@@ -1,4 +1,4 @@
--- Where reading stops is the first fault: what was read before is accepted.
+-- The fault at which reading stops is the first one: what was read before it is accepted.
 use Rattle.std.proofs.Common.{inl, inr, ◌∷◌, [], subst}
 use Rattle.am_json.specs.Reading.{refusal_of}
 use Rattle.am_eval.specs.Faults.{IsFirstFault, IsFirstFaultOfCall}

@@ -1,4 +1,4 @@
--- The lists so far are those before the next.
+-- The text has the lists before the next one.
 use Rattle.std.proofs.Common.{string_bytes}
 use Rattle.am_universe_command.proofs.TextSteps.{one_list_pushed, lists_pushed}
 use Rattle.am_universe_command.proofs.universe_file.push_impossible.Goals as goal

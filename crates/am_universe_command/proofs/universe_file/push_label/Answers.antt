@@ -1,4 +1,4 @@
--- The pieces of a label, one behind the other.
+-- The pieces of a label, one after another.
 use Rattle.am_universe_command.proofs.TextSteps.{label_pushed}
 use Rattle.am_universe_command.proofs.universe_file.push_label.Goals as goal
 

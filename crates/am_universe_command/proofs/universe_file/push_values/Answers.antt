@@ -1,4 +1,4 @@
--- The values so far are those before the next.
+-- The text has the values before the next one.
 use Rattle.std.proofs.Common.{string_bytes}
 use Rattle.am_universe_command.proofs.TextSteps.{value_pushed, values_pushed}
 use Rattle.am_universe_command.proofs.universe_file.push_values.Goals as goal

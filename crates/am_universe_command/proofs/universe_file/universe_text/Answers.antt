@@ -1,4 +1,4 @@
--- The labels so far are those before the next.
+-- The text has the labels before the next one.
 use Rattle.std.proofs.Common.{arith, ◌<◌, length, string_bytes, codes}
 use Rattle.am_universe_command.proofs.TextSteps.{one_label_pushed}
 use Rattle.am_universe_command.proofs.universe_file.universe_text.Goals as goal

@@ -1,4 +1,4 @@
--- Whether the value of a matcher is missing among some.
+-- Whether the value of a matcher is missing among some values.
 use Rattle.std.proofs.Common.{◌≡◌, ◌≢◌, ℕ, List, Bor, length, map, refl, sym, ap, ◌∙◌, true, false}
 use Rattle.std.proofs.Common.{Some, option_map}
 use Rattle.std.proofs.lemmas.Bool.{both_ways}

@@ -1,4 +1,4 @@
--- The values with that of one alert more.
+-- The values with that of one more alert.
 use Rattle.std.proofs.Common.{◌≡◌, ◌==◌, ℕ, List, Bor, length, map, not, refl, sym, ap, ◌∙◌}
 use Rattle.am_complete.specs.FoundState.{begins}
 use Rattle.am_complete.proofs.LabelStates.{empty_begins}

@@ -1,4 +1,4 @@
--- The pieces of a line, one behind the other.
+-- The pieces of a line, one after the other.
 use Rattle.std.proofs.Common.{append_assoc}
 use Rattle.am_unseen.proofs.unseen_text.push_line.Goals as goal
 

@@ -1,4 +1,4 @@
--- The search over the routes, then over the rules, then over the silences, is that over all.
+-- The search over the routes, then over the rules, then over the silences, is the search over all.
 use Rattle.std.proofs.Common.{◌≡◌, [], ◌++◌, sym, ap, ◌∙◌, fold, append_assoc}
 use Rattle.std.proofs.lemmas.List.Sums.{fold-append}
 use Rattle.am_config.specs.ConfigFile.{Configuration}

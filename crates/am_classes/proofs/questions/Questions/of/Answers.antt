@@ -12,7 +12,7 @@ known : (so : Comparison) → (so ≡ Text) ⊎ (so ≡ Pattern)
 known Text = inl refl
 known Pattern = inr refl
 
--- each of some matchers compares with a text or with a pattern
+-- each matcher compares with a text or with a pattern
 all_known : (ms : List Condition)
     → AllByRecursion (λ m. (comparison m.op ≡ Text) ⊎ (comparison m.op ≡ Pattern)) ms
 all_known [] = tt

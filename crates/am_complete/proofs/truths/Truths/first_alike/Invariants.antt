@@ -2,7 +2,7 @@ use Rattle.std.proofs.Common.{◌≡◌, ◌<◌, ℕ, List, Some, slice_get}
 use Rattle.am_classes.specs.Alike.{AreAlike}
 use Rattle.am_complete.proofs.truths.Truths.first_alike.Given as goal
 
--- none so far is alike
+-- no text so far is alike
 abbrev pub invariant-loop-k : goal.invariant-loop-k
 invariant-loop-k l =
     (i : ℕ) (x y : List ℕ) → i < l.k → slice_get l.self.texts i ≡ Some x

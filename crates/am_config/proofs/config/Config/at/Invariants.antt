@@ -3,7 +3,7 @@ use Rattle.am_config.specs.RouteView.{route_view}
 use Rattle.am_config.specs.Path.{route_at}
 use Rattle.am_config.proofs.config.Config.at.Given as goal
 
--- what is left of the path leads from here to where all of it leads from the top
+-- the rest of the path leads from this route to where the whole path leads from the top
 abbrev pub invariant-loop-i : goal.invariant-loop-i
 invariant-loop-i l =
     route_at (route_view l.route) (drop l.i l.path) ≡ route_at (route_view l.self.root) l.path

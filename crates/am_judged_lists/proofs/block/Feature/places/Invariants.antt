@@ -4,7 +4,7 @@ use Rattle.am_judged_lists.specs.Cube.{MaskedLabels}
 use Rattle.am_judged_lists.specs.BlockView.{has_feature}
 use Rattle.am_judged_lists.proofs.block.Feature.places.Given as goal
 
--- the cubes so far of which it is so are in the set
+-- the cubes so far that have the feature are in the set
 abbrev pub invariant-loop-k : goal.invariant-loop-k
 invariant-loop-k l =
     (i : ℕ) (cube : MaskedLabels) → i < l.k → slice_get l.cubes i ≡ Some cube

@@ -2,7 +2,7 @@ use Rattle.std.proofs.Common.{◌≡◌, ◌≤◌, length, take, drop}
 use Rattle.am_labels.specs.Matcher.{all_hold}
 use Rattle.am_labels.proofs.prepared_matchers.PreparedMatchers.matches.Given as goal
 
--- those that are left decide, and those before them are prepared
+-- The matchers that are left decide, and those before them are prepared.
 abbrev pub invariant-loop-i : goal.invariant-loop-i
 invariant-loop-i l = record {
   decided : all_hold l.set (drop l.i l.matcher-items) ≡ all_hold l.set l.matcher-items;

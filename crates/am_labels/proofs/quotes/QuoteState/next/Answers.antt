@@ -1,4 +1,4 @@
--- One index further.
+-- The state is right at the next index.
 use Rattle.std.proofs.Common.{◌≡◌, ◌==◌, ◌∙◌, sym, ap, refl, not, true, false, get_or}
 use Rattle.std.proofs.lemmas.Bool.{eq-eqb}
 use Rattle.am_labels.specs.MatcherText.{is_quote}

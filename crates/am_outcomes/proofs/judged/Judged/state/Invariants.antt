@@ -11,7 +11,7 @@ invariant-loop-cube l =
     (l.state.items ≡ verdicts_of (take l.cube-index l.cube-items) l.prefix)
     × (list_any is_yes l.state.items ≡ false)
 
--- and those of the configurations so far
+-- and those of the routes of the configurations so far
 abbrev pub invariant-loop-routes : goal.invariant-loop-routes
 invariant-loop-routes l =
     IsStateSoFar (judged_space l.self) (judged_configs l.self) l.prefix l.routes-items l.routes-index

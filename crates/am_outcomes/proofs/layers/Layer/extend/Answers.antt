@@ -11,7 +11,7 @@ use Rattle.am_outcomes.proofs.layers.Layer.extend.Goals.{After-push}
 pub add-requires-clause-admitted : goal.add-requires-clause-admitted
 add-requires-clause-admitted c = grind (arith, common_steps, length-map, admits_next)
 
--- the longer prefix is longer by one
+-- the new prefix is longer by one
 by_one : (c : After-push) → length c.push.new.self ≡ length c.args.prefix.now + 1
 by_one c = grind (arith, common_steps)
 

@@ -8,7 +8,7 @@ use Rattle.am_outcomes.proofs.LayerSteps.{entry_at, extended_more}
 use Rattle.am_outcomes.proofs.layers.Layer.next.Goals as goal
 use Rattle.am_outcomes.proofs.layers.Layer.next.Goals.{After-get}
 
--- the prefix has a state, and a position for each of so many labels
+-- the prefix has a state, and is as long as those of this layer
 here : (c : After-get) → HasState (judged_space c.args.judged.now)
     (judged_configs c.args.judged.now) c.args.label
     (state_view (c.get.result.0.now, c.get.result.1.now))

@@ -1,4 +1,4 @@
--- A question with its lists is true as the question is.
+-- A question with its lists has the truth of the question.
 use Rattle.std.proofs.Common.{◌≡◌, not, ap, ◌∙◌, sym, refl, subst}
 use Rattle.std.proofs.lemmas.Bool.{or_left, or_right}
 use Rattle.am_eval.specs.Tree.{Not, And, Or}

@@ -5,7 +5,7 @@ use Rattle.am_plans.specs.RoutesByLists.{seen_by}
 use Rattle.am_plans.specs.Target.{target_view}
 use Rattle.am_plans.proofs.route_lists.RouteLists.+comes_below.Given as goal
 
--- no child before leads to the target, and one of them may be matched if the flag is down
+-- no child before leads to the target, and one of them may be matched if `none` is false
 abbrev pub invariant-loop-position : goal.invariant-loop-position
 invariant-loop-position g l =
     let seen = seen_by g.L.JudgedList.verdict l.prefix in

@@ -1,4 +1,4 @@
--- One byte more.
+-- One more byte.
 use Rattle.std.proofs.Common.{◌≡◌, length, arith}
 use Rattle.am_scan.proofs.AutomatonLemmas.{AreClasses-more}
 use Rattle.am_scan.proofs.columns.Columns.of.Goals as goal

@@ -1,4 +1,4 @@
--- The state that was added stands last.
+-- The state that was added comes last.
 use Rattle.std.proofs.Common.{◌≡◌, length, sym, arith}
 use Rattle.am_scan.proofs.Places.{get_last}
 use Rattle.am_scan.proofs.exploration.Exploration.add.Goals as goal

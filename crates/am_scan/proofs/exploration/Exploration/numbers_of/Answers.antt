@@ -1,4 +1,4 @@
--- One state more.
+-- One more state.
 use Rattle.std.proofs.Common.{◌≡◌, length, refl, sym, subst, arith, ◌∙◌}
 use Rattle.std.proofs.lemmas.Iterator.Adapters.{YieldsList-from_vec}
 use Rattle.std.proofs.lemmas.Iterator.Consumers.{YieldsList-end}

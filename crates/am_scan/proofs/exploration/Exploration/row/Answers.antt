@@ -1,4 +1,4 @@
--- A byte leads to the state of which the number was found.
+-- A byte leads to the state whose number was found.
 use Rattle.std.proofs.Common.{◌∷◌, refl, sym, subst, ◌∙◌, arith}
 use Rattle.std.proofs.lemmas.Option.{slice_get_read, slice_get_within, same_Some}
 use Rattle.am_scan.specs.Automaton.{IsRow}

@@ -1,4 +1,4 @@
--- What is said of the number is so of the text.
+-- What the automaton says about the number holds for the text.
 use Rattle.std.proofs.Common.{arith}
 use Rattle.std.proofs.lemmas.Option.{slice_get_read, slice_get_past}
 use Rattle.std.proofs.lemmas.Grind.{common_steps}

@@ -1,4 +1,4 @@
--- A byte leads from the number of a text to that of the longer one.
+-- A byte leads from the number of a text to the number of the longer text.
 use Rattle.std.proofs.Common.{arith}
 use Rattle.std.proofs.lemmas.Option.{slice_get_read, slice_get_past, get_or_from_slice_get, unwrap_or-slice_get}
 use Rattle.std.proofs.lemmas.Grind.{common_steps}

@@ -1,4 +1,4 @@
--- Where nothing has changed, the states are closed.
+-- If nothing has changed, the list of accepted states is closed.
 use Rattle.std.proofs.Common.{length, ap, ◌∙◌, arith}
 use Rattle.am_scan.specs.Closure.{contains}
 use Rattle.am_scan.proofs.ClosureLemmas.{IsClosed-rounds}

@@ -1,4 +1,5 @@
--- So long as nothing has changed, what each state so far was found to be is what it is said to be.
+-- As long as nothing has changed, each state so far is accepted exactly if the accepted states say
+-- so.
 use Rattle.std.proofs.Common.{◌≡◌, ℕ, ◌<◌, false, slice_index, slice_index_or}
 use Rattle.regex_nfa.specs.Run.{state_of}
 use Rattle.am_scan.specs.Closure.{accepts, contains, AcceptsReads}

@@ -1,4 +1,4 @@
--- What was accepted at first of the states that read stays so.
+-- Which of the states that read a byte are accepted does not change.
 use Rattle.std.proofs.Common.{◌≡◌, vec_len}
 use Rattle.am_scan.specs.Closure.{contains, AcceptsReads}
 use Rattle.am_scan.proofs.pattern_scan.PatternScan.closure.Given as goal

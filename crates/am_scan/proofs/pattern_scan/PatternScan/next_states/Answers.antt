@@ -1,4 +1,4 @@
--- One column more.
+-- One more column.
 use Rattle.std.proofs.Common.{◌≡◌, length, take, arith}
 use lib.ListN.{length-take}
 use Rattle.am_scan.specs.Automaton.{LeadsTo}

@@ -1,4 +1,4 @@
--- The states behind the columns so far.
+-- The states for the columns so far.
 use Rattle.std.proofs.Common.{◌≡◌, take, vec_len}
 use Rattle.am_scan.specs.Closure.{contains, IsClosed}
 use Rattle.am_scan.specs.Automaton.{AreNext}

@@ -1,4 +1,4 @@
--- One byte more in front.
+-- One more byte before the text.
 use Rattle.std.proofs.Common.{◌≡◌, ◌∙◌, ap, ap₂, subst, Some}
 use Rattle.am_scan.specs.Scan.{Follows}
 use Rattle.am_scan.specs.Closure.{contains, IsClosed}

@@ -1,4 +1,4 @@
--- What follows a text is seen in the fields that were compared.
+-- Which texts a state follows depends only on the fields that were compared.
 use Rattle.std.proofs.Common.{◌≡◌, ℕ, List, Bool, true, false, Decides, true≢false, eqb, Option, Some, None, refl, sym, ap, rules}
 use mathlib.Core.Bool.{beq}
 use Rattle.std.specs.Option.{option_eq}
@@ -15,14 +15,14 @@ by_fields : (a b : PatternState) → a.first ≡ b.first → a.starts ≡ b.star
 unfolding Follows
 by_fields a b first starts later reads scan text h = rw (← first, ← starts, ← later, ← reads) h
 
--- two truths are compared
+-- a comparison of two truths finds whether they are equal
 compared : (a b : Bool) → Decides (beq a b) (a ≡ b)
 compared true true = (λ _. refl, λ _. refl)
 compared true false = (λ e. absurd (false≢true e), λ e. absurd (true≢false e))
 compared false true = (λ e. absurd (false≢true e), λ e. absurd (true≢false (sym e)))
 compared false false = (λ _. refl, λ _. refl)
 
--- and two kinds
+-- two kinds that a comparison finds equal are equal
 same_kinds : (o p : Option ℕ) → true ≡ option_eq eqb o p → o ≡ p
 same_kinds None None e = refl
 same_kinds None (Some y) e = absurd (true≢false e)

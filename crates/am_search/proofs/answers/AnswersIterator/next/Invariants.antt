@@ -2,7 +2,7 @@ use Rattle.std.proofs.Common.{◌≡◌, ◌≤◌, ◌-◌, length}
 use Rattle.am_search.specs.Visits.{visited}
 use Rattle.am_search.proofs.answers.AnswersIterator.next.Given as goal
 
--- a prefix more was judged, and nothing was given
+-- more prefixes may have been judged, but no choice was given
 abbrev pub invariant-loop-self : goal.invariant-loop-self
 invariant-loop-self g l = record {
   judge : l.self.judge.now ≡ l.fn.self.judge.now;

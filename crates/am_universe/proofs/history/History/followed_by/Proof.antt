@@ -1,4 +1,4 @@
--- `followed_by` makes a value of no bytes, whose ghost field is the list of both.
+-- `followed_by` makes a value without bytes, whose ghost field is the two lists joined.
 use Rattle.std.proofs.Common.{List, [], ◌∷◌, ◌++◌, refl}
 use Rattle.std.proofs.raw_atomic.Walks.{proved}
 use mir.Syntax.{a_type, named}

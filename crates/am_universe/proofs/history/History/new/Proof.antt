@@ -1,4 +1,4 @@
--- `new` makes a value of no bytes, whose ghost field is the empty list.
+-- `new` makes a value without bytes, whose ghost field is the empty list.
 use Rattle.std.proofs.Common.{[], ◌∷◌, refl}
 use Rattle.std.proofs.raw_atomic.Walks.{proved}
 use mir.Syntax.{a_type}

@@ -1,4 +1,4 @@
--- The map in memory has the text that the view has, and where it has none the value is empty.
+-- The map in memory has the same text as the view. If it has none, the value is empty.
 use Rattle.std.proofs.Common.{Some, None, ap, sym, ◌∙◌}
 use Rattle.std.specs.Option.{option_copied}
 use Rattle.am_universe.specs.LabelSet.{value_of}

@@ -1,4 +1,4 @@
--- A call on the map in memory does to the view what the value asks.
+-- The call on the map in memory changes the view in the same way: it removes or inserts the value.
 use Rattle.std.proofs.Common.{◌≡◌, string_bytes, ap, sym, ◌∙◌, subst, arith}
 use Rattle.std.proofs.lemmas.Bool.Decides.{nat_tests}
 use Rattle.am_universe.specs.LabelSet.{with_value, HasTextsAlone}

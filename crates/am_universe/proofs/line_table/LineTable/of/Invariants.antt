@@ -3,7 +3,7 @@ use Rattle.am_universe.specs.LineTable.{label_pieces, texts_of_pieces}
 use Rattle.am_universe.proofs.LineTableLemmas.{pieces_text}
 use Rattle.am_universe.proofs.line_table.LineTable.of.Given as goal
 
--- The pieces of the first labels are made, and there is room for those that a choice takes.
+-- The pieces of the first labels are made, and there is room for those that a choice picks.
 abbrev pub invariant-loop-i : goal.invariant-loop-i
 invariant-loop-i l = record {
   pieces : map texts_of_pieces l.labels.items ≡ take l.i (map label_pieces l.universe);

@@ -3,7 +3,7 @@ use Rattle.am_universe.specs.LineTable.{IsLineTable}
 use Rattle.am_universe.proofs.LineTableLemmas.{pieces_text}
 use Rattle.am_universe.proofs.line_table.LineTable.write_line.Given as goal
 
--- The pieces of the first labels are put together, and the table is the same.
+-- The line has the pieces of the first labels, and the table has not changed.
 abbrev pub invariant-loop-i : goal.invariant-loop-i
 invariant-loop-i g l = record {
   count : l.i-end ≡ length l.fn.self;

@@ -1,4 +1,4 @@
--- The cells stay in form where the last position is taken off.
+-- The cells stay in the stored form when the last position is removed.
 use Rattle.std.proofs.Common.{◌≡◌, ◌+◌, ◌-◌, suc, arith}
 use Rattle.std.proofs.lemmas.List.{drop-set}
 use Rattle.std.proofs.Math.ListN.{length-set}

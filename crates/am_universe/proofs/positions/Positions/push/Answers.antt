@@ -1,4 +1,4 @@
--- The cells stay in form where a position is put on.
+-- The cells stay in the stored form when a position is added.
 use Rattle.std.proofs.Common.{◌≡◌, ◌+◌, ◌-◌, arith, length, drop, replicate, ap, sym, ◌∙◌}
 use Rattle.std.proofs.lemmas.List.{drop-drop, drop-set-lt, drop-replicate}
 use Rattle.std.proofs.Math.ListN.{length-set}

@@ -1,4 +1,4 @@
--- The values of a label are kept, or they are gathered and kept.
+-- The values of a label are kept already, or they are gathered and then kept.
 use Rattle.std.proofs.Common.{◌≡◌, Some, sym, ap, ◌∙◌}
 use Rattle.std.specs.Option.{option_copied}
 use Rattle.std.proofs.lemmas.Result.{IfOk-weaker, on_ok_weaker}
