@@ -1,6 +1,6 @@
-"""The commands and options of amcover, read from the two sources that say them, for the scripts
-beside this file: crates/am_command_line/src/command_line.rt and help.rt. What is not of the form
-that is read here ends the script.
+"""The commands and options of amcover, for the scripts beside this file. They are read from the two
+sources that define them: crates/am_command_line/src/command_line.rt and help.rt. A script ends if a
+source has another form than the one that is read here.
 """
 import re
 import sys
@@ -14,7 +14,7 @@ METHODS = "new long value_name value_parser num_args action required conflicts_w
 
 
 class Argument:
-    """An option, or, if it has no `name`, an argument without one."""
+    """An option or, if it has no `name`, a positional argument."""
 
     def __init__(self, chain):
         unknown = set(re.findall(r"\.(\w+)\(", without_texts(chain))) - set(METHODS.split())
@@ -73,7 +73,7 @@ class Program:
             stop("a command is not read")
 
     def named(self, function):
-        """Returns the name of a command, and those of the constants with its texts."""
+        """Returns the name of a command, and the names of the constants with its texts."""
         body = self.functions[function]
         calls = rf"Command::new\(alloc, {TEXT}\)", r"\.about\((\w+)\)", r"\.after_help\((\w+)\)"
         return [re.search(it, body)[1] for it in calls]

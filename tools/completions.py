@@ -1,5 +1,5 @@
-"""The completions of amcover for bash and zsh, made from its commands and options: the commands,
-the options of each, and files where an option takes one.
+"""The completions of amcover for bash and zsh, made from its commands and options. They complete
+the commands, the options of each command, and a file after an option that takes one.
 """
 import re
 

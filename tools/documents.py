@@ -8,7 +8,7 @@ ROOT = pathlib.Path(__file__).resolve().parent.parent
 
 
 class Block:
-    """A fenced block: the word behind its fence, that line's number, and the lines below it."""
+    """A fenced block: the word after its fence, the number of that line, and the lines below it."""
 
     def __init__(self, mark, line):
         self.mark, self.line, self.lines, self.is_closed = mark, line, [], False
@@ -37,13 +37,13 @@ class Document:
 
 
 def documents():
-    """Returns README.md, the documents of docs/, and those that stand beside what they are about."""
+    """Returns README.md, the documents of docs/, and those in the folders of crates."""
     found = [it for pattern in ("docs/*.md", "crates/*/*.md") for it in sorted(ROOT.glob(pattern))]
     return [Document(it) for it in [ROOT / "README.md", *found]]
 
 
 def files():
-    """Returns the paths of all files and folders, but for those that git and builds make."""
+    """Returns the paths of all files and folders, except those that git and builds make."""
     found = []
     for folder, folders, names in os.walk(ROOT):
         folders[:] = sorted(it for it in folders if it not in (".git", "out"))
@@ -52,6 +52,6 @@ def files():
 
 
 def end(what, wrong):
-    """Writes what is wrong, a line each, and what was looked at, and ends the check."""
+    """Prints a line for each thing that is wrong, then what was looked at, and ends the check."""
     print(*wrong, f"{what}: {len(wrong)} wrong", sep="\n")
     sys.exit(1 if wrong else 0)

@@ -1,5 +1,4 @@
-"""The fingerprint of what a run is given, by which a token knows its inputs, and the tokens with
-one."""
+"""The fingerprint of the inputs of a run, by which a token knows them, and tokens that have one."""
 import hashlib
 import re
 
@@ -23,8 +22,8 @@ def fingerprint(parts):
 
 
 def options_of(words):
-    """Returns the values of the options of a command line of `ask`, without the words `amcover ask`,
-    and its question, or None where it has none."""
+    """Returns the values of the options of a command line of `ask`, and its question, or None if it
+    has none. The words `amcover ask` are left out."""
     values, question, rest = {}, None, list(words)
     while rest:
         word = rest.pop(0)
@@ -39,7 +38,7 @@ def options_of(words):
 
 
 def parts_of(values, question, read):
-    """Returns the six parts of such a command line, of which `read` gives a file's bytes."""
+    """Returns the six parts of such a command line. `read` gives the bytes of a file."""
     parts = [read(values[it]) if it in values else None for it in FILES]
     texts = [values.get(INSTANT), question]
     return parts + [None if it is None else it.encode() for it in texts]

@@ -1,5 +1,5 @@
-"""What the tools that run rt share: which processors and how much memory they may use, counted as
-rt counts them, and how they end at a signal.
+"""What the tools that run rt share: how many processors and how much memory they may use, counted
+as rt counts them, and how they end at a signal.
 """
 import os
 import re
@@ -20,7 +20,8 @@ def number_in(file, pattern=r"(\d+)"):
 
 
 def processors():
-    """Returns how many processors this process may use, under its control group's quota too."""
+    """Returns how many processors this process may use, also within the quota of its control
+    group."""
     found = len(os.sched_getaffinity(0))
     for quota, period in [
         (f"{CGROUP}/cpu.max", (f"{CGROUP}/cpu.max", r" (\d+)")),
@@ -33,7 +34,8 @@ def processors():
 
 
 def free_memory():
-    """Returns the bytes that are free, under the control group's limit too, or None if unknown."""
+    """Returns the bytes that are free, also within the limit of the control group, or None if
+    unknown."""
     free = number_in("/proc/meminfo", r"MemAvailable:\s+(\d+)")
     found = [1024 * free] if free is not None else []
     for limit, held, pattern in [
@@ -51,8 +53,8 @@ def free_memory():
 
 
 def end_at_signals():
-    """Has a signal that asks for the end raise SystemExit. One that the caller has ignored, as
-    nohup does, stays ignored."""
+    """Makes each signal that asks a process to end raise SystemExit. A signal that the caller
+    ignores, as nohup does, stays ignored."""
     for it in (signal.SIGHUP, signal.SIGINT, signal.SIGQUIT, signal.SIGTERM):
         if signal.getsignal(it) is not signal.SIG_IGN:
             signal.signal(it, lambda number, _: sys.exit(128 + number))

@@ -1,5 +1,5 @@
-"""Runs a script of examples/ over a program that stands for `amcover`: it writes what a file of
-cases says that each command writes."""
+"""Runs a script of examples/ with a program in place of `amcover`. For each command, the program
+writes what a file of cases says that the command writes."""
 import json
 import os
 import pathlib
@@ -69,7 +69,7 @@ def read_cases(name):
 
 def run(script, words, answers, files, prepare=None):
     """Runs a script with these words, in a folder with these files, and returns its status, its
-    output and its messages. `prepare` is called with that folder before, and returns what else is in
+    output and its messages. `prepare` is called before with that folder, and returns what to add to
     the environment."""
     with tempfile.TemporaryDirectory(prefix="stand-in-") as name:
         room = pathlib.Path(name)
