@@ -48,7 +48,7 @@ pub(crate) fn explored(
 {
     let mut exploration = Exploration::new(alloc, questions)?;
     let mut items = Vec::new(alloc);
-    for at in 0..MAX_STATES {
+    for at in 0..=MAX_STATES {
         if at == exploration.listed.len() {
             return Ok(Some(CandidateTexts { items, all: true }));
         }

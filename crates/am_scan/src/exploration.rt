@@ -25,7 +25,7 @@ pub(crate) fn explored(
 {
     let mut exploration = Exploration::new(alloc, scan)?;
     let mut rows = Vec::new(alloc);
-    for at in 0..MAX_TEXT_STATES {
+    for at in 0..=MAX_TEXT_STATES {
         if at == exploration.states.len() {
             return Ok(Some(rows));
         }
