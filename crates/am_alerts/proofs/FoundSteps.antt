@@ -1,4 +1,4 @@
--- A step of the loop over alerts: what is left are the alert at a position, and those after it.
+-- A step of the loop over alerts: what is left is the alert at a position and the alerts after it.
 use Rattle.std.proofs.Common.{◌≡◌, ℕ, ◌+◌, ◌≤◌, List, [], ◌∷◌, ◌++◌, Some, true, false, map, length, drop, refl, ap, ◌∙◌, append_assoc, append-nil}
 use Rattle.std.specs.Prelude.{slice_get}
 use Rattle.std.specs.List.{filter, enumerate_from}

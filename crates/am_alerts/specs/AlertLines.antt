@@ -26,8 +26,8 @@ pub record AlertLine : Type 0 where
 
 -- The alerts of a world of which a question is true, each with its position, in their order.
 -- Source: own choice.
--- Example: if only the second of three alerts is silenced, they are position 1 and that alert for
--- `silenced`.
+-- Example: if only the second of three alerts is silenced, there is one for the question
+-- `silenced`: that alert, with the position 1.
 abbrev pub asked_alerts : World → Question → List (ℕ × LabelMap)
 asked_alerts w q = filter (λ alert. satisfies w q alert.1) (enumerate_from 0 w.alerts)
 

@@ -19,9 +19,9 @@ asked_text asked = unwrap_or asked (codes "any")
 -- that is written has a line for each alert of the file of which the question is true, in their
 -- order: with its receivers, the silences that hide it, and the rules and alerts that inhibit it.
 -- Source: own choice.
--- Example: if `{team="db"}` is the only alert of the file, nothing hides it, and the top-level
--- route stands alone and has the receiver `a`, the text is the lines `0 {team="db"} -> "a"` and
--- `# end`.
+-- Example: let `{team="db"}` be the only alert of the file, let nothing silence or inhibit it, and
+-- let the top-level route be the only route and have the receiver `a`. Then the text without a
+-- question is the lines `0 {team="db"} -> "a"` and `# end`.
 pub record ReportsAlerts (files : Files) (asked : Option (List ℕ)) (text : List ℕ) : Type 0 where
   pub world : World
   pub question : Question
@@ -31,8 +31,9 @@ pub record ReportsAlerts (files : Files) (asked : Option (List ℕ)) (text : Lis
 
 -- What `alerts` owes. Its stages are those of the world, and then the question.
 -- Source: own choice.
--- Example: if the file of alerts is `{}` and the question is `silenced and`, the first fault is the
--- `shape` of the alerts, and not the `question-syntax` of the question.
+-- Example: let the configuration be accepted, and let there be no file of silences. If the file of
+-- alerts is `{}` and the question is `silenced and`, the first fault is the `shape` of the alerts,
+-- and not the `question-syntax` of the question.
 abbrev pub alerts_stages : Files → Option (List ℕ) → List Stage
 alerts_stages files asked =
     world_stages files ++ question_stage (config_of files.config) (asked_text asked) ∷ []

@@ -1,4 +1,7 @@
 //! The identifiers of the silences of a file.
+//!
+//! A `Silence` keeps no identifier, because only `alerts` prints one. So the bytes of the file are
+//! read a second time here, after the world has been accepted.
 
 ghost use Rattle.std.specs.Prelude.{◌≡◌, IfOk, option_copied, option_map};
 ghost use Rattle.serde_json.specs.View.{view};

@@ -58,7 +58,7 @@ fn has_property(fate: &Fate, property: Property) -> bool
     }
 }
 
-/// Whether the receivers have the one at this position.
+/// Whether the receiver at this position is among the receivers.
 fn has_receiver(receivers: &[usize], receiver: usize) -> bool
     ensures { result ≡ list_any (λ other. other == receiver) receivers.now }
 {

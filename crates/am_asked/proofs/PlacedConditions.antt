@@ -1,4 +1,4 @@
--- The matchers that have origins, without these, are those that decide.
+-- The placed matchers, without their origins, are the matchers that decide.
 use Rattle.std.proofs.Common.{◌≡◌, ℕ, ◌+◌, Bool, List, [], ◌∷◌, ◌++◌, map, refl, sym, ap, ◌∙◌, inl}
 use Rattle.std.proofs.Common.{inr}
 use Rattle.std.specs.List.{flat_map, filter, enumerate_from}

@@ -52,8 +52,8 @@ impl Counts {
 // ---- Small worlds, over which whole choices are looked at one by one.
 
 /// Checks the reports of the generated worlds of some seeds, and returns the number of worlds and
-/// which statuses occur. The text is the first seed, a blank, and the number of seeds. `
-/// impossible` after it makes some label sets impossible.
+/// which statuses occur. The text is the first seed, a blank, and the number of seeds.
+/// ` impossible` after it makes some label sets impossible.
 pub fn of_reports(alloc: Global, text: &[u8]) -> Result<Vec<u8>, Problem> {
     let (text, has_impossible) = split_impossible(text);
     let (seed, count) = read_seeds(alloc, text)?;

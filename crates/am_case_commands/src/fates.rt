@@ -14,7 +14,7 @@ use std::alloc::Global;
 /// How many alerts are tried in each world.
 const ALERTS: usize = 40;
 
-/// The labels that they may have. The files of a world never name `y`.
+/// The labels that the alerts may have. The files of a world never name `y`.
 const NAMES: [&str; 6] = ["l0", "l1", "l2", "l3", "x", "y"];
 
 /// About half of the values are drawn from these.

@@ -77,7 +77,7 @@ fn file_if_any(universe: &[u8]) -> Option<&[u8]> {
     }
 }
 
-/// The outcome of a call that counts changes, without the count.
+/// The result of a call that counts changes, without the count.
 fn uncounted(found: Result<usize, Fault>) -> Result<(), Fault> {
     match found {
         Ok(_) => Ok(()),

@@ -16,6 +16,6 @@ IsRow u row = (m : Condition) × (row ≡ row_of u m)
 abbrev pub rows_hold_at : Rows → List ℕ → Bool
 rows_hold_at rows c = list_all (λ row. row_holds row c) rows.rows.items
 
--- The verdict of rows. Only at a whole choice is it the verdict of their list.
+-- The verdict of rows. It is the verdict of their list only at a whole choice.
 abbrev pub rows_verdict : Rows → List ℕ → Verdict
 rows_verdict rows c = if rows_hold_at rows c then Yes else No

@@ -36,7 +36,7 @@ pub fn add_positions(choice: &Choice, text: &mut String) -> Result<(), AllocErro
     Ok(())
 }
 
-/// Adds a blank and the positions of each of some choices.
+/// Adds, for each of some choices, a blank and its positions.
 pub fn add_each(choices: &[Choice], text: &mut String) -> Result<(), AllocError> {
     for choice in choices {
         text.push(' ')?;

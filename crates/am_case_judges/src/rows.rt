@@ -113,7 +113,7 @@ impl JudgedList for Rows {
         self.hold_at(prefix)
     }
 
-    // The plain judge does not look for lists that are never true, or for equal lists.
+    // The plain judge does not look for lists that never match, or that are the same.
     fn is_never(&self) -> bool {
         false
     }

@@ -47,7 +47,7 @@ impl<'a> Whole<'a> {
             → length prefix < length (sizes universe.now)
             → whole_verdict whole prefix ≡ verdicts.Open) }
     {
-        // The contract of `len` tells the proof that the sizes are such as a judge may have.
+        // The contract of `len` tells the proof that the sizes are sizes that a judge may have.
         prove!(universe.len() <= MAX_LABELS);
         let judged = JudgedQuestion::of(alloc, universe, world, question)?;
         Ok(Whole { universe, judged })

@@ -46,7 +46,7 @@ impl<'u> Written<'u> {
     ) -> Result<Written<'u>, AllocError>
         ensures sizes { IfOk result (λ judge. written_sizes judge ≡ sizes universe.now) }
     {
-        // The contract of `len` tells the proof that the sizes are such as a judge may have.
+        // The contract of `len` tells the proof that the sizes are sizes that a judge may have.
         prove!(universe.len() <= MAX_LABELS);
         Ok(Written {
             universe,

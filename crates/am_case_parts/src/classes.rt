@@ -94,7 +94,7 @@ fn lists_of(alloc: Global, matchers: &[&Matcher]) -> Result<Vec<Matchers>, Probl
     Ok(lists)
 }
 
-/// For each matcher, `1` if it is true of a text, and else `0`.
+/// For each matcher, `1` if it is true of a text, and otherwise `0`.
 fn truths_on(
     alloc: Global,
     deciders: &mut Vec<(&str, PreparedMatchers<'_>)>,

@@ -76,7 +76,7 @@ fn verdict_by_plan(
 /// Compares the verdict of a plan with the judge of whole choices. On a whole choice, both must say
 /// the same. On any other prefix, the judge of whole choices must say `Open`. If the question is
 /// one list in braces and no label set is impossible, the verdict must also be the one that is
-/// counted over the completions.
+/// counted over the completions, unless these are too many to count.
 fn check_whole(
     alloc: Global,
     inputs: &AcceptedInputs,

@@ -33,8 +33,8 @@ pub fn check_writers<C: Call>(
     Ok(())
 }
 
-/// Whether the failed write was the last one, only a proper prefix of the page went out, and the
-/// call failed because of that write.
+/// Whether the write that stopped was the last one, only a proper prefix of the page went out, and
+/// the call failed because of that write.
 fn is_cut_short(stopped: &Written, call: usize, page: &[u8]) -> bool {
     matches!(stopped.end, End::Stopped)
         && stopped.writer.calls == call

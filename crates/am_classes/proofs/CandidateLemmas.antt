@@ -15,7 +15,7 @@ use Rattle.am_scan.proofs.Places.{get_pushed}
 use Rattle.am_classes.proofs.Utf8Lemmas.{text_whole}
 use Rattle.am_classes.proofs.ExplorationLemmas.{some_follows}
 
--- What represents a state still does so with more candidates.
+-- Candidates that represent a state still do so with more candidates.
 pub represents_kept : (q : Questions) (old new : List Candidate) (state : LabelState)
     → GrowsCandidates old new → Represents q old state → Represents q new state
 represents_kept q old new state grows represents = λ text follows whole unnamed.
@@ -25,7 +25,7 @@ represents_kept q old new state grows represents = λ text follows whole unnamed
 pub none_apart : (q : Questions) → AreApartCandidates q []
 none_apart q = record { own = λ k y at. absurd cc; apart = λ i j y z at also same. absurd cc }
 
--- One more candidate, if none is found by the same patterns.
+-- Candidates stay apart with one more, if none of them is found by the same patterns.
 pub apart_pushed : (q : Questions) (old : List Candidate) (x : Candidate) → AreApartCandidates q old
     → IsCandidate q x → (HasFound old x.found.items → ⊥) → AreApartCandidates q (old ++ x ∷ [])
 apart_pushed q old x h own new = record {

@@ -19,7 +19,8 @@ use Rattle.am_classes.specs.Rest.{RestFollows}
 use Rattle.am_classes.specs.State.{FollowsLabel, IsNamed, named_texts}
 use Rattle.am_classes.proofs.TailLemmas.{scanned_of_tail}
 
--- What follows a named text follows no other text.
+-- What is kept of a named text is kept of no other text. So a state that follows a named text
+-- follows no other text.
 named_alone : (texts : List (List ℕ)) (rest : Option Rest) (x y : List ℕ) (k : ℕ)
     → slice_get texts k ≡ Some x → RestFollows texts rest x → RestFollows texts rest y → x ≡ y
 named_alone texts (Some rest) x y k at follows also = sym follows.bytes ∙ also.bytes

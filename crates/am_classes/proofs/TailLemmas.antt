@@ -12,13 +12,13 @@ use Rattle.am_classes.specs.declared.alphabet.Alphabet.TheVariants.{Unicode, Asc
 use Rattle.am_classes.specs.Alphabet.{has_byte, IsOrdinary}
 use Rattle.am_classes.specs.Utf8.{tail_step, text_step, tail_of, is_whole}
 
--- A byte that a text over an alphabet can have there is allowed by UTF-8, and is one of the
--- alphabet.
+-- A byte that a text over an alphabet can have before a tail is allowed there by UTF-8, and is one
+-- of the alphabet.
 pub in_utf8 : (a : Alphabet) (tail next : Tail) (b : ℕ) → text_step a tail b ≡ Some next
     → (has_byte a b ≡ true) × (tail_step tail b ≡ Some next)
 in_utf8 a tail next b e = grind (arith, common_steps, cases_Bool)
 
--- What UTF-8 allows there is a byte.
+-- What UTF-8 allows before a tail is a byte.
 utf8_byte : (tail next : Tail) (b : ℕ) → tail_step tail b ≡ Some next → b < 256
 utf8_byte Whole next b e = grind (arith, nat_tests)
 utf8_byte tail next b e = grind (arith, nat_tests)

@@ -38,7 +38,7 @@ pub record AreApartCandidates (q : Questions) (candidates : List Candidate) : Ty
   pub apart : (i j : ℕ) (x y : Candidate) → slice_get candidates i ≡ Some x
       → slice_get candidates j ≡ Some y → x.found.items ≡ y.found.items → i ≡ j
 
--- For each text that a state follows, if it is whole at its front and not named, there is a
+-- For each text that a state follows, if its tail is whole and it is not named, there is a
 -- candidate that is found by exactly the same patterns.
 abbrev pub Represents : Questions → List Candidate → LabelState → Type 0
 Represents q candidates state =

@@ -48,8 +48,8 @@ LeadsFrom q listed at byte place =
 -- For each class there is at most one byte, with the position to which it leads from the state at
 -- another position. The patterns treat this byte and the class alike.
 -- Source: own choice.
--- Example: if `db.*` is the only pattern, `z` may stand for all bytes but `d`, `b` and the line
--- feed.
+-- Example: over ASCII, if `db.*` is the only pattern, `z` may stand for all bytes but `d`, `b` and
+-- the line feed.
 abbrev pub AreLed : Questions → List ReachedState → ℕ → List (Option Led) → Type 0
 AreLed q listed at led =
     (class : ℕ) (l : Led) → slice_get led class ≡ Some (Some l)
@@ -62,7 +62,8 @@ LeadsWithin q listed state first last =
 
 -- No text leads out of what is listed.
 -- Source: own choice; the term is that of finite automata, whose states are closed under steps.
--- Example: if nothing is asked about a text, a list with one state for each tail is closed.
+-- Example: over Unicode, if nothing is asked about a text, a list with one state for each tail is
+-- closed.
 pub record IsClosed (q : Questions) (listed : List ReachedState) : Type 0 where
   pub own : AreListed q listed
   pub first : (k : ℕ) × (item : ReachedState) × (slice_get listed k ≡ Some item)

@@ -11,7 +11,8 @@ pub record IsRestOf (texts : List (List ℕ)) (rest : Rest) (text : List ℕ) : 
   pub bytes : rest.text.items ≡ text
   pub ends : HasEndsAt texts rest.places.items text
 
--- What is kept of a text: the text itself, or nothing if none of the given texts ends with it.
+-- What is kept of a text: the text itself with the positions, or nothing if none of the given texts
+-- ends with it.
 -- Source: own choice.
 -- Example: if only `web` is named, nothing is kept of `ed`.
 abbrev pub RestFollows : List (List ℕ) → Option Rest → List ℕ → Type 0

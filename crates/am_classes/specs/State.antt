@@ -18,7 +18,7 @@ patterns_of q = map pattern_of q.automata.items
 abbrev pub IsNamed : Questions → List ℕ → Type 0
 IsNamed q text = (k : ℕ) × (slice_get (named_texts q) k ≡ Some text)
 
--- A state follows a text. It has the tail of the text over its alphabet, what is kept of the text,
+-- A state follows a text. It has the tail of the text over the alphabet, what is kept of the text,
 -- and the numbers of the text.
 -- Source: own choice.
 -- Example: the state with which an exploration begins follows the empty text.

@@ -70,7 +70,7 @@ pub(crate) fn next_numbers(
     Ok(Some(nexts))
 }
 
-/// For each byte, finds the first byte that every pattern treats alike.
+/// For each byte, finds the first byte that every pattern treats like it.
 pub(crate) fn byte_classes(
     alloc: Global,
     automata: &[PatternAutomaton],

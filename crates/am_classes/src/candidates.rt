@@ -23,7 +23,7 @@ pub(crate) struct CandidateTexts {
 }
 
 /// Finds texts that no matcher names: one for each set of patterns that finds such a text, or more
-/// of them than there is room for. Returns `None` if this cannot be computed. Without patterns it
+/// of them than there is room for. Returns `None` if they cannot be computed. Without patterns they
 /// always can.
 pub(crate) fn candidates(
     alloc: Global,

@@ -5,6 +5,9 @@
 //! truth of each matcher follows from the state. So one text is kept for each different row of
 //! truths.
 //!
+//! The classes are found for all matchers together, and not joined from the classes of each.
+//! Patterns of one label mostly exclude each other, and a class without a text is never listed.
+//!
 //! The search stops once there are more classes than a label may have values. With many patterns,
 //! for each pattern a text that it finds is tried first, because these texts may show at once that
 //! there are too many classes.

@@ -20,7 +20,7 @@ impl LabelState {
     ghost use Rattle.am_classes.specs.declared.questions.Questions.{Questions};
     ghost use Rattle.am_classes.specs.State.{FollowsLabel};
 
-    /// Whether two states are the same. Only `true` promises something: each text of one state is
+    /// Whether two states are the same. Only `true` promises something: each text of this state is
     /// also a text of the other.
     pub(crate) fn same(&self, other: &LabelState) -> bool
         ensures { IsTrue result → (questions : Questions) (text : List ℕ)

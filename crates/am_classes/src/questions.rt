@@ -24,7 +24,7 @@ pub(crate) struct Questions {
     pub(crate) alphabet: Alphabet,
     pub(crate) texts: Vec<String>,
     pub(crate) automata: Vec<PatternAutomaton>,
-    /// For each byte, the first byte that every pattern treats alike.
+    /// For each byte, the first byte that every pattern treats like it.
     classes: Vec<u8>,
     ghost fit: { list_all (fits alphabet) automata.items ≡ true },
     ghost alike: { AreClasses automata.items classes.items },

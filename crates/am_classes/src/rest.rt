@@ -11,7 +11,7 @@ pub(crate) struct Rest {
     /// All that was read.
     pub(crate) text: Vec<u8>,
     /// The positions of the named texts that end with it. A step looks only at these, because there
-    /// may be many named texts, of which few still end so.
+    /// may be many named texts, and only a few still end with it.
     pub(crate) places: Vec<usize>,
 }
 
@@ -58,7 +58,7 @@ impl Rest {
         is_at_one(texts, self.places.as_slice(), self.text.as_slice())
     }
 
-    /// Whether two rests are the same. Only `true` promises something: if one is the rest of a
+    /// Whether two rests are the same. Only `true` promises something: if this one is the rest of a
     /// text, the other is too.
     pub(crate) fn same(&self, other: &Rest) -> bool
         ensures { IsTrue result → (texts : List (List ℕ)) (text : List ℕ)

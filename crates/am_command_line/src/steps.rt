@@ -2,7 +2,7 @@ ghost use Rattle.std.specs.Prelude.{◌≡◌, ◌<◌, ◌≤◌, MatchOption};
 ghost use Rattle.am_command_line.specs.declared.steps.TheConstants.{MIN_STEPS};
 
 /// The fewest steps of a budget: one more than a universe may have labels. With that many, a page
-/// gets past the first choice at its start, so a sequence of pages comes to an end.
+/// gets past the choice at which it begins, so a sequence of pages comes to an end.
 pub const MIN_STEPS: u64 = 65;
 
 /// A budget of steps: the most prefixes of choices that a page may judge, at least [`MIN_STEPS`].

@@ -1,4 +1,4 @@
--- Calls of `ask` in a row: each writes what the one before it left.
+-- Calls of `ask` in a row: each goes on with what the one before it left.
 use Rattle.std.proofs.Common.{◌≡◌, inr, ℕ, List, [], ◌∷◌, ◌++◌, Option, None, Some}
 use Rattle.std.proofs.Common.{MatchOption, ap, sym, ◌∙◌, refl}
 use Rattle.std.specs.Prelude.{option_map}
@@ -80,7 +80,7 @@ asked_goes_on inputs asked next h ends =
     (searched_page h.2.space h.2.world h.2.question h.2.start asked.limit asked.steps)
     h.2.accepts (asked_page inputs asked h) (ap start_after (sym h.2.trailer_is) ∙ ends)
 
--- what a call wrote are the lines of its page
+-- a call wrote the lines of its page
 page_lines : (inputs : Inputs) (asked : Asked) (h : IsAskedOf inputs asked)
     → asked.lines
     ≡ lines_text h.2.space.labels

@@ -35,8 +35,9 @@ answer_page s w q start limit = page_from (sizes s.labels) (is_answer s w q) sta
 -- step judges a prefix of a choice: the search finds the verdict of the question there, in the
 -- logic of three values.
 -- Source: own choice.
--- Example: over the labels `a` and `b`, each with two values, the question `{b="0"}` is `Open` at
--- the empty prefix and at 0. Under a budget of 2 the page is empty, and ends with `Stopped` at 0 0.
+-- Example: over the labels `a` and `b`, each with the values `0` and `1`, the question `{b="0"}` is
+-- `Open` at the empty prefix and at 0. Under a budget of 2 the page is empty, and ends with
+-- `Stopped` at 0 0.
 abbrev pub searched_page : Space → World → Question → Start → Option ℕ → Option ℕ → AnswerPage
 searched_page s w q start limit steps =
     page_under (sizes s.labels) (verdict_of s w q) start limit steps
@@ -127,7 +128,7 @@ token_after fingerprint trailer = option_map (token_text fingerprint) (start_aft
 -- each later one the same inputs with the token of the trailer before it. The last ends with `End`.
 -- Source: own choice.
 -- Example: a call that ends with `# next` and a token, and then a call with `--after` and that
--- token that ends with `# end`.
+-- token, which ends with `# end`.
 abbrev pub AreAskedInARow : Inputs → List Asked → Type 0
 AreAskedInARow inputs [] = ⊥
 AreAskedInARow inputs (asked ∷ more) =

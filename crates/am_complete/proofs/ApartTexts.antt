@@ -64,7 +64,8 @@ alike_through ms x y z e =
 alike_equivalence : (ms : List Condition) → IsEquivalence (alike ms)
 alike_equivalence ms = grind (arith, common_steps, alike_itself_is, turned, alike_through)
 
--- if no two texts are alike, and each has one alike among others, they are no more than the others
+-- if no two of some texts are alike, and each is alike to one of others, they are no more than the
+-- others
 pub apart_are_no_more : (ms : List Condition) (xs ys : List (List ℕ)) → AreApart ms xs
     → AllByRecursion (HasAlikeIn ms ys) xs → length xs ≤ length ys
 apart_are_no_more ms xs ys apart each =

@@ -1,5 +1,5 @@
--- When a universe and a space are complete: at labels that no matcher is on, and by the labels
--- alone that matchers ask about.
+-- When a universe and a space are complete: at labels that no matcher is on, and by only the labels
+-- that matchers ask about.
 use Rattle.std.proofs.Common.{◌≡◌, ◌≢◌, ◌⊎◌, ℕ, ◌<◌, List, [], ◌∷◌, length, map, Bool, ◌&&◌, refl}
 use Rattle.std.proofs.Common.{sym, ◌∙◌, subst, inl, inr, arith, Contains}
 use Rattle.std.specs.Prelude.{unwrap_or, IsTrue}
@@ -97,7 +97,7 @@ space_complete_where_asked alphabet s asked ms h asks =
     by_asked (IsSpaceCompleteAt alphabet s ms) asked ms asks
     (λ name none. space_complete_without_matchers alphabet s ms name h none)
 
--- ---- Impossible lists that ask of one label alone.
+-- ---- Impossible lists that ask about one label alone.
 
 -- a list about one label alone matches a label set exactly if it matches its text of that label
 pub alone_truth : (set : LabelMap) (name : List ℕ) (list : List Condition)

@@ -49,7 +49,7 @@ unnamed labels name none i at =
     (in_any (λ l. same_text l.name name) labels found.0 found.1
     ((bytes_decides found.0.name name).1 found.2))
 
--- ---- A label that was not asked of before.
+-- ---- A label that was not asked about before.
 
 -- the map with the position of one more label
 pub indexed_push : (before after : BTreeMap (Bor (List ℕ)) ℕ) (labels : List AskedLabel)
@@ -103,7 +103,7 @@ absent_label positions labels name indexed absent =
     let is = (bytes_decides found.0.name name).0 found.2 in
     let there = (indexed name at.0).1 (name_at labels at.0 found.0 name at.1 is) in cc)
 
--- ---- A label that was asked of before.
+-- ---- A label that was asked about before.
 
 -- a label that replaces one with the same name
 names_set : (labels : List AskedLabel) (i : ℕ) (l next : AskedLabel) → slice_get labels i ≡ Some l
@@ -174,7 +174,7 @@ pub indexed_again : (positions : BTreeMap (Bor (List ℕ)) ℕ) (labels : List A
 indexed_again positions labels i l next indexed there same q j =
     grind (arith, common_steps, names_set)
 
--- each position in the map is one of a label
+-- each position in the map is the position of a label
 pub within : (positions : BTreeMap (Bor (List ℕ)) ℕ) (labels : List AskedLabel) (name : List ℕ)
     (i : ℕ) → IsIndexed positions labels → position_in positions name ≡ Some i
     → i < length labels

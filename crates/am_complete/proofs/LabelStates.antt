@@ -75,7 +75,7 @@ texts_more values j texts text before here lt = grind (arith, common_steps, map-
 
 -- ---- At one label.
 
--- if texts cover all, and each has one alike among others, the others cover all too
+-- if texts cover all, and each is alike to one of others, the others cover all too
 pub covered : (alphabet : Alphabet) (impossible : List (List Condition)) (name : List ℕ) (ms : List Condition)
     (have texts : List (List ℕ)) → CoverPossible alphabet impossible name ms texts
     → AllByRecursion (HasAlikeIn ms have) texts → CoverPossible alphabet impossible name ms have

@@ -59,18 +59,19 @@ pub declared_texts : (u : List Label) (l : Label) → IsUniverse u → IsIn u l
     → label_texts u l.name ≡ map (λ v. unwrap_or v []) l.values
 declared_texts u l h i = ap texts_of_label (finds_label u l h.distinct i)
 
--- what holds for absence alone, and for the texts of each label of a name, holds for its texts
+-- what holds for absence alone, and for the texts of each label of a name, holds for the texts of
+-- the name
 pub texts_by : (P : List (List ℕ) → Type 0) (u : List Label) (name : List ℕ) → P ([] ∷ [])
     → ((l : Label) → IsIn u l → l.name ≡ name → P (texts_of_label (Some l)))
     → P (label_texts u name)
 texts_by P u name absent declared = grind (arith, common_steps, found_in)
 
--- a name that no label has stands for absence alone
+-- if no label has a name, the only text of the name is absence
 pub unnamed_texts : (u : List Label) (name : List ℕ) → (Contains (names u) name → ⊥)
     → label_texts u name ≡ [] ∷ []
 unnamed_texts u name fresh = ap texts_of_label (none_found u name fresh)
 
--- and so does a name that is no label name, because no label of a universe has it
+-- each label of a universe has a label name, so the only text of any other name is absence
 pub named_labels : (u : List Label) (name : List ℕ) → IsUniverse u → IsIn (names u) name
     → IsTrue (is_label_name name)
 named_labels u name h i =

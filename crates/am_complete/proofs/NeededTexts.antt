@@ -221,7 +221,8 @@ cover_with_new a s l texts lists cover text valid possible =
           )
     ]
 
--- those that stand there cover all alone, if the label is not declared and has no more classes
+-- the texts that stand there cover all alone, if the label is not declared and does not need more
+-- texts than these
 pub lone : {X : Type 0} (xs : List X) (x y : X) → length xs ≤ 1 → IsIn xs x → IsIn xs y → x ≡ y
 lone [] x y few i j = absurd i
 lone (z ∷ []) x y few (inl e) (inl f) = sym e ∙ f

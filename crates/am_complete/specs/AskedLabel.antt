@@ -61,8 +61,8 @@ abbrev pub asked_labels : List (Origin × Condition) → List AskedLabel
 asked_labels placed = fold with_asked [] placed
 
 -- Some labels are those that some matchers ask about. Each has a name of its own, and exactly those
--- of the matchers that are on it. No label that is asked about is missing. Nothing is said about
--- the empty name: no matcher and no label has it.
+-- of the matchers that are on it. No label that is asked about is missing. A label without matchers
+-- may be there too. Nothing is said about the empty name: no matcher and no label has it.
 -- Source: own choice.
 -- Example: the labels of `team="db"`, `env=""` and `team="db"` are `team` and `env`, in some order,
 -- with at least one matcher each.

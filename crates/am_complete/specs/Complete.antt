@@ -46,7 +46,7 @@ IsCompleteAt a u ms name = (text : List ℕ) → IsOver a text → HasAlike u ms
 -- A universe is complete for some matchers: it is complete at each label that an alert may have,
 -- whatever the name of the label is.
 -- Source: own choice.
--- Example: for no matchers every universe is complete, also the one without labels. For `a:b="x"`
+-- Example: for no matchers every universe is complete, even the one without labels. For `a:b="x"`
 -- none is, because no universe can declare `a:b`.
 abbrev pub IsComplete : Alphabet → List Label → List Condition → Type 0
 IsComplete a u ms = (name : List ℕ) → name ≢ [] → IsCompleteAt a u ms name
@@ -61,8 +61,8 @@ asks_only_of name list = list_all (λ m. same_text m.name name) list
 abbrev pub matches_text : List ℕ → List Condition → Bool
 matches_text text list = list_all (λ m. holds m.op m.value text) list
 
--- A label may have a text, by the impossible lists that ask about this label alone: none of them
--- matches the text. What other lists say depends on the other labels too.
+-- A label may have a text, judged by the impossible lists that ask about this label alone: none of
+-- them matches the text. What other lists say depends on the other labels too.
 -- Source: own choice.
 -- Example: if `team!~"db|web"` and `env=prod,team=web` are impossible, `team` may be `db` or `web`,
 -- and not `ops`.

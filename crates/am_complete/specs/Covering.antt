@@ -15,10 +15,11 @@ use Rattle.am_classes.specs.Alike.{HasAlikeIn, Covers, AreApart}
 use Rattle.am_complete.specs.Complete.{about, label_texts, texts_of_label, may_have}
 use Rattle.am_complete.specs.AskedLabel.{AskedLabel}
 
--- Some texts are of classes that matchers cannot tell apart: they are over an alphabet, and no two
--- are alike. If they are of all classes, each text over the alphabet has one alike among them.
+-- Some texts stand for classes of texts that matchers cannot tell apart: they are over an alphabet,
+-- and no two are alike. If `all`, they stand for all classes: each text over the alphabet is alike
+-- to one of them.
 -- Source: own choice.
--- Example: to `team="db"` alone, `db` and the empty text are of all classes, and `db` is of one.
+-- Example: to `team="db"` alone, `db` and the empty text stand for all classes, and `db` for one.
 pub record AreClasses (a : Alphabet) (ms : List Condition) (texts : List (List ℕ))
     (all : Bool) : Type 0 where
   pub covers : IsTrue all → Covers a ms texts
@@ -46,10 +47,10 @@ pub record ArePossible (a : Alphabet) (impossible : List (List Condition)) (name
   pub apart : AreApart ms texts
 
 -- The texts that stand in a space for a label: its values, where absence is the empty text. For a
--- label that is not declared, it is absence alone, if that is possible.
+-- label that is not declared, only absence stands there, if it is possible.
 -- Source: own choice.
--- Example: for `env`, which is not declared, it is the empty text. If `env=""` is impossible, there
--- is none.
+-- Example: for `env`, which is not declared, the empty text stands there. If `env=""` is
+-- impossible, no text does.
 abbrev pub standing_in : List (List Condition) → List ℕ → Option Label → List (List ℕ)
 standing_in impossible name None = filter (may_have impossible name) ([] ∷ [])
 standing_in impossible name (Some label) = texts_of_label (Some label)

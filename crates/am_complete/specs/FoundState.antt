@@ -44,15 +44,17 @@ HasThoseOfLists impossible l =
     AllByRecursion (λ list. IsTrue (asks_only_of l.name list) → AreAmong list l.matchers)
     impossible
 
--- The matchers on a label are on it, and those of impossible lists about it alone are among them.
+-- Each matcher of a label is on it, and the matchers of the impossible lists that ask about it
+-- alone are among them.
 pub record IsAskedFor (impossible : List (List Condition)) (l : AskedLabel) : Type 0 where
   pub on : AllByRecursion (λ m. m.name ≡ l.name) l.matchers
   pub lists : HasThoseOfLists impossible l
 
--- A text is not empty; an alert has a label; and no alert of an export has the label, if there is
--- an export.
+-- A text is not empty; an alert has a label; and a label is unseen: there is an export, and no
+-- alert of it has the label.
 -- Source: own choice.
--- Example: if two alerts have the label `team` alone, `tema` is unseen. Without alerts, nothing is.
+-- Example: if two alerts have the label `team` alone, `tema` is unseen. Without an export, no label
+-- is. In an export without alerts, each label is.
 abbrev pub begins : List ℕ → Bool
 begins [] = false
 begins (c ∷ cs) = true
@@ -80,7 +82,8 @@ pub record IsSoOfName (a : Alphabet) (s : Space) (asked : List AskedLabel)
       → IsSoIfNamed a s ms asked (string_bytes state.name) state.completeness
   pub unseen : state.unseen ≡ is_unseen alerts (string_bytes state.name)
 
--- The state of a label that is asked about comes after others, if the label is not declared.
+-- The state of a label that is asked about comes after others, if the label is not declared. If it
+-- is declared, the states are the same as before.
 abbrev pub IsWithState :
     Alphabet → Space → AskedLabel → Option (List LabelMap) → List LabelState → List LabelState
     → Type 0

@@ -37,10 +37,11 @@ HasClasses a impossible name ms n =
 
 -- What is said about a space at the label of a name is true. `Complete`: the space is complete
 -- there, and the label may have texts of this number of classes. `Lacks`: the label, which has a
--- label name, may have this text, and no text of the universe is alike to it. `Unasked`: no matcher
--- asks about the label. `Undeclarable`: the space is not complete there, and no universe can
--- declare the label, because its name is no label name. `Unproved`: one of the matchers on the
--- label takes a pattern, and the first of them has this origin; no more is said.
+-- label name, may have this text, which is over the alphabet, and no text of the universe is alike
+-- to it. `Unasked`: no matcher asks about the label. `Undeclarable`: the space is not complete
+-- there, and no universe can declare the label, because its name is no label name. `Unproved`: some
+-- matcher on the label takes a pattern, and the first matcher on the label has this origin; no more
+-- is said.
 -- Source: own choice.
 -- Example: for `team="db"` alone, a universe with `db` and absence is complete at `team`, which has
 -- two classes. So is one with `db` and `web`. One with `web` alone lacks `db`. For `a:b="x"` alone

@@ -15,8 +15,8 @@ use Rattle.am_complete.specs.Covering.{ArePossible, AreNeeded, CoverPossible, st
 use Rattle.am_complete.specs.LabelState.{is_declared}
 use Rattle.am_complete.specs.Room.{MayBeUnproved}
 
--- Some texts are of classes that a label may have. If they are of all classes, they cover all texts
--- that it may have. They always are if no matcher on it takes a pattern.
+-- Some texts stand for classes of texts that a label may have. If `all`, they cover all texts that
+-- it may have. `all` always holds if no matcher on the label takes a pattern.
 pub record ArePossibleClasses (a : Alphabet) (impossible : List (List Condition)) (l : AskedLabel)
     (texts : List (List ℕ)) (all : Bool) : Type 0 where
   pub possible : ArePossible a impossible l.name l.matchers texts
@@ -30,7 +30,8 @@ pub record MissingTexts : Type 0 where
   pub all : Bool
 
 -- A label lacks these texts in a space. If they are all, they and those that stand there cover all
--- that it may have. For a label that no universe can declare, no texts are listed.
+-- that it may have. If they are not known to be all, the label may be unproved. For a label that no
+-- universe can declare, no texts are listed.
 pub record IsMissingAt (a : Alphabet) (s : Space) (l : AskedLabel)
     (m : MissingTexts) : Type 0 where
   pub name : m.name ≡ l.name

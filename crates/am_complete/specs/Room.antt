@@ -20,11 +20,11 @@ use Rattle.am_complete.specs.Covering.{AreNeeded, standing_texts}
 abbrev pub NeedsText : Alphabet → Space → AskedLabel → Type 0
 NeedsText a s l = (text : List ℕ) × AreNeeded a s l.name l.matchers (text ∷ [])
 
--- A label needs more values than a label may have: the texts that stand there and the texts that it
--- needs beside them are more.
+-- A label needs more values than a label may have: it has a label name, and the texts that stand
+-- there and the texts that it needs beside them are more.
 -- Source: own choice.
--- Example: `team` does if it is not declared and 1,024 matchers `=` on it are asked, each with
--- another text that is not empty. With absence these are 1,025 values.
+-- Example: `team` does if it is not declared and 1,024 matchers `=` on it are asked, each with a
+-- different text that is not empty. With absence these are 1,025 values.
 abbrev pub NeedsTooManyValues : Alphabet → Space → AskedLabel → Type 0
 NeedsTooManyValues a s l =
     (texts : List (List ℕ)) × IsTrue (is_label_name l.name)
@@ -38,8 +38,8 @@ HasToBeDeclared a s l =
     IsTrue (is_label_name l.name) × (Contains (names s.labels) l.name → ⊥) × NeedsText a s l
 
 -- There is no room for some labels beside those of a space: one of them needs more values than a
--- label may have, or more have to be declared, together with those of the space, than a universe
--- may have.
+-- label may have, or those that have to be declared, together with those of the space, are more
+-- than a universe may have.
 -- Source: own choice.
 -- Example: if 65 labels are asked about, each with one matcher `=`, and nothing is impossible,
 -- there is no room.
@@ -58,7 +58,8 @@ HaveNoRoom a s asked = HaveTooManyValues a s asked ⊎ AreTooMany a s asked
 -- A label may be unproved: a matcher on it takes a pattern, so that perhaps its classes cannot be
 -- computed; or it needs a text, and no universe can declare it.
 -- Source: own choice.
--- Example: if `a:b="x"` is asked, `a:b` is unproved. If only `team="db"` is asked, `team` never is.
+-- Example: if `a:b="x"` is asked and nothing is impossible, `a:b` may be unproved. If only
+-- `team="db"` is asked, `team` is never unproved.
 abbrev pub MayBeUnproved : Alphabet → Space → AskedLabel → Type 0
 MayBeUnproved a s l =
     HasPattern l.matchers ⊎ ((is_label_name l.name ≡ false) × NeedsText a s l)

@@ -1,4 +1,8 @@
 //! Texts of a label whose classes could not be computed.
+//!
+//! With `--open` such a label is declared with these texts. Without them it would be missing in
+//! every label set, and `dead` would call each route dead that asks for a value of it. The words of
+//! a pattern follow a simple rule. A better search would find more, and could promise no more.
 
 ghost use Rattle.std.specs.Prelude.{◌≡◌, IfOk, false, map, string_bytes};
 ghost use Rattle.std.specs.List.{AllByRecursion};

@@ -1,5 +1,9 @@
 //! A universe that is made from matchers, beside the labels and values of a space.
 //!
+//! Without `--from` the space is empty, so one promise covers both. To make a universe by itself,
+//! and then to join two files, would add texts that impossible lists rule out. It would also be
+//! refused if a label has too many classes only without these lists.
+//!
 //! `classes` gives the texts of each label. A text that no `=` or `!=` names is replaced by a text
 //! of its class that a reader knows: one that the alerts have, or `other`. The truths of the
 //! matchers on two texts show whether these are alike. So the universe is complete, whichever text

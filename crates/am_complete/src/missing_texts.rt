@@ -114,8 +114,8 @@ pub(crate) fn missing_at<'m>(
     })
 }
 
-/// Returns texts to each of which the label is to have one alike: one for each class that it may
-/// have, or else texts that were found.
+/// Returns texts, for each of which the label is to have an alike text: one for each class that it
+/// may have, or else texts that were found.
 fn wanted_texts(
     alloc: Global,
     alphabet: Alphabet,

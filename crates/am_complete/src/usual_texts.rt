@@ -10,8 +10,8 @@ use std::alloc::{AllocError, Global};
 use std::collections::HashMap;
 
 /// Returns the usual texts of a label: the texts that alerts have, without absence, and then
-/// `other`. The text that most alerts have comes first. Of texts that as many alerts have, the one
-/// that appears first comes first. No text is listed twice, and there are no more texts than a
+/// `other`. The text that most alerts have comes first. Of texts that equally many alerts have, the
+/// one that appears first comes first. No text is listed twice, and there are no more texts than a
 /// label may have values.
 pub(crate) fn usual_texts(
     alloc: Global,

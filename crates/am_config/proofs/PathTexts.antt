@@ -20,7 +20,7 @@ pub path_text-steps : (path : List ℕ) → 0 < length path → path_text path �
 path_text-steps [] some = absurd (omega arith)
 path_text-steps (p ∷ ps) some = refl
 
--- ---- The steps of a path are what stands between the slashes.
+-- ---- The steps of a path are the texts between its slashes.
 
 abbrev pub pieces_of : List ℕ → List (List ℕ)
 pieces_of text = slice_split (λ b. b == 47) text

@@ -70,8 +70,8 @@ receivers_form d = do
 abbrev pub parent_receiver : Option ℕ → Reading ℕ
 parent_receiver parent = accept_or 0 parent (refusal_here kinds.Shape)
 
--- The position of the receiver with this name. It is refused as `undefined-receiver` if there is
--- none.
+-- The position of the receiver with this name. The name is refused as `undefined-receiver` if no
+-- receiver has it.
 abbrev pub receiver_position : List (List ℕ) → List ℕ → Reading ℕ
 receiver_position names name =
     accept_or 0 (position (λ other. same_text other name) names)
@@ -270,6 +270,6 @@ IsFirstFaultOfConfig d r = first_fault (config_form d).objections ≡ Some r
 abbrev pub IsFirstFaultOfConfigFile : List ℕ → Refusal → Type 0
 IsFirstFaultOfConfigFile bytes r = first_fault (config_file_form bytes).objections ≡ Some r
 
--- What a file may be refused for: its first fault, or a pattern that no fault comes before.
+-- What a file may be refused for: its first fault, or a pattern with no fault before it.
 abbrev pub ConfigFileRefusedFor : List ℕ → Refusal → Type 0
 ConfigFileRefusedFor bytes r = IsRefusedFor (config_file_form bytes).objections r

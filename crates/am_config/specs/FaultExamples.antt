@@ -32,8 +32,8 @@ root_field key d = file_with (root_with ((key, d) ∷ []))
 abbrev pub child_field : List ℕ → Data → Data
 child_field key d = root_field (codes "routes") (array_of (object_of ((key, d) ∷ []) ∷ []))
 
--- A chain of routes, each the only child of the one above. This is the number of routes below the
--- first.
+-- A chain of routes, each the only child of the one above it. The argument is the number of routes
+-- below the first.
 abbrev pub deep : ℕ → Data
 deep zero = root_with []
 deep (suc n) = root_with ((codes "routes", array_of (deep n ∷ [])) ∷ [])
@@ -85,7 +85,7 @@ fault_examples =
       child_field (codes "match") (object_of ((codes "a/b~c", one) ∷ [])),
       at kinds.Shape (codes "/route/routes/0/match/a~1b~0c"),
     )
-    -- the top-level route may not have matchers, but may have a text that spells none
+    -- the top-level route may not have matchers, but may have a text that spells the empty list
     ∷ (root_field (codes "matchers") (array_of (string (codes "{}") ∷ [])), None)
     ∷ (
       root_field (codes "matchers") (array_of (string (codes "a=b") ∷ [])),
@@ -133,8 +133,8 @@ fault_examples =
       rule_field (codes "equal") (array_of (replicate 65 (string (codes "a")))),
       at kinds.Limit (codes "/inhibit_rules/0/equal"),
     )
-    -- an empty name on the target side; and faults on both sides, of which the source side comes
-    -- first
+    -- an empty name on the target side; and faults on both sides, of which that on the source side
+    -- comes first
     ∷ (
       rule_field (codes "target_match") (object_of ((codes "", one) ∷ [])),
       at kinds.Empty (codes "/inhibit_rules/0/target_match/"),

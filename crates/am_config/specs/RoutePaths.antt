@@ -8,8 +8,8 @@ use Rattle.am_config.specs.RouteView.{route_view}
 -- `routes_at` lists a route, which is at this path, and all routes below it, each with its path, in
 -- preorder: a route, then those below it, then its next sibling. `routes_from` does so for some
 -- children of the route at this path, the first of which has this position. `all_routes` lists the
--- routes of a configuration. `paths_at` and `paths_of` list only the paths, from a route down and
--- of a configuration.
+-- routes of a configuration. `paths_at` lists only the paths, from a route down, and `paths_of`
+-- those of a configuration.
 -- Source: own choice.
 -- Example: if the top-level route has two children, and the first of these has one, the paths are
 -- `/`, `/0`, `/0/0` and `/1`.

@@ -83,7 +83,8 @@ impl Config {
     }
 }
 
-/// The position of a name.
+/// The position of a name. The names are searched one after the other: the limits keep the list
+/// short, and this is how the definition reads.
 pub(crate) fn position(names: &[String], name: &str) -> Option<usize>
     ensures { result ≡ position (λ other. same_text other name.now) (names_of names.now) }
 {

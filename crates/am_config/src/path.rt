@@ -136,7 +136,7 @@ fn is_numeral(text: &str) -> bool
     digits.iter().all(|byte| byte.is_ascii_digit())
 }
 
-/// Returns the number that the text is in decimal, or `None` if it is too large for a child.
+/// Returns the number that the text is in decimal, or `None` if no child has so large a position.
 fn child_position(text: &str) -> Option<u16>
     ensures { (n : ℕ) → numeral n ≡ text.now → MatchOption result (MAX_CHILD_POSITION < n)
         (λ position. (position ≡ n) × (n ≤ MAX_CHILD_POSITION)) }

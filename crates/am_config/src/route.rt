@@ -1,6 +1,6 @@
 //! Routes, as they are kept in memory.
 
-// The `impl Model` has imports of its own, so that no import goes in a circle.
+// The `impl Model` has imports of its own. None is from a module that uses these types.
 ghost use Rattle.std.specs.Prelude.{◌≡◌, map};
 ghost use Rattle.am_config.specs.ConfigFile.{matchers_of, continues_of, receiver_of, children_of};
 ghost use Rattle.am_config.specs.ConfigFile.{routes_of};

@@ -1,6 +1,6 @@
 //! Inhibition rules, as they are kept in memory.
 
-// The `impl Model` has imports of its own, so that no import goes in a circle.
+// The `impl Model` has imports of its own. None is from a module that uses this type.
 ghost use Rattle.std.specs.Prelude.{◌≡◌};
 ghost use Rattle.am_config.specs.RouteView.{names_of};
 

@@ -66,7 +66,7 @@ module _ (s : Space) (c : Configuration) where
       ∙ find_any ends_of_choice (paths_to receiver c.root) (all_choices s)
       (space_choices_sorted s)
 
-  -- the earliest of some routes and one more
+  -- the earliest of the first ends of some routes and of one more
   pub earliest_more : (paths : List (List ℕ)) (path : List ℕ)
       → earliest (map (first_end s c) (paths ++ path ∷ []))
       ≡ earlier (earliest (map (first_end s c) paths)) (first_end s c path)

@@ -32,7 +32,7 @@ says_few files world accepts = record {
   few = accepts.few_pairs;
 }
 
--- if the files say something, the first fault is that of the later stages
+-- if the files say something, a first fault of the later stages is one of all stages
 pub behind_read : (files : Files) (configuration : Configuration) (silences : List Silence)
     (alerts : List LabelMap) (later : List Stage) (place : Place) (r : Refusal)
     → FileSaysConfig (config_of files.config) configuration

@@ -157,7 +157,8 @@ matched_at_end : (s : LabelMap) (t : RouteTree) (path : List ℕ) → EndsThere 
 matched_at_end s t [] h = h.0
 matched_at_end s t (p ∷ path) h = h.0
 
--- an alert reaches a route if it ends at it or, to enter it, if it ends below it
+-- what may follow the path of a route in the path of an end, if an alert reaches the route: nothing
+-- if it ends there, and any path if it enters the route
 abbrev MayBeBelow : Reach → List ℕ → Type 0
 MayBeBelow Ends below = below ≡ []
 MayBeBelow Enters below = Unit {0}

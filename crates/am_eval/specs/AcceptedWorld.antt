@@ -32,8 +32,8 @@ pub record AcceptsWorld (files : Files) (world : World) : Type 0 where
 -- of a world without its instant. The stages of a world have the instant too, just before the
 -- pairs.
 -- Source: own choice.
--- Example: let there be a file of silences, no instant, and too many pairs. Then the first fault is
--- `need-at`. If the instant is ignored, it is the `limit` of the pairs.
+-- Example: let there be an accepted file of silences, no instant, and too many pairs. Then the
+-- first fault is `need-at`. If the instant is ignored, it is the `limit` of the pairs.
 abbrev pub file_stages : Files → List Stage
 file_stages files =
     config_stage (config_of files.config)

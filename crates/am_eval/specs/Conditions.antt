@@ -1,6 +1,7 @@
 -- Conditions: when a simple part of a question is true of an alert. A condition is a list of ways
 -- to make the part true, and a way is a list of literals. To test a condition, no tree of routes
--- has to be walked.
+-- has to be walked. A condition also fixes the verdict of a question: the definition of routing
+-- goes down the tree, and there the logic of three values could be applied in more than one way.
 use Rattle.std.specs.Prelude.{ℕ, List, [], ◌∷◌, ◌++◌, map, take, slice_get, Bool, true, false, not}
 use Rattle.std.specs.Prelude.{if◌then◌else◌, Option, Some, None, ◌==◌}
 use Rattle.std.specs.List.{filter, flat_map, list_all, list_any}
@@ -85,7 +86,8 @@ ways_below reach t (p ∷ path) =
     (ways_into (λ child. ways_below reach child path) (slice_get (list_of (children_of t)) p))
 
 -- An alert reaches the route at a path if it matches the top-level route and gets down from there
--- by that path. It goes to a receiver if it ends at a route that has this receiver.
+-- by that path. It goes to a receiver if it ends at a route that has this receiver. The list of the
+-- top-level route is among the literals, although it is empty, so one equation fits every route.
 -- Source: Alertmanager configuration reference 0.25, "<route>".
 -- Example: there is one way to end at `/`: match the top-level route, which has no matchers, and
 -- match none of its children.

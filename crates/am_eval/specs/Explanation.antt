@@ -68,9 +68,9 @@ pub record ExplainsSet (files : Files) (words : List (List ℕ)) (text : List �
 
 -- What `explain` owes. Its stages are those of the world, and then the words of the label set.
 -- Source: own choice.
--- Example: let the configuration be accepted, let there be no silences, let the file of alerts be
--- `{}`, and let the one word of the set be `a!=b`. Then the first fault is the `shape` of the
--- alerts. Without that file it is the `bad-matcher` of the set.
+-- Example: let the configuration be accepted, let there be no file of silences and no instant, let
+-- the file of alerts be `{}`, and let the one word of the set be `a!=b`. Then the first fault is
+-- the `shape` of the alerts. Without that file it is the `bad-matcher` of the set.
 abbrev pub explain_stages : Files → List (List ℕ) → List Stage
 explain_stages files words = world_stages files ++ set_stage words ∷ []
 

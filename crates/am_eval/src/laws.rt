@@ -348,8 +348,7 @@ pub fn answers_ascend()
 
 /// Words that spell a label set are not refused.
 ///
-/// Words are refused with at most one kind, apart from refusals of patterns, which are the engine's
-/// to make.
+/// Words are refused with at most one kind other than `Pattern`, which the engine decides.
 pub fn a_set_is_not_read_and_refused()
     ensures accepted { (words : List (List ℕ)) (set : LabelMap) (kind : Kind)
         → WordsSpellSet words set → SetWordsRefusedFor words kind → ⊥ }

@@ -40,7 +40,9 @@ pub(crate) fn pairs_of(alloc: Global, rules: &[Rule], alerts: &Alerts) -> Result
     Ok(found)
 }
 
-/// Adds the pairs of the rule at this position.
+/// Adds the pairs of the rule at this position. Its two sides are prepared once for all alerts,
+/// because to prepare a pattern takes far longer than to test a text. One rule is prepared at a
+/// time, so the prepared patterns of all rules are never in memory together.
 fn add_pairs(
     alloc: Global,
     position: usize,

@@ -1,5 +1,5 @@
--- When a universe and a space are complete: if some texts cover all, and for matchers that are
--- among others.
+-- When a universe or a space is complete: if it has texts alike to some that cover all, and for
+-- matchers that are among others for which it is complete.
 use Rattle.std.proofs.Common.{◌≡◌, ◌≢◌, ℕ, List, [], ◌∷◌, ◌++◌, refl, ap, subst, inl, inr}
 use Rattle.std.proofs.Common.{Contains}
 use Rattle.std.specs.List.{AllByRecursion}
@@ -38,7 +38,7 @@ complete_by_cover a u ms name texts covers each text valid =
 
 -- ---- For fewer matchers.
 
--- if matchers are among others, those of them on one label are too
+-- if matchers are among others, those on one label are among the others on that label
 about_among : (name : List ℕ) (ns ms : List Condition) → AreAmong ns ms
     → AreAmong (about name ns) (about name ms)
 about_among name ns ms among =

@@ -213,7 +213,7 @@ itself_read (suc k) x xs s h read e =
     let p = mapped (λ t. x ∷ t) (content plain xs) s e in
     subst (IsCopied (suc k) (x ∷ xs)) p.2 (refl, read k p.0 h.1 p.1)
 
--- an ASCII byte, after which a text is read from a text
+-- an ASCII byte, and a text is read if a text follows the byte
 ascii_read : (k x : ℕ) (xs s : List ℕ) → x < 128 → IsRest k (x ∷ xs)
     → (IsUtf8 xs → IsUtf8 s) → IsCopied k (x ∷ xs) s
 ascii_read zero x xs s small u rest = rest (after_ascii x xs small u)

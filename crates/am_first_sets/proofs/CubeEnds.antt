@@ -40,7 +40,7 @@ use Rattle.am_first_sets.specs.RouteCubes.{AreCubesOf, AreCubesOfEach, all_may_m
 use Rattle.am_first_sets.specs.RouteCubes.{none_stops}
 use Rattle.am_first_sets.proofs.ImpossibleCubes.{certain_where}
 
--- ---- One route more.
+-- ---- One more route.
 
 pushed : (u : List Label) (choice : List ℕ) (ts : List RouteTree) (rs : List RouteCubes)
     (t : RouteTree) (r : RouteCubes)

@@ -72,7 +72,7 @@ abbrev pub nothing_stops : List ℕ → RouteWay → Bool
 nothing_stops choice way =
     none_before choice way.before.items && none_stops true choice way.children.now
 
--- A choice goes a way, by the cubes of the way. There is a way, and the choice goes it.
+-- A choice goes a way, by the cubes of the way. Or there is a way, and the choice goes this way.
 abbrev pub goes : List ℕ → RouteWay → Bool
 goes choice way = all_may_match choice way.wanted.items && nothing_stops choice way
 

@@ -1,4 +1,8 @@
 //! The matchers of routes as cubes, in a tree of the same shape.
+//!
+//! The way to end at a route borrows its cubes and the groups of siblings from that tree. Two other
+//! ways made `dead` slower: numbers of routes in preorder, for which all routes below each earlier
+//! sibling are counted for each path, and a list for each way of the cubes that must not match.
 
 ghost use Rattle.std.specs.Prelude.{◌≡◌, ℕ, List, map, IfOk, IfSome, IfNone, true, IsTrue};
 ghost use Rattle.am_universe.specs.Universe.{sizes};
@@ -17,6 +21,9 @@ use std::alloc::{AllocError, Global};
 
 /// The matchers of a route as a cube, with its receiver and its `continue`, and the same for all
 /// routes below it.
+///
+/// The fields are public because `am_outcomes` walks the tree itself. The type has no invariant:
+/// only [`RouteCubes::of`] promises that the cubes are those of routes.
 #[derive(Drop)]
 pub struct RouteCubes {
     pub cube: Cube,

@@ -28,7 +28,7 @@ allowed_where : (b : Bool) → not (is_no (cond b Yes No)) ≡ b
 allowed_where true = refl
 allowed_where false = refl
 
--- a literal is true at a choice exactly if its list matches or not, as is wanted
+-- a literal is true at a choice exactly if its list matches, or does not match, as is wanted
 pub says_wanted : (wanted b : Bool) → cond wanted b (not b) ≡ true → b ≡ wanted
 says_wanted true b says = says
 says_wanted false true says = absurd (cc)
@@ -54,7 +54,7 @@ module _ (s : Space) (ms : List Condition) where
       (ap (λ v. not (is_yes v)) (is choice whole.0)
       ∙ ap not (certain_where s.labels choice whole ms))
 
-  -- ---- Looked for.
+  -- ---- The search.
 
   module _ (k : Candidate) (named : k.named ≡ true) (is : IsCubeOf s.labels ms k.cube.now)
       (found : Option (List ℕ))
@@ -101,7 +101,7 @@ module _ (s : Space) (ms : List Condition) where
           | inr fails ↦ unmet test ys (rw fails at none) x later passes
         ]
 
-  -- ---- What a list matches of the label sets of a space.
+  -- ---- Which label sets of a space a list matches.
 
   pub one_matched : HasSet s ms true → MatchesOne (IsSetOf s) ms
   one_matched has = (label_set_of s.labels has.0, (has.0, has.1, refl), has.2)

@@ -287,7 +287,7 @@ module _ (u : List Label) (h : IsUniverse u) (names : List (List ℕ)) (c d : Li
         (AllByRecursion-at
         (λ n. condition_holds (label_set_of u d) n ≡ condition_holds y n) ms m as_second there))
 
--- ---- What is so of pairs.
+-- ---- Properties of pairs.
 
 -- a property that passes from an alert to each label set that meets the same of a list
 abbrev IsToldBy : List Condition → (LabelMap → Type 0) → Type 0

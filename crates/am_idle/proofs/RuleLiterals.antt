@@ -37,7 +37,7 @@ use Rattle.am_idle.specs.Rules.{Contradict, IsWhyNone}
 use Rattle.am_reasons.proofs.PairLemmas.{turned_round}
 use Rattle.am_idle.proofs.FoundSets.{by_kind, says_wanted, wanted_says}
 
--- ---- Positions of what passes.
+-- ---- Positions of the items that pass a test.
 
 positions_in : {X : Type 0} (test : X → Bool) (from : ℕ) (xs : List X) (i : ℕ) (x : X)
     → slice_get xs i ≡ Some x → test x ≡ true → IsIn (positions_where test from xs) (from + i)
@@ -109,7 +109,7 @@ positions_ascend test from (x ∷ xs) =
     let r = positions_out test (from + 1) xs j there in omega (arith, r.2)))
     (positions_ascend test (from + 1) xs)
 
--- ---- One thing more.
+-- ---- One more item.
 
 pub zip_more : {X Y : Type 0} (R : X → Y → Type 0) (xs : List X) (ys : List Y) (i : ℕ) (x : X)
     (y : Y) → slice_get xs i ≡ Some x → AllZip R (take i xs) ys → R x y
@@ -130,7 +130,7 @@ pub all_pushed : {X : Type 0} (P : X → Type 0) (xs : List X) (x : X) → AllBy
 all_pushed P [] x all new = (new, tt)
 all_pushed P (y ∷ xs) x all new = (all.0, all_pushed P xs x all.1 new)
 
--- ---- Literals by their places.
+-- ---- Literals by their positions.
 
 unchanged_at : (n i : ℕ) (ks : List Candidate) → i ≢ n
     → slice_get (without n ks) i ≡ slice_get ks i
@@ -169,7 +169,7 @@ module _ (s : Space) where
   abbrev u : List Label
   u = s.labels
 
-  -- a literal is true at a choice exactly if its list matches or not, as is wanted
+  -- a literal is true at a choice exactly if its list matches, or does not match, as is wanted
   says_list : (ms : List Condition) (k : Candidate) (wanted : Bool) (c : List ℕ)
       → k.wanted ≡ wanted → IsCubeOf u ms k.cube.now → IsWhole (sizes u) c → holds_at c k ≡ true
       → all_hold (label_set_of u c) ms ≡ wanted
@@ -250,7 +250,7 @@ module _ (s : Space) where
   abbrev named_of : List Candidate → List ℕ
   named_of ks = positions_where (λ k. k.named) 0 ks
 
-  -- a literal is named at each named position
+  -- at each position in `named_of` there is a literal, and it is named
   named_at : (ms : List Condition) (ks : List Candidate) (i : ℕ) → AreLiteralsOf u ms ks
       → Contains (named_of ks) i
       → (k : Candidate) × (slice_get ks i ≡ Some k) × (k.named ≡ true)

@@ -56,8 +56,9 @@ made_space s u = record { labels = u; impossible = s.impossible }
 -- A universe stands for every alert over an alphabet, for some lists and the impossible lists of a
 -- space: it is complete for all these lists, and its texts are over the alphabet.
 -- Source: own choice.
--- Example: for the list `team="db"`, over each alphabet, a universe does if it has only the label
--- `team`, which may be absent or `db`. It does not if `team` is always `db`.
+-- Example: for the list `team="db"`, over each alphabet, if nothing is impossible, a universe does
+-- if it has only the label `team`, which may be absent or `db`. It does not if `team` is always
+-- `db`.
 pub record StandsForLists (a : Alphabet) (s : Space) (lists : List (List Condition))
     (u : List Label) : Type 0 where
   pub universe : IsUniverse u
@@ -66,7 +67,7 @@ pub record StandsForLists (a : Alphabet) (s : Space) (lists : List (List Conditi
 
 -- No universe is made, because there is no room for the labels that are asked about.
 -- Source: own choice.
--- Example: this is so if a list has 65 matchers with `=`, each for another label.
+-- Example: this is so if a list has 65 matchers with `=`, each for a different label.
 abbrev pub HaveListsNoRoom : Alphabet → Space → List (List Condition) → Type 0
 HaveListsNoRoom a s lists = HaveNoRoom a (undeclared s) (labels_of_lists s lists)
 

@@ -25,7 +25,7 @@ IsRuleAccepted a s rule = (u : List Label) × StandsForLists a s (sides_of rule)
 -- The first rule that is refused is the one at a position, and the kind says why it is refused.
 -- Source: own choice.
 -- Example: if the first of three rules is not refused, and the second has 65 matchers with `=`,
--- each for another label, it is the one at 1, as `limit`.
+-- each for a different label, it is the one at 1, as `limit`.
 pub record IsFirstRefusedRule (a : Alphabet) (s : Space) (rules : List Rule) (position : ℕ)
     (kind : Kind) : Type 0 where
   pub rule : Rule

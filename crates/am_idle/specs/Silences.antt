@@ -23,9 +23,10 @@ abbrev pub is_unused : World → Silence → Bool
 is_unused w silence =
     is_active w.instant silence && not (list_any (λ alert. hides w alert silence) w.alerts)
 
--- What is said of a silence is true. Nothing is said if it is over, or if some alert that occurs
--- meets all its matchers and another does not, unless it is unused. It is idle if no alert meets
--- them, and all if each alert does. A parameter says whether a file of alerts is given.
+-- What is said of a silence is true. Nothing is said if it is over. Otherwise it is idle if no
+-- alert that occurs meets all its matchers, and all if each alert does. If some alert does and
+-- another does not, nothing is said, unless a file of alerts is given and the silence is unused:
+-- then that is said. A parameter says whether a file of alerts is given.
 -- Source: Alertmanager documentation 0.25, "Silences". Own choice: what is said of a silence that
 -- has not begun is what will be true; if no alert is possible at all, a silence is idle.
 -- Example: a silence with `team="db"` and `team="web"` is idle; one with `team=~"(?s).*"` is all.
@@ -57,7 +58,7 @@ IsAccepted a s w silence =
 
 -- A silence is refused: it is not over, and no universe is made for its matchers, for this reason.
 -- Source: own choice.
--- Example: a silence with 65 matchers with `=`, each for another label, is refused as `limit`.
+-- Example: a silence with 65 matchers with `=`, each for a different label, is refused as `limit`.
 abbrev pub IsSilenceRefused : Alphabet → Space → World → Silence → Kind → Type 0
 IsSilenceRefused a s w silence kind =
     IsFalse (is_over w.instant silence) × IsRefusalForLists a s (silence.matchers ∷ []) kind

@@ -213,7 +213,7 @@ fault_of_file place errors.Memory fault m RefusedFor refused is fails other = ab
 fault_of_file place (errors.Refused r) fault m RefusedFor refused is fails other =
     (is.0, rw is.1 (refused r fails))
 
--- ---- What is said, where a reading decides it.
+-- ---- What is said, if a reading decides it.
 
 -- a reading gives exactly what is said
 pub record Decides {A : Type 0} (Says : A → Type 0) (reading : Result A Refusal) : Type 0 where

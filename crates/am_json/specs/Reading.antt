@@ -104,15 +104,15 @@ refuse_where found = record {
   patterns = [];
 }
 
--- The result of the next step, which gets the value that was read; or the refusal, if there is no
+-- The result of the next step, which gets the value that was read; or the refusal if there is no
 -- such value.
 abbrev pub result_then : {A B : Type 0} → Result A Refusal → (A → Result B Refusal)
     → Result B Refusal
 result_then (Ok x) f = f x
 result_then (Err r) f = Err r
 
--- The patterns that the next step meets, which gets the value that was read; none, if there is no
--- such value.
+-- The patterns that are met in the next step, which gets the value that was read; none if there is
+-- no such value.
 abbrev pub patterns_then : {A : Type 0} → Result A Refusal → (A → List (List ℕ)) → List (List ℕ)
 patterns_then (Ok x) f = f x
 patterns_then (Err r) f = []
@@ -144,8 +144,8 @@ IsPatternRefusal [] r = ⊥
 IsPatternRefusal (pointer ∷ more) r =
     (r ≡ record { kind = kinds.Pattern; pointer = pointer }) ⊎ IsPatternRefusal more r
 
--- A reading may fail with this refusal: it is the first fault, or the refusal of a pattern that was
--- met before.
+-- A reading may fail with this refusal: it is the first fault, or the refusal of a pattern that the
+-- reading meets.
 abbrev pub MayRefuse : {A : Type 0} → Reading A → Refusal → Type 0
 MayRefuse m r = (m.result ≡ Err r) ⊎ IsPatternRefusal m.patterns r
 
@@ -161,14 +161,14 @@ abbrev pub Fails : {Y : Type 0} → ReadError → Reading Y → Type 0
 Fails errors.Memory reading = Unit {0}
 Fails (errors.Refused r) reading = MayRefuse reading r
 
--- What a reader returned is what the reading gives, unless memory ran out. `view` maps a value that
--- was returned to the value of the reading.
+-- A reader returned a value that `view` maps to what the reading gives; or it failed with a refusal
+-- that the reading may fail with, or because memory ran out.
 abbrev pub Gives : {X Y : Type 0} → (X → Y) → Result X ReadError → Reading Y → Type 0
 Gives view (Ok x) reading = reading.result ≡ Ok (view x)
 Gives view (Err e) reading = Fails e reading
 
--- What was found, or else a refusal of its kind, of the whole value that is looked at. If the kind
--- is `Memory`, memory ran out.
+-- What was found, or else a refusal of this kind, of the whole value that is looked at, unless
+-- memory ran out. The kind `Memory` means that memory ran out.
 abbrev pub IsFoundOrRefused : {X : Type 0} → Result X Kind → Result X ReadError → Type 0
 IsFoundOrRefused (Ok x) seen = seen ≡ Ok x
 IsFoundOrRefused (Err kind) seen =

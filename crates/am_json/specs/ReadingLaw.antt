@@ -13,7 +13,7 @@ pub record IsReadExactly {D A : Type 0} (Says : D → A → Type 0) (reading : D
   pub read : (d : D) (x : A) → Says d x ↔ ((reading d).result ≡ Ok x)
   -- so it says at most one thing
   pub one : (d : D) (x y : A) → Says d x → Says d y → x ≡ y
-  -- reading does not refuse a value exactly if the value says something
+  -- a value is read without a refusal exactly if it says something
   pub faults : (d : D) → (result_err (reading d).result ≡ None) ↔ ((x : A) × Says d x)
   -- reading refuses a value for exactly its first fault
   pub first : (d : D) (r : Refusal) → ((reading d).result ≡ Err r) ↔ IsFirst d r

@@ -60,7 +60,7 @@ same_any p q (x ∷ xs) all = ap (λ b. b || list_any p xs) all.0 ∙ ap (λ b. 
 
 -- ---- Numbers in a row.
 
--- a test that all numbers pass, and one that all but one pass
+-- if all numbers pass a test, the result is `true`; if all but one pass, that one decides
 pub all_others : (test : ℕ → Bool) (first count : ℕ) → ((i : ℕ) → first ≤ i → test i ≡ true) → list_all test (range_with_len first count) ≡ true
 all_others test first zero pass = refl
 all_others test first (suc count) pass = rw (pass first (omega arith), all_others test (first + 1) count (λ i h. pass i (omega arith))) refl

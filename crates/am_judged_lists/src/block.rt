@@ -77,7 +77,7 @@ impl LabelRows {
     }
 
     /// Returns the cubes of `left` that permit the prefix's position of the label. If the prefix
-    /// has no such position, or no row is there for it, all cubes are returned.
+    /// has no such position, or there is no row for it, returns `left`.
     fn narrow(&self, left: ListSet, prefix: &Choice) -> ListSet
         ensures { (k : ℕ) (cube : MaskedLabels) → IsInRows k cube self.now
             → IsTrue (may_at cube prefix.now) → IsTrue (has left k) → IsTrue (has result k) }

@@ -1,4 +1,8 @@
 //! Two questions about a verdict.
+//!
+//! A walk answers one of them instead of returning a verdict. The answers are truth values, so
+//! `&&`, `||` and `any` join them and stop at the first part that decides. `not` exchanges the two
+//! questions, so one function, with one proof, answers both.
 
 ghost use Rattle.std.specs.Prelude.{◌≡◌, not};
 ghost use Rattle.am_judged_lists.specs.Certainty.{passes, other};

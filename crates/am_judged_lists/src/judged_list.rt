@@ -21,14 +21,16 @@ pub trait JudgedList: Drop {
     /// The verdict that it returns at a prefix.
     ghost verdict: { Self → List ℕ → Verdict };
 
-    /// The prefixes, over labels of these sizes, at which this is the verdict of the list of
+    /// The prefixes, over labels of these sizes, at which `verdict` is the verdict of the list of
     /// matchers.
     ghost Knows: { List ℕ → List ℕ → Type 0 };
 
     /// Makes the list of the matchers that have these rows: those of `rows`, and then those of
     /// `more`.
     ///
-    /// They must be the rows of some list of matchers. Fails only if memory runs out.
+    /// They must be the rows of some list of matchers. There are two slices for the pairs of a
+    /// rule: the rows of its target side, which are made once for the rule, and those of the values
+    /// of one alert. Fails only if memory runs out.
     fn of_rows(
         alloc: Global,
         universe: &Universe,

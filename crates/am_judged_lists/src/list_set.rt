@@ -3,7 +3,9 @@
 ghost use Rattle.std.specs.Prelude.{◌≡◌, ◌≢◌, ℕ, ◌<◌, ◌≤◌, IfSome, IfNone, IsTrue, true, false};
 ghost use Rattle.am_judged_lists.specs.ListSetView.{has};
 
-/// How many lists a set has room for.
+/// How many lists a set has room for. A set is one number of 128 bits, the widest that there is.
+/// With 64 bits a table would have twice as many blocks, and read twice as many numbers at each
+/// prefix.
 pub(crate) const ROOM: usize = 128;
 
 /// A set of lists, by their indices. Only this file knows how it is stored.

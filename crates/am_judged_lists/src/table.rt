@@ -5,6 +5,9 @@
 //! pass at a prefix is in the sets of all its positions. From the first such cube on, each cube is
 //! then asked itself, so the answer of a table is exact. A set may hold a cube that does not pass,
 //! but it never lacks one that does. No more is proved of the sets.
+//!
+//! A table goes through each prefix anew, and keeps nothing of the prefix before it. To remember
+//! something, a judge would have to change when it is asked, and `judge` takes it unchanged.
 
 ghost use Rattle.std.specs.Prelude.{◌≡◌, ℕ, ◌<◌, ◌≤◌, ◌*◌, ◌+◌, length, IfOk, IfSome, IfNone};
 ghost use Rattle.am_judged_lists.specs.Cube.{verdict_at};
@@ -76,7 +79,8 @@ impl Table {
     }
 }
 
-/// Does the same for the cubes of one block. The first cube of the block is at the index `first`.
+/// Does what `Table::next` does, for the cubes of one block. The first cube of the block is at the
+/// index `first`.
 fn next_in(
     cubes: &[Cube],
     block: &Block,

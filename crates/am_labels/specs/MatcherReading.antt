@@ -20,12 +20,12 @@ infixl 10 ◌>>=◌
 abbrev pub ◌>>=◌ : {A B : Type 0} → Option A → (A → Option B) → Option B
 o >>= f = option_and_then f o
 
--- A refusal means that memory ran out, or that reading gives nothing.
+-- The kind of a failure is `Memory`; or it is `BadMatcher`, and reading gives nothing.
 abbrev pub IsReadFailure : {Y : Type 0} → Kind → Option Y → Type 0
 IsReadFailure kind read = (kind ≡ Memory) ⊎ ((kind ≡ BadMatcher) × (read ≡ None))
 
--- A function returned what reading gives, as `view` sees it. It failed only if memory ran out, or
--- if reading gives nothing.
+-- A function returned a value that `view` maps to what reading gives; or it failed because memory
+-- ran out, or because reading gives nothing.
 abbrev pub ReturnsReading : {X Y : Type 0} → (X → Y) → Result X Kind → Option Y → Type 0
 ReturnsReading view (Ok x) read = read ≡ Some (view x)
 ReturnsReading view (Err kind) read = IsReadFailure kind read
@@ -50,8 +50,8 @@ read_body raw =
     else None)
     else (if first_quote raw == length raw then Some raw else None)
 
--- The first operator of a list that a text begins with, and what follows it; and the same for the
--- list of all operators.
+-- The first operator in a list that a text begins with, and what follows it in the text; and the
+-- same for the list of all operators.
 abbrev pub first_operator : List Op → List ℕ → Option (Op × List ℕ)
 first_operator [] text = None
 first_operator (op ∷ more) text =

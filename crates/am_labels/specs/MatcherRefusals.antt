@@ -19,8 +19,8 @@ has_valid_pattern m = not (takes_pattern m.op) || in_profile m.value && is_patte
 abbrev pub have_valid_patterns : List Condition → Bool
 have_valid_patterns ms = list_all has_valid_pattern ms
 
--- Why a pattern is refused: it is outside the profile; or it is in the profile, and the engine does
--- not build it.
+-- Why a pattern is refused: it is outside the profile, which is `PatternProfile`; or it is in the
+-- profile, and the engine does not build it, which is `Pattern`.
 abbrev pub pattern_refusal : List ℕ → Kind
 pattern_refusal pattern = if in_profile pattern then kinds.Pattern else kinds.PatternProfile
 

@@ -15,7 +15,8 @@ use Rattle.am_labels.specs.Matcher.{Condition, operator_text}
 
 -- ---- Bytes.
 
--- Whitespace: space, tab, line feed, carriage return and form feed; and a text of nothing else.
+-- Whitespace: space, tab, line feed, carriage return and form feed; and a text without any other
+-- byte, which may be empty.
 abbrev pub is_space : ℕ → Bool
 is_space = is_ascii_whitespace
 
@@ -98,8 +99,8 @@ has_escape c = (c == double_quote || c == backslash) || c == letter_n
 abbrev pub byte_of_escape : ℕ → ℕ
 byte_of_escape c = if c == letter_n then line_feed else c
 
--- A body without its escapes, which is read from left to right. A backslash before any other byte,
--- or at the end, stands for itself.
+-- A body, with each escape replaced by the byte that it stands for, from left to right. A backslash
+-- that escapes no byte, as before `d` or at the end, stands for itself.
 -- Source: Alertmanager configuration reference 0.25, "<matcher>".
 -- Example: `a\nb` gives `a`, a line feed and `b`; `\d` stays as it is.
 abbrev pub unescaped_text : List ℕ → List ℕ
@@ -117,8 +118,8 @@ HasBody raw body =
     × IsFalse (is_escaped raw (length body + 1)))
     ⊎ (IsFalse (slice_index raw 0 == double_quote) × (raw ≡ body))
 
--- The value of a raw value: its body without the escapes. The body must have no quote that is not
--- escaped.
+-- The value of a raw value: its body, with the escapes replaced. The body must have no quote that
+-- is not escaped.
 -- Source: Alertmanager configuration reference 0.25, "<matcher>".
 -- Example: `"a\"b"` has the value `a"b`, `db` has the value `db`, and `a"b` has none.
 pub record HasValue (raw value : List ℕ) : Type 0 where

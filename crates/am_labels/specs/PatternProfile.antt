@@ -163,8 +163,9 @@ is_refused_escape c =
 abbrev pub is_refused_flag : ℕ → Bool
 is_refused_flag c = c ∈ "xuR"
 
--- A piece that no pattern of the profile has: such a backslash or run of flags, a `{` that begins
--- no count, and inside a class a `[` that begins no named class, and `&&`, `--` and `~~`.
+-- A piece that no pattern of the profile has: an escape of such a character, a run with such a
+-- flag, a `{` that begins no count, and inside a class a `[` that begins no named class, and `&&`,
+-- `--` and `~~`.
 abbrev pub is_refused : Piece → Bool
 is_refused (escape c) = is_refused_escape c
 is_refused (flags run) = list_any is_refused_flag run

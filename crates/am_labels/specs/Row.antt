@@ -41,8 +41,9 @@ abbrev pub is_reached : Option ℕ → ℕ → Bool
 is_reached None n = true
 is_reached (Some i) n = nat_lt i n
 
--- The truth of a row at a choice, which is false if the choice has no position for the label; and
--- that of the rows of a list of matchers: each of them is true.
+-- The truth of a row at a choice, which is false if the label is declared and the choice has no
+-- position for it; and that of the rows of a list of matchers: each of them is true. Since it is
+-- false at a choice that is too short, a list can be judged without a condition on its rows.
 abbrev pub row_holds : TruthRow → List ℕ → Bool
 row_holds row c =
     is_reached row.label (length c) && truth_at row (slice_index c (unwrap_or row.label 0))

@@ -223,7 +223,7 @@ fn begins_name(byte: u8) -> bool
     begins_label_name(byte) || byte == b':'
 }
 
-/// Whether a name may have the byte after its first.
+/// Whether a name may have the byte after its first byte.
 fn continues_name(byte: u8) -> bool
     ensures { result ≡ continues_name byte }
 {

@@ -113,7 +113,7 @@ same_matched s t q u at h =
     subst (λ (v : RouteTree). IsTrue (all_hold s (matchers_of v)))
     (same_Some h.0 u (sym h.1 ∙ at)) h.2
 
--- ---- What an alert meets that ends there or below.
+-- ---- What an alert that ends there or below meets.
 
 matched_at_end : (s : LabelMap) (t : RouteTree) (path : List ℕ) → EndsThere s t path
     → IsTrue (all_hold s (matchers_of t))
@@ -159,7 +159,7 @@ no_child s t (p ∷ path) h (q ∷ rest) child matched =
     no_child s h.1 path h.4 rest parts.1
     (into_child s t h.1 p q rest h.2 (eqb-true p q parts.0) matched)
 
--- ---- And what meets that ends there or below.
+-- ---- And an alert that meets this ends there or below.
 
 end_below : (s : LabelMap) (t : RouteTree) (path : List ℕ) → MatchesDown s t path
     → IsStoppedByNone s t path → (below : List ℕ) × EndsThere s t (path ++ below)
@@ -208,7 +208,7 @@ itself s t path (k ∷ below) h none =
     absurd (none (path ++ k ∷ []) (child_last path k)
     (way_down s t (path ++ k ∷ []) below further (path ++ k ∷ []) (begins_itself (path ++ k ∷ []))))
 
--- ---- The same of a configuration.
+-- ---- The same for a configuration.
 
 -- what an alert that enters the route at a path meets
 pub record MeetsWayIn (c : Configuration) (path : List ℕ) (set : LabelMap) : Type 0 where

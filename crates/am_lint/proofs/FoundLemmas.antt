@@ -66,7 +66,7 @@ pub record IsFoundSo (ascii : Bool) (s : Space) (u v : List Label) (c : Configur
   pub ordinary : IsStanding u (IsOrdinary s) c route.0 found.ordinary
   pub further : IsFurther ascii s v c route.0 found.ordinary found.every
 
--- ---- Lists, place by place.
+-- ---- Lists, position by position.
 
 zip_left : {X Y : Type 0} (R : X → Y → Type 0) (xs : List X) (ys : List Y) (x : X)
     → AllZip R xs ys → IsIn xs x → (y : Y) × IsIn ys y × R x y

@@ -21,7 +21,7 @@ use Rattle.am_lint.specs.Standing.{IsStanding}
 use Rattle.am_lint.proofs.Transfer.{StandsForAlerts, standing_over_as}
 use Rattle.am_lint.proofs.FoundLemmas.{IsKnownOver, IsFurther, IsFoundSo, stands_at}
 
--- ---- Lists, place by place.
+-- ---- Lists, position by position.
 
 -- what follows for the two items at each position
 each_place : {X Y : Type 0} (R Q : X → Y → Type 0) (xs : List X) (ys : List Y)

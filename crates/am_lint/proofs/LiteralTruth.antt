@@ -1,4 +1,4 @@
--- When literals are true at a choice: if its label set does what they want.
+-- When literals are true at a choice: exactly if its label set does what they want.
 use Rattle.std.proofs.Common.{◌≡◌, ◌↔◌, ℕ, List, Bool, true, false, not, cond, Some, refl, sym, ap}
 use Rattle.std.proofs.Common.{◌∙◌, subst, slice_get, Contains, IsTrue, inl, inr}
 use Rattle.std.proofs.lemmas.Bool.{cases_Bool}
@@ -26,7 +26,7 @@ use Rattle.am_lint.specs.Literals.{is_wanted, stands_in, has_route, IsAbout, Are
 use Rattle.am_lint.specs.Parts.{DoesAt, StandsIn, MeetsParts}
 use Rattle.am_lint.proofs.TableLemmas.{its_route, its_place}
 
--- ---- Where a route matches.
+-- ---- When an alert matches a route.
 
 pub matches_where : (c : Configuration) (set : LabelMap) (q : List ℕ) (t : RouteTree)
     → route_at c.root q ≡ Some t → MatchesAt set c q ↔ IsTrue (all_hold set (matchers_of t))

@@ -28,7 +28,7 @@ child_is_not [] (q ∷ r ∷ other) e = refl
 child_is_not (p ∷ path) (q ∷ other) e =
     and_right (p == q) (is_child_of path other) (child_is_not path other (λ same. e (omega arith)))
 
--- ---- Earlier siblings: what is left of both paths decides, as long as they are the same.
+-- ---- Earlier siblings: the rest of both paths decides, as long as they are the same.
 
 same_step : (p : ℕ) (path other : List ℕ)
     → stands_before (p ∷ path) (p ∷ other) ≡ stands_before path other

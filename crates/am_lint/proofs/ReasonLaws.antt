@@ -57,7 +57,7 @@ module _ (Occurs : LabelMap → Type 0) (c : Configuration) (path : List ℕ)
   reason_none cause_is.Excluded by = excluded_none by
   reason_none cause_is.Taken by = taken_none by
 
--- ---- The same of the alerts of a space.
+-- ---- The same for the alerts of a space.
 
 module _ (a : Alphabet) (s : Space) (c : Configuration) (path : List ℕ)
     (routes : List (List ℕ)) where

@@ -25,7 +25,7 @@ use Rattle.am_lint.proofs.LiteralTruth.{literal_truth}
 use Rattle.am_lint.proofs.ReasonPaths.{place_of, at_place_in, meets_each, meets_all, unmet_by}
 use Rattle.am_lint.proofs.ReasonPaths.{is_named, named_is}
 
--- ---- Places in a list that is two.
+-- ---- Positions in a list of two parts.
 
 in_front : {X : Type 0} (xs ys : List X) (j : ℕ) (x : X) → slice_get (xs ++ ys) j ≡ Some x
     → j < length xs → IsIn xs x
@@ -264,7 +264,8 @@ module _ (s : Space) (c : Configuration) (routes : List TableRoute)
     needed = needed;
   }
 
--- the paths are those of the named literals behind the first ones, and these literals are a reason
+-- the literals are the given ones, whichever of them are named; the named ones are a reason, and
+-- the paths are those of the named ones behind the first `n`
 abbrev pub AreNamedFrom : Space → List TableRoute → ℕ → List Candidate → List (List ℕ) → Type 0
 AreNamedFrom s routes n all paths =
     (ks : List Candidate) × AreSameLiterals all ks × IsReason s n ks

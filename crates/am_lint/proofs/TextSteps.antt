@@ -18,7 +18,7 @@ first_of_rest text i c cs e =
 
 -- ---- pieces
 
--- the pieces of the rest of a text, after the bytes that the current piece already has
+-- the pieces from here to the end of a text; the current piece already has some bytes
 abbrev pub cut : Bool → Bool → List ℕ → List ℕ → List (List ℕ)
 cut escaped quoted piece [] = cond (is_blank piece) [] (piece ∷ [])
 cut escaped quoted piece (c ∷ cs) =

@@ -10,7 +10,7 @@ use Rattle.am_labels.specs.MatcherText.{unescaped_text, is_trimmed, HasValue}
 use Rattle.am_labels.proofs.MatcherTextBodies.{escaped_front, escaped_behind}
 use Rattle.am_lint.proofs.TextSteps.{has_no_quote, no_quote_is_left}
 
--- a property of each byte and its escape, by the ways in which a byte is written
+-- each byte and its escape have a property if they have it for each way in which a byte is written
 pub by_escape : (P : ℕ → List ℕ → Type 0) → P 92 (92 ∷ 92 ∷ []) → P 34 (92 ∷ 34 ∷ []) → P 10
     (92 ∷ 110 ∷ []) → ((c : ℕ) → (c == 92) ≡ false → (c == 34) ≡ false → P c (c ∷ [])) → (c : ℕ) →
     P c (label_value_escape c)

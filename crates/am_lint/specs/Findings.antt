@@ -41,9 +41,9 @@ IsOrdinary s = IsAlertOf Ascii s
 -- The route is dead if no alert that counts enters it. It is unusual if no ordinary alert enters it
 -- but the alert that is shown does. It hands on if ordinary alerts enter it but none ends there.
 -- Source: own choice.
--- Example: a route behind a sibling with `team=~".*"` and without `continue` is unusual. The
--- pattern does not match a line feed, so an alert enters the route only if its team has one. With
--- `--ascii` the route is dead.
+-- Example: a route without matchers, behind a sibling with `team=~".*"` and without `continue`, is
+-- unusual. The pattern does not match a line feed, so an alert enters the route only if its team
+-- has one. With `--ascii` the route is dead.
 abbrev pub IsRouteFinding :
     Bool → Space → List Label → Configuration → List ℕ → Option Finding → Type 0
 IsRouteFinding ascii s u c path None = SomeIs (IsOrdinary s) (EndsAt c path)

@@ -36,8 +36,8 @@ abbrev pub DoesAtEachBut : Configuration → Part → List (List ℕ) → List �
 DoesAtEachBut c part routes but set =
     (q : List ℕ) → Contains routes q → q ≢ but → DoesAt c (is_wanted part) q set
 
--- Routes of a part are to blame if no label set meets some other parts and this one: they are
--- enough, and each of them is needed.
+-- These routes of a part are the reason why no label set meets some other parts and this one: they
+-- are enough, and each of them is needed.
 pub record IsReasonOfParts (Occurs : LabelMap → Type 0) (c : Configuration) (parts : List Part)
     (part : Part) (path : List ℕ) (routes : List (List ℕ)) : Type 0 where
   pub each : AllByRecursion (StandsIn c part path) routes

@@ -24,7 +24,7 @@ Enters c path set =
 abbrev pub GoesTo : Configuration → ℕ → LabelMap → Type 0
 GoesTo c receiver set = Contains (receivers set c) receiver
 
--- Some label set that occurs has a property, and none has it.
+-- Some label set that occurs has a property, or none has it.
 abbrev pub SomeIs : (LabelMap → Type 0) → (LabelMap → Type 0) → Type 0
 SomeIs Occurs Is = (set : LabelMap) × Occurs set × Is set
 

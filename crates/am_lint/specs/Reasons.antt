@@ -41,7 +41,7 @@ LacksContinue c path =
 -- some alert matches the rest.
 -- Source: own choice.
 -- Example: the way to `/0/0` is excluded by `/0` and `/0/0` if these ask for `team="db"` and for
--- `team="web"`. If no alert occurs at all, it is excluded by no route.
+-- `team="web"`. If no alert occurs at all, it is excluded by an empty list of routes.
 pub record IsExcludedBy (Occurs : LabelMap → Type 0) (c : Configuration) (path : List ℕ)
     (routes : List (List ℕ)) : Type 0 where
   pub on_way : AllByRecursion (λ q. IsTrue (leads_through q path)) routes

@@ -20,7 +20,8 @@ IsSaid ascii s u c route said =
 -- What they say of each route, in preorder, and of each receiver, in order, is true, and nothing is
 -- left out. The two numbers count the findings and the notes.
 -- Source: own choice.
--- Example: if an ordinary alert ends at each route and goes to each receiver, there are no lines.
+-- Example: if for each route some ordinary alert ends there, and for each receiver some ordinary
+-- alert goes to it, there are no lines.
 pub record SaysOfRoutes (ascii : Bool) (s : Space) (c : Configuration) (findings notes : ℕ)
     (lines : List ℕ) : Type 0 where
   pub labels : List Label

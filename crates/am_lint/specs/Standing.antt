@@ -16,13 +16,13 @@ use Rattle.am_lint.specs.Reasons.{IsExcludedBy, IsTakenBy, IsHandedTo}
 abbrev pub IsShownBy : Space → (LabelMap → Type 0) → List ℕ → Type 0
 IsShownBy s Is choice = IsChoiceOf s choice × Is (label_set_of s.labels choice)
 
--- The same for a whole choice of some labels, if its label set occurs.
+-- The same for a whole choice of some labels: its label set occurs and has a property.
 abbrev pub IsSeenBy :
     List Label → (LabelMap → Type 0) → (LabelMap → Type 0) → List ℕ → Type 0
 IsSeenBy u Occurs Is choice =
     IsWhole (sizes u) choice × Occurs (label_set_of u choice) × Is (label_set_of u choice)
 
--- These routes are to blame, with this cause, if no alert enters the route at a path.
+-- These routes, with this cause, are the reason why no alert enters the route at a path.
 abbrev pub IsReasonFor :
     (LabelMap → Type 0) → Configuration → List ℕ → Cause → List (List ℕ) → Type 0
 IsReasonFor Occurs c path cause_is.Excluded routes = IsExcludedBy Occurs c path routes

@@ -72,7 +72,7 @@ impl FoundRoute {
         matches!(self.ordinary, Standing::Ends(_))
     }
 
-    /// Whether `every` has an alert that ends at the route.
+    /// Whether `every` says that an alert ends at the route.
     fn has_other_end(&self) -> bool
         ensures { result ≡ is_end_if_any self.now.every }
     {

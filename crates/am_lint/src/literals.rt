@@ -1,4 +1,4 @@
-//! What an alert has to meet to enter a route or to end there, as literals that name other routes.
+//! What an alert must meet to enter a route or to end there, as literals that name routes.
 
 ghost use Rattle.std.specs.Prelude.{◌≡◌, OnOk};
 ghost use Rattle.am_lint.specs.Literals.{stands_in, is_wanted, AddsPart};

@@ -250,7 +250,7 @@ fn receiver_kind(finding: ReceiverFinding) -> &'static str
     }
 }
 
-/// Returns those of some routes that have the given receiver.
+/// Returns those of the routes that have the given receiver.
 fn having(
     alloc: Global,
     routes: &[FoundRoute],

@@ -218,8 +218,8 @@ fn reason_of<'t>(
     named_by_reason(alloc, table, &mut literals, fixed)
 }
 
-/// Finds which routes are to blame if no label set meets all literals, and returns their paths.
-/// There must be no such label set. The first `fixed` literals count as given.
+/// Finds why no label set meets all literals, and returns the paths of the routes that are to
+/// blame. There must be no such label set. The first `fixed` literals count as given.
 fn named_by_reason(
     alloc: Global,
     table: &Table<'_>,

@@ -13,7 +13,7 @@ use Rattle.am_json.specs.Reading.{read_items_or_null, as_object, required_field,
 use Rattle.am_list_files.specs.declared.limits.TheConstants.{MAX_ALERTS, MAX_ALERT_LABELS}
 use Rattle.am_list_files.specs.NamedText.{named_text_form}
 
--- The labels before this one, with its name and text added.
+-- The labels before this one, with its name and text added. The empty text leaves the label out.
 unfoldable pub next_label_form : LabelMap → Form (List ℕ × Data) LabelMap
 next_label_form before pair = do
   text ← reading_within (to_field pair.0) (named_text_form pair.0 pair.1)

@@ -92,6 +92,6 @@ IsFirstFaultOfSilences d r = first_fault (silences_form d).objections ≡ Some r
 abbrev pub IsFirstFaultOfSilencesFile : List ℕ → Refusal → Type 0
 IsFirstFaultOfSilencesFile bytes r = first_fault (silences_file_form bytes).objections ≡ Some r
 
--- What a file may be refused for: its first fault, or a pattern that no fault comes before.
+-- What a file may be refused for: its first fault, or a pattern with no fault before it.
 abbrev pub SilencesFileRefusedFor : List ℕ → Refusal → Type 0
 SilencesFileRefusedFor bytes r = IsRefusedFor (silences_file_form bytes).objections r

@@ -89,6 +89,6 @@ IsFirstFaultOfUniverse d r = first_fault (universe_form d).objections ≡ Some r
 abbrev pub IsFirstFaultOfUniverseFile : List ℕ → Refusal → Type 0
 IsFirstFaultOfUniverseFile bytes r = first_fault (universe_file_form bytes).objections ≡ Some r
 
--- What a file may be refused for: its first fault, or a pattern that no fault comes before.
+-- What a file may be refused for: its first fault, or a pattern with no fault before it.
 abbrev pub UniverseFileRefusedFor : List ℕ → Refusal → Type 0
 UniverseFileRefusedFor bytes r = IsRefusedFor (universe_file_form bytes).objections r

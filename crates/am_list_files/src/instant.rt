@@ -13,7 +13,7 @@ use std::alloc::Global;
 /// An example is `2024-05-01T10:00:00Z`. Every text is accepted that `jiff` reads as a `Timestamp`:
 /// a second 60 is the second 59, a fraction has at most nine digits, and a zone in brackets at the
 /// end is ignored. Fails with `BadTime` exactly if `jiff` reads no instant. Takes no memory today,
-/// so `Memory` never comes.
+/// so `Memory` never comes. A later version of `jiff` may need memory, and callers need not change.
 pub fn parse_instant(_alloc: Global, text: &str) -> Result<Timestamp, Kind>
     ensures read { IfOk result (λ t. instant_of text.now ≡ Some t.nanosecond) }
     ensures refused { IfErr result (λ kind.

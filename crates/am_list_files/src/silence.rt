@@ -1,6 +1,6 @@
 //! Silences, as they are kept in memory.
 
-// Each `impl Model` has imports of its own, so that no import goes in a circle.
+// Each `impl Model` has imports of its own. None is from a module that uses these types.
 ghost use Rattle.std.specs.Prelude.{◌≡◌, ◌<◌, ◌≤◌, ◌==◌, [], Some, length, slice_get};
 
 use crate::limits::MAX_SILENCES;

@@ -5,6 +5,10 @@
 //! that is done, and [`notes_of_refusal`] those of one that was refused. Both depend on the inputs
 //! alone, and read them again, as the commands do. Nothing depends on notes: no contract says which
 //! notes there are, and cases test them.
+//!
+//! Notes come after the answer, because it may take minutes to find out whether a universe is
+//! complete. They look at ordinary alerts alone: a person who used `--ascii` knows that others are
+//! left out, and to look at all alerts takes long if patterns are hard.
 #![tactic(auto)]
 
 // The call that notes are about.

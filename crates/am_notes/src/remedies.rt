@@ -95,7 +95,7 @@ fn add_likeness(
     }
 }
 
-/// Adds a note on how matchers are written, if a text spells none.
+/// Adds a note on how matchers are written, for a text that does not spell them.
 fn add_bad_matcher(
     alloc: Global,
     notes: &mut Notes,

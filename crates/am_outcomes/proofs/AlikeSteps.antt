@@ -110,7 +110,7 @@ two_alike u (c ∷ d ∷ e ∷ cs) (x ∷ y ∷ []) know two r q r-is q-is alike
 two_alike u (c ∷ d ∷ e ∷ cs) (x ∷ y ∷ z ∷ rs) know two r q r-is q-is alike =
     absurd (omega (arith, two))
 
--- ---- What is seen of the first, twice.
+-- ---- The state of the first, twice.
 
 -- the cubes of both configurations are there
 pub both_there : (u : List Label) (cs : List Configuration) (rs : List RouteCubes)

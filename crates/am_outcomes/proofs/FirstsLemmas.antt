@@ -44,7 +44,7 @@ module _ {K A : Type 0} (same : K → K → Bool) where
   all_stay (one ∷ all) found f i =
       all_stay all (with_first same found one) f (stays (has_key found one.0) found one f i)
 
-  -- ---- Each of the first is one of the things.
+  -- ---- Each of the first is one of the items.
 
   from_either : (b : Bool) (found : List (K × A)) (one f : K × A) → IsIn (more_if b found one) f
       → IsIn found f ⊎ (one ≡ f)
@@ -63,7 +63,7 @@ module _ {K A : Type 0} (same : K → K → Bool) where
   pub first_is_one : (all : List (K × A)) (f : K × A) → IsIn (firsts same all) f → IsIn all f
   first_is_one all f i = elim (from_all all [] f i) [ inl none ↦ absurd none | inr there ↦ there ]
 
-  -- ---- Each thing has its key among the first.
+  -- ---- Each item has its key among the first.
 
   abbrev HasKeyOf : List (K × A) → K × A → Type 0
   HasKeyOf found one = (f : K × A) × IsIn found f × (f.0 ≡ one.0)

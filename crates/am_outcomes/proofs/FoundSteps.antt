@@ -68,7 +68,7 @@ pub there_already : (entries : List Entry) (one : Entry)
     → entries ≡ with_first same_fates entries one
 there_already entries one there = sym (ap (λ b. cond b entries (entries ++ one ∷ [])) there)
 
--- ---- One choice more.
+-- ---- One more choice.
 
 module _ (s : Space) (cs : List Configuration) where
   -- the outcomes of some choices

@@ -75,7 +75,7 @@ is_certain_yes Yes e = refl
 is_certain_yes No e = absurd cc
 is_certain_yes Open e = absurd cc
 
--- ---- Prefixes one behind the other.
+-- ---- Prefixes one after the other.
 
 module _ (s : Space) (cs : List Configuration) where
   abbrev Found : Type 0

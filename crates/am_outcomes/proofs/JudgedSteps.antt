@@ -28,7 +28,7 @@ use Rattle.am_outcomes.specs.Receivers.{receivers_at}
 use Rattle.am_outcomes.proofs.RouteReceivers.{receivers_are}
 use Rattle.am_outcomes.proofs.SameFates.{routes_state}
 
--- ---- One configuration more.
+-- ---- One more configuration.
 
 knows_pushed : (u : List Label) (cs : List Configuration) (rs : List RouteCubes)
     (c : Configuration) (r : RouteCubes) → KnowsConfigs u cs rs → KnowsConfig u c r

@@ -66,7 +66,7 @@ module _ (same : Vec Verdict → Vec Verdict → Bool) (tells : TellsSame same) 
   all_differ (entry ∷ entries) state e =
       grind (arith, common_steps, cases_Bool, all_differ entries state)
 
--- ---- One prefix more.
+-- ---- One more prefix.
 
 apart_pushed : (found : List (List ℕ × List Verdict)) (one : List ℕ × List Verdict)
     → HaveDistinctStates found → AllByRecursion (λ other. other.1 ≢ one.1) found

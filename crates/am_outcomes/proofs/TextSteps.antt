@@ -27,7 +27,7 @@ use Rattle.am_outcomes.specs.OutcomeText.{under, name_of, names_of, same_names, 
 use Rattle.am_outcomes.specs.OutcomeText.{changes_of, change_line, AreDeclared}
 use Rattle.am_outcomes.proofs.FirstsLemmas.{first_is_one}
 
--- ---- What is so of each outcome.
+-- ---- What holds for each outcome.
 
 -- an outcome is that of a whole choice
 abbrev pub IsOfChoice : Space → List Configuration → List (List ℕ) × List ℕ → Type 0

@@ -10,8 +10,8 @@ use Rattle.am_config.specs.ConfigFile.{Configuration}
 use Rattle.am_outcomes.specs.Outcomes.{same_fate, with_first, with_fate}
 use Rattle.am_outcomes.specs.States.{HasState, HaveDistinctStates}
 
--- Prefixes are kept behind their states. In a layer, the states are those of the prefixes, no two
--- prefixes have the same state, and all prefixes have the same length.
+-- Each prefix is kept with its state in front. In a layer, the states are those of the prefixes, no
+-- two prefixes have the same state, and all prefixes have the same length.
 abbrev pub state_view : Vec Verdict × List ℕ → List ℕ × List Verdict
 state_view entry = (entry.1, entry.0.items)
 

@@ -11,7 +11,7 @@ use Rattle.am_eval.specs.Routing.{receivers}
 
 -- What becomes of an alert: its receivers under each of some configurations, by their positions.
 -- Source: Alertmanager configuration reference 0.25, "<route>": `receiver`.
--- Example: if an alert ends at two routes under one configuration, and both routes have the
+-- Example: let there be one configuration. If an alert ends at two routes, and both routes have the
 -- receiver at position 2, it is the one list of 2 and 2.
 abbrev pub fate : List Configuration → LabelMap → List (List ℕ)
 fate cs set = map (λ c. receivers set c) cs

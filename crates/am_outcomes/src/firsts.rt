@@ -11,6 +11,9 @@ use std::hash::Hash;
 use std::marker::Model;
 
 /// Keys, each with the choice that came first with it, in the order in which they came.
+///
+/// An `IndexMap` keeps this order, which a map of the standard library does not. A list beside such
+/// a map would need a proof that both hold the same.
 #[derive(Drop)]
 pub(crate) struct Firsts<K: Eq + Hash> {
     entries: IndexMap<K, Choice>,

@@ -30,8 +30,8 @@ pub(crate) struct Judged<'a> {
     pub(crate) configs: &'a [&'a Config],
     impossible: Vec<Cube>,
     routes: Vec<RouteCubes>,
-    // Whether there are two configurations with the same state at each prefix, so that it is enough
-    // to look at one.
+    // Whether there are two configurations that are known to have the same state at each prefix, so
+    // that it is enough to look at one.
     alike: bool,
     ghost is_universe: { IsUniverse space.now.labels } by { Prim.hlevel props },
     ghost knows_lists: { KnowsLists space.now impossible.items } by { Prim.hlevel props },

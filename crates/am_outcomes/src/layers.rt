@@ -9,6 +9,10 @@
 //! sibling that is certain and lacks `continue`, since no completion gets there. A prefix at which
 //! an impossible list is certain has no state and is left out: none of its completions is possible.
 //!
+//! A state is a list of verdicts, because a verdict is what a cube returns and what is proved of
+//! it. A set of bits would be smaller, and lists with the same matchers could share a bit. But then
+//! the lists would need numbers, and a proof that the numbers keep different lists apart.
+//!
 //! What becomes of a list that is `Open` depends on the labels still to come, and on no label
 //! before. So if two prefixes have the same state, the same positions after both lead to the same
 //! receivers, and are possible after both or after neither. Of the prefixes with one state a layer

@@ -22,8 +22,8 @@ use Rattle.am_judged_lists.specs.Certainty.{passes, other}
 use Rattle.am_plans.specs.Verdicts.{verdict_of_literal}
 
 -- `source_fails`: the source side does not match; without a list for it, this is true.
--- `side_fails`: if the pair requires that its source side does not match, it does not. `pair_by`:
--- the pair inhibits, by its lists.
+-- `side_fails`: the source side does not match, or the pair does not require this. `pair_by`: the
+-- pair inhibits, by its lists.
 abbrev pub source_fails : {L : Type 0} → (L → List ℕ → Verdict) → List ℕ → Certainty → Option L
     → Bool
 source_fails verdict prefix m None = true

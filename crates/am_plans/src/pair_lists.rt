@@ -183,7 +183,7 @@ fn rows_of_targets(
 }
 
 /// The lists of the pairs of a world. A pair is left out if its list never matches, or if it says
-/// the same as another pair of its rule: it does not change an `or`.
+/// the same as another pair of its rule: such a pair does not change an `or`.
 fn lists_of_pairs<L: JudgedList>(
     alloc: Global,
     universe: &Universe,

@@ -21,7 +21,8 @@
 //!
 //! The promises of the commands rest on the clause `truth` of `new`. Which prefixes are judged
 //! rests on `verdict`. A law says what a verdict means
-//! (`a_verdict_says_what_holds_of_all_completions`).
+//! (`a_verdict_says_what_holds_of_all_completions`). It rests on the laws of `am_judged_lists`
+//! about one list, and on `a_simple_part_is_true_where_its_condition_holds` of `am_eval`.
 
 ghost use Rattle.std.specs.Prelude.{◌≡◌, ℕ, List, map, IfOk, IsTrue};
 ghost use Rattle.std.proofs.Props.{props};

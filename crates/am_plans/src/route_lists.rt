@@ -56,6 +56,9 @@ impl<L: JudgedList> RouteLists<L> {
     }
 
     /// The same for a label set that matches the route.
+    ///
+    /// The children are asked one by one, and not by a table: the walk needs the verdict of each
+    /// child beside its `continue` and the routes below it.
     fn comes_below(&self, certainty: Certainty, target: Target<'_>, prefix: &Choice) -> bool
         ensures { result ≡ (seen_by L.verdict prefix.now self.now).comes certainty
             (target_view target.entry) }

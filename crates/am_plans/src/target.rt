@@ -6,8 +6,8 @@ ghost use Rattle.am_plans.specs.Target.{is_nothing};
 
 use am_eval::Reach;
 
-/// Which routes are looked for, as seen from one route: the route at a path from there, those that
-/// have a receiver, or none.
+/// Which routes are looked for, as seen from one route: the route at a path from there, the ends
+/// that have a receiver, or none.
 #[derive(Clone, Copy)]
 pub(crate) enum Target<'q> {
     /// No route.

@@ -175,8 +175,8 @@ fn call_buffered<W: Write + Drop>(
         Ok(_) => buffered.flush().is_ok(),
         Err(_) => true,
     };
-    // After a failure, what is left in the buffer is not tried again. Dropping the buffer would do
-    // that.
+    // After a failure, what is left in the buffer is not written. Dropping the buffer would try to
+    // write it.
     let _ = buffered.into_parts();
     let found = outcome?;
     if flushed {

@@ -50,7 +50,8 @@ keyword_found ReceiverWord = refl
 keyword_found (ReachWord Ends) = refl
 keyword_found (ReachWord Enters) = refl
 
--- the part that goes on after a keyword; its name or path is not checked
+-- the part that begins with this keyword and goes on with the lexemes, and what follows it; a path
+-- is not checked
 abbrev part_behind : Option Keyword → List Lexeme → Option (Written × List Lexeme)
 part_behind (Some (PropertyWord p)) ts = Some (WrittenIs p, ts)
 part_behind (Some ReceiverWord) (lexeme ∷ ts) =

@@ -339,7 +339,8 @@ at_first text = record {
   back = λ us s. (us, trim text us s);
 }
 
--- a rest that is not empty begins with a lexeme, if it has lexemes
+-- a rest that is not empty and does not begin with whitespace begins with a lexeme, if it has
+-- lexemes
 rest_is_read : (rest : List ℕ) (vs : List Lexeme) → 0 < length rest
     → is_space (get_or rest 0 0) ≡ false → SpellsLexemes rest vs
     → (v : Lexeme) × (behind : List ℕ) × (more : List Lexeme) × (read_lexeme rest ≡ Some (v, behind))

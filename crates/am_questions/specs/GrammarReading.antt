@@ -18,8 +18,8 @@ Stops Single rest = ⊤
 Stops (JoinedBy by.And) rest = IsNotFirst (JoinWord by.And) rest
 Stops (JoinedBy by.Or) rest = IsNotFirst (JoinWord by.Or) rest × IsNotFirst (JoinWord by.And) rest
 
--- The list begins with a question of the tier `tier`, and is followed by what may follow a question
--- of the tier `end`. `Reads` takes one tier for both.
+-- The list begins with a question of the tier `tier`, and the rest of the list may follow a
+-- question of the tier `end`. `Reads` takes one tier for both.
 pub data Front (tier end : Tier) : List Lexeme → Tree Written → List Lexeme → Type 0 where
   at_front : {front rest : List Lexeme} {q : Tree Written} → IsOf tier front q → Stops end rest
       → Front tier end (front ++ rest) q rest

@@ -53,8 +53,7 @@ files_fingerprint universe files question =
     ∷ Some question
     ∷ [])
 
--- The fingerprint of the inputs. The token is not part of it, nor is the number of answers that are
--- wanted.
+-- The fingerprint of the inputs. The token is not part of it, nor are the limits that a page sets.
 abbrev pub inputs_fingerprint : Inputs → List ℕ
 inputs_fingerprint inputs = files_fingerprint inputs.universe inputs.files inputs.question
 

@@ -117,7 +117,8 @@ same_at (j ∷ shared) c d (suc k) label same at =
     same_at shared c d k label
     (and_parts (slice_index c j == slice_index d j) (are_same_at shared c d) same).1 at
 
--- if a choice has no partner that shares one label alone, a choice that agrees there has no partner
+-- if a choice has no partner even with one label shared alone, a choice that agrees with it there
+-- has no partner
 no_partner_by : (s : Space) (shared : List ℕ) (ls : List Candidate) (prefix c : List ℕ)
     (k label : ℕ) → slice_get shared k ≡ Some label
     → slice_index c label ≡ slice_index prefix label

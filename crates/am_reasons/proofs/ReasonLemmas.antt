@@ -95,7 +95,7 @@ named_less n i ks behind h j k at lt = elim (got_renamed i false ks j k at) [
   | inr other ↦ h j k other.0 lt
 ]
 
--- those of the first literals, up to a number, that are before a position are named
+-- those of the first `count` literals that are before the position `n` are named
 abbrev pub AreNamedSoFar : List Candidate → List Candidate → ℕ → ℕ → Type 0
 AreNamedSoFar ks ls count n =
     AreSameLiterals ks ls
@@ -291,7 +291,7 @@ as_many [] [] same = refl
 as_many (k ∷ ks) (l ∷ ls) same = ap suc (as_many ks ls same.1)
 as_many ks ls same = absurd same
 
--- once all literals are looked at, the first ones, up to a number, are named
+-- once all literals are looked at, the first `count` are named
 pub all_named : (ks ls : List Candidate) (count n : ℕ) → AreNamedSoFar ks ls count n
     → length ks ≤ n → AreNamedBefore count ls
 all_named ks ls count n h all j l at lt =

@@ -28,7 +28,7 @@ are_same_at shared c d = list_all (λ i. slice_index c i == slice_index d i) sha
 -- the named literals of one side, and the second meets those of the other side.
 -- Source: own choice.
 -- Example: if `team` is the only shared label, and the sides ask for the severities `critical` and
--- `warning`, a critical alert and a warning of the team `db` are a pair.
+-- `warning`, a critical alert and a warning, both of the team `db`, are a pair.
 pub record IsPair (s : Space) (shared : List ℕ) (ks ls : List Candidate) (c d : List ℕ) :
     Type 0 where
   pub first : IsChoiceOf s c

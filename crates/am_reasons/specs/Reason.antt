@@ -27,8 +27,8 @@ abbrev pub without : ℕ → List Candidate → List Candidate
 without i ks = renamed i false ks
 
 -- The named literals are a reason why no label set of a space meets all literals. The first `fixed`
--- literals are named. The named literals are enough: no label set meets them. Each other named
--- literal is needed: without it, some label set meets the rest.
+-- literals are among them. They are enough: no label set meets all of them. Each of them behind the
+-- first `fixed` is needed: without it, some label set meets the rest.
 -- Source: own choice; logic calls what is enough and needed in this way a minimal unsatisfiable
 -- set.
 -- Example: of `team="db"`, `env="prod"` and not `team=~"d.*"` the first and the third are a reason,

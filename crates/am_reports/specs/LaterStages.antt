@@ -43,7 +43,7 @@ IsOutcomesRefusal a s k place r =
 
 -- ---- Stages.
 
--- The inputs are accepted, and what they say is refused, as `Refuses` has it; and the stage of such
+-- The inputs are accepted, and what they say is refused, as `Refuses` says; and the stage of such
 -- refusals. `Accepts` holds of the space and the configurations that accepted inputs say.
 abbrev pub RefusesWhatIsSaid : (Space → Configurations → Type 0)
     → (Space → Configurations → Refusal → Type 0) → Refusal → Type 0

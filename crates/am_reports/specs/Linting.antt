@@ -92,9 +92,9 @@ pub record IsLinted (inputs : LintInputs) (s : Space) (w : World) (findings : â„
 -- a report of what is wrong with the configuration, for every possible alert; with `--ascii`, for
 -- every possible alert whose values are printable ASCII. `found` tells whether there is a finding.
 -- Source: own choice.
--- Example: if the top-level route stands alone and has the receiver `a`, and a receiver `b` is
--- declared too, the report is the lines `receiver "b" unmatched: no route names it` and
--- `# 1 finding, 0 notes`.
+-- Example: if the top-level route is the only route and has the receiver `a`, a receiver `b` is
+-- declared too, and there are no rules, silences and alerts, the report is the lines
+-- `receiver "b" unmatched: no route names it` and `# 1 finding, 0 notes`.
 pub record LintsFiles (inputs : LintInputs) (found : Bool) (report : List â„•) : Type 0 where
   pub space : Space
   pub world : World

@@ -54,8 +54,8 @@ NoRoomFor a s k r =
 -- refusal is at the file of the first matcher on the first of these labels, and points to the route
 -- or list of that matcher.
 -- Source: own choice.
--- Example: if the first child of the top-level route has `team=~"\bdb"`, and no matcher before it
--- is on `team`, the pointer is `/route/routes/0`.
+-- Example: over Unicode, if the first child of the top-level route has `team=~"\bdb"`, and no
+-- matcher before it is on `team`, the pointer is `/route/routes/0`.
 pub record UnprovedFor (a : Alphabet) (s : Space) (k : Configurations) (place : Place)
     (r : Refusal) : Type 0 where
   pub unproved : List ℕ
@@ -71,8 +71,8 @@ pub record UnprovedFor (a : Alphabet) (s : Space) (k : Configurations) (place : 
 -- ---- Labels that a universe file declares.
 
 -- A label of a space lacks no value for the matchers of the routes and of the impossible lists: the
--- space has a value for each class of texts that the label may have. And so for each of some
--- labels.
+-- space has a value for each class of texts that the label may have. And the same for each label of
+-- a list.
 abbrev pub IsDeclaredWhole : Alphabet → Space → Configurations → Label → Type 0
 IsDeclaredWhole a s k label = IsSpaceCompleteAt a s (routing_conditions s k) label.name
 
@@ -94,7 +94,8 @@ pub record IncompleteFor (a : Alphabet) (s : Space) (k : Configurations) (r : Re
       ≡ record { kind = kinds.Incomplete; pointer = codes "/labels/" ++ decimal position }
 
 -- The space is refused, since a matcher on one of its labels takes a pattern, and the classes of
--- that label could not be computed. The first matcher on the label stands in this file.
+-- that label could not be computed. No label before it lacks a value. The refusal is at the file of
+-- the first matcher on the label, and points to the route or list of that matcher.
 -- Source: own choice.
 -- Example: `team` is declared, and a route has `team=~"\bdb"`, over Unicode.
 pub record UndecidedFor (a : Alphabet) (s : Space) (k : Configurations) (place : Place)

@@ -28,8 +28,8 @@ pub record IsOutcomesReport (ascii : Bool) (s : Space) (c : Configuration) (repo
 -- a report of the outcomes of the configuration, for every possible alert; with `--ascii`, for
 -- every possible alert whose values are printable ASCII.
 -- Source: own choice.
--- Example: if the top-level route stands alone and has the receiver `a`, the report is the lines
--- `"a" {}` and `# end`.
+-- Example: if the top-level route is the only route and has the receiver `a`, the report is the
+-- lines `"a" {}` and `# end`.
 pub record ReportsOutcomes (inputs : ReportInputs) (report : List ℕ) : Type 0 where
   pub space : Space
   pub configuration : Configuration

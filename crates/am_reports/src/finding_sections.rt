@@ -1,4 +1,7 @@
 //! The sections of a report on inhibition rules, on silences, and on values that no alert has.
+//!
+//! Rules and silences have no `unusual`. Routes often have `.*` for every text. In a rule or a
+//! silence the difference matters only if it has such a pattern, and `lint --ascii` shows it.
 
 ghost use Rattle.std.specs.Prelude.{◌≡◌, ◌≢◌, [], length, string_bytes, IfOk, IfErr, OnOk};
 ghost use Rattle.std.specs.List.{AllZip};

@@ -1,4 +1,8 @@
 //! The section of a report on routes and receivers.
+//!
+//! A route that hands on is a note, since many routes only group their children. Each route below a
+//! dead route has a line too. So there is a line for exactly the routes that are dead, and these
+//! lines go when the upper route is mended.
 
 ghost use Rattle.std.specs.Prelude.{◌≡◌, ◌≢◌, [], IfOk, IfErr, OnOk, IfSome, IfNone, false, true};
 ghost use Rattle.std.specs.Prelude.{is_none};

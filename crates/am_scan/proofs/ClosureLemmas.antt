@@ -18,12 +18,12 @@ use Rattle.am_scan.specs.Sight.{kind_beside, IsScanned}
 use Rattle.am_scan.specs.Closure.{leads, leads_on, accepts, contains, reads_byte, AcceptsReads, IsClosed}
 use Rattle.am_scan.proofs.SightLemmas.{IsSeen, holds-kinds}
 
--- one of two results is there if the first or the second is
+-- one of two results is there exactly if the first or the second is
 pub is_some-option_or : {A : Type 0} (o p : Option A) → is_some (option_or o p) ≡ (is_some o || is_some p)
 is_some-option_or None p = refl
 is_some-option_or (Some x) p = refl
 
--- a result that is given only under a condition
+-- a result under a condition is there exactly if the condition holds and there is a result
 pub is_some-cond : {A : Type 0} (b : Bool) (o : Option A) → is_some (cond b o None) ≡ (b && is_some o)
 is_some-cond true o = refl
 is_some-cond false o = refl
@@ -31,7 +31,7 @@ is_some-cond false o = refl
 module _ (nfa : Nfa) (sight : Sight) (ascii : Bool) (seen : IsSeen nfa sight ascii) (hay : List ℕ) (scanned : IsScanned ascii hay) (i : ℕ) (after before : Option ℕ) (reads : ℕ → Bool) (accepted : List Bool)
     (after_is : after ≡ kind_beside sight (slice_get hay i)) (before_is : before ≡ kind_beside sight (byte_before hay i))
     (read_is : (q : ℕ) → q < vec_len nfa.states → reads q ≡ leads_on nfa hay q i) where
-  -- for each form of state, if the states of lower rank are known
+  -- `accepts` is right about a state, if the accepted states of lower rank are right
   by_state : (q : ℕ) → q < vec_len nfa.states → (state : State) → state_of nfa q ≡ state →
       ((r : ℕ) → IsBelow nfa.ranks.items r q → slice_index_or accepted r false ≡ leads nfa hay r i) →
       accepts after before accepted (reads q) state
@@ -84,7 +84,7 @@ pub IsClosed-rounds : (nfa : Nfa) (after before : Option ℕ) (reads : ℕ → B
 IsClosed-rounds nfa after before reads accepted idle len own all each =
     grind (arith, common_steps, cases_Bool, accepts_reading, place_of)
 
--- Numbers are those of the states that read no byte, among the last `k`.
+-- Numbers are of states that read no byte, and all such states among the last `k` are there.
 pub record AreIdle (nfa : Nfa) (idle : List ℕ) (k : ℕ) : Type 0 where
   pub alone : All (λ q. (q < vec_len nfa.states) × (reads_byte (state_of nfa q) ≡ false)) idle
   pub all : (q : ℕ) → q < vec_len nfa.states → vec_len nfa.states ≤ q + k → reads_byte (state_of nfa q) ≡ false → contains idle q ≡ true

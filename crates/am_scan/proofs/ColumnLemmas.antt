@@ -24,7 +24,7 @@ pick : (a b c g h : Bool) → a ≡ false → b ≡ true → c ≡ true → h �
 pick false true true g h x y z e = e
 pick a b c g h x y z e = absurd cc
 
--- any other state is not a source
+-- no other state is a source
 miss : (a b c g h : Bool) → a ≡ false → b ≡ false → c ≡ false → ((a && g) || (b && h)) ≡ (c && g)
 miss false false false g h x y z = refl
 miss a b c g h x y z = absurd cc

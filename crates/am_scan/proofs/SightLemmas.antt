@@ -30,17 +30,17 @@ IsAsciiSide o = (b : ℕ) → o ≡ Some b → b < 128
 abbrev known_by : Bool → Bool → ℕ → ℕ
 known_by lines words b = cond (lines && (eqb b 10 || eqb b 13)) b (cond (words && is_word_byte b) 97 0)
 
--- a byte is a line feed exactly if its kind is
+-- if lines are seen, a byte is a line feed exactly if its kind is
 lf_byte : (lines words : Bool) (b : ℕ) → lines ≡ true → eqb (known_by lines words b) 10 ≡ eqb b 10
 lf_byte false words b e = absurd cc
 lf_byte true words b e = grind (arith, common_steps, cond_both, or_parts)
 
--- a byte is a carriage return exactly if its kind is
+-- if lines are seen, a byte is a carriage return exactly if its kind is
 cr_byte : (lines words : Bool) (b : ℕ) → lines ≡ true → eqb (known_by lines words b) 13 ≡ eqb b 13
 cr_byte false words b e = absurd cc
 cr_byte true words b e = grind (arith, common_steps, cond_both, or_parts)
 
--- a byte is of a word exactly if its kind is
+-- if words are seen, a byte is of a word exactly if its kind is
 word_byte : (lines words : Bool) (b : ℕ) → words ≡ true → is_word_byte (known_by lines words b) ≡ is_word_byte b
 word_byte lines false b e = absurd cc
 word_byte lines true b e = search (rules, cond_both)

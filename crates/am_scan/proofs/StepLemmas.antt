@@ -76,7 +76,7 @@ module _ (nfa : Nfa) (sight : Sight) (ascii : Bool) (seen : IsSeen nfa sight asc
       leads_where_accepted nfa sight ascii seen hay scanned i first before reads accepted (follows.kind ∙ ap (kind_beside sight) (sym (here hay i text e)))
       before_is (follows.each hay i scanned e) closed
 
-  -- a match begins at the start of the text, or later
+  -- whether a match begins at the start of the text, or later
   from_here : (before : Option ℕ) → IsClosed nfa first before reads accepted →
       (hay : List ℕ) (i : ℕ) → IsScanned ascii hay → drop i hay ≡ text → before ≡ kind_beside sight (byte_before hay i) →
       (later || (starts && slice_index_or accepted nfa.start false)) ≡ is_some (first_from (start_at nfa hay) (suc (length text)) i)

@@ -12,7 +12,7 @@ use Rattle.am_scan.specs.Column.{IsColumn}
 use Rattle.am_scan.specs.Scan.{Follows}
 use Rattle.am_scan.specs.Numbers.{number_in}
 
--- The class of each scanned byte is the position of its column.
+-- The class of a scanned byte, if it has one yet, is the position of its column.
 abbrev pub AreClasses : PatternScan → List Column → List ℕ → Type 0
 AreClasses scan columns classes =
     (b class : ℕ) → slice_get classes b ≡ Some class → is_scanned scan.ascii b ≡ true

@@ -84,7 +84,7 @@ AcceptsReads nfa reads accepted =
 -- A list of accepted states is closed: a state is accepted exactly if it leads to a match by the
 -- accepted states.
 -- Source: own choice.
--- Example: a list that does not accept `Match` is not closed.
+-- Example: if the pattern has a state `Match`, a list that does not accept it is not closed.
 pub record IsClosed (nfa : Nfa) (after before : Option ℕ) (reads : ℕ → Bool)
     (accepted : List Bool) : Type 0 where
   pub len : length accepted ≡ vec_len nfa.states

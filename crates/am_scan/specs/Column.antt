@@ -23,7 +23,7 @@ first_edges nfa b zero = []
 first_edges nfa b (suc q) =
     first_edges nfa b q ++ edge_from q (next_on nfa.transitions.items (state_of nfa q) b)
 
--- The steps on which all states of a pattern read a byte.
+-- The steps on which any state of a pattern reads a byte.
 abbrev pub edges_of : Nfa → ℕ → List Edge
 edges_of nfa b = first_edges nfa b (vec_len nfa.states)
 

@@ -17,7 +17,7 @@ mod column;
 mod columns;
 mod sight;
 
-// What is known after the end of a text was read, and hashes to look that up.
+// What is known when the end of a text has been read, and hashes to look that up.
 mod closure;
 mod hashing;
 mod pattern_state;

@@ -190,9 +190,10 @@ impl PatternScan {
         self.closure(alloc, state, Some(kind))
     }
 
-    /// Finds for each state whether it leads to a match from the start of the state's text, after a
-    /// byte of kind `before`. Looks at the states in rounds until nothing changes. Returns `None`
-    /// if something still changes after one round for each state that reads no byte, and one more.
+    /// Finds for each state of the compiled pattern whether it leads to a match from the start of
+    /// the text of `state`, after a byte of kind `before`. Looks at the states that read no byte in
+    /// rounds, until a round changes nothing. There are at most as many rounds as such states, and
+    /// one more. Returns `None` if each of them changes something.
     fn closure(
         &self,
         alloc: Global,

@@ -20,7 +20,7 @@ impl PatternState {
     ghost use Rattle.am_scan.specs.declared.pattern_scan.PatternScan.{PatternScan};
     ghost use Rattle.am_scan.specs.Scan.{Follows};
 
-    /// Whether two states are the same. `true` promises that each text of one state is also a text
+    /// Whether two states are the same. `true` promises that each text of this state is also a text
     /// of the other; `false` promises nothing.
     pub(crate) fn same(&self, other: &PatternState) -> bool
         ensures { IsTrue result → (scan : PatternScan) (text : List ℕ)

@@ -85,7 +85,8 @@ pub(crate) fn holds(look: Look, before: Option<u8>, after: Option<u8>) -> bool
     holds_between(look, side_of(before), side_of(after))
 }
 
-/// Returns what an assertion sees on one side, where the byte there is a character.
+/// Returns what an assertion sees on one side. The byte there, if there is one, is taken as a
+/// character.
 fn side_of(byte: Option<u8>) -> Side
     ensures { seen result ≡ record { byte = byte; char = byte } }
 {

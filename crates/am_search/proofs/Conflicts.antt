@@ -40,7 +40,8 @@ begins_at (q ∷ c) (p ∷ prefix) (suc i) e h = search (rules, begins_at c pref
 -- ---- Conflicts.
 
 module _ (ns : List ℕ) (truth : List ℕ → Bool) where
-  -- a conflict of a prefix with one more position is one of the prefix, if it leaves out that label
+  -- a conflict of a prefix with one more position is a conflict of the prefix too, if it leaves out
+  -- the label of that position
   pub jump : (labels : Labels) (prefix : List ℕ) (p : ℕ)
       → IsConflict ns truth labels (prefix ++ p ∷ [])
       → has_label labels (length prefix) ≡ false → IsConflict ns truth labels prefix
@@ -64,7 +65,7 @@ module _ (ns : List ℕ) (truth : List ℕ → Bool) where
 
   -- ---- The first true choice.
 
-  -- the first list in which a choice is found has the first choice of all
+  -- the first list that has a true choice has the first true choice of all
   finds_in : (lists : ℕ → List (List ℕ)) (p first count : ℕ) (c : List ℕ)
       → ((q : ℕ) → q < p → find truth (lists q) ≡ None) → find truth (lists p) ≡ Some c
       → first ≤ p → p < first + count

@@ -149,7 +149,7 @@ front_passes test (p ∷ prefix) (q ∷ x) all h less =
     ∙ front_passes (λ front. test (q ∷ front)) prefix x (fronts_parts test q x all).1 rest
     (sym (before_same q prefix x) ∙ ap (λ r. comes_before (r ∷ prefix) (q ∷ x)) same ∙ less)
 
--- the proper fronts of a prefix with one more position
+-- the proper fronts of a prefix with one more position are those of the prefix, and the prefix
 pub fronts_pushed : (test : List ℕ → Bool) (prefix : List ℕ) (p : ℕ) → list_all test (proper_fronts prefix) ≡ true → test prefix ≡ true → list_all test (proper_fronts (prefix ++ p ∷ [])) ≡ true
 fronts_pushed test [] p all last = and_from (test []) true last refl
 fronts_pushed test (q ∷ prefix) p all last =

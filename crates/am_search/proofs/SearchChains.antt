@@ -45,7 +45,7 @@ has_first ns start some = grind (arith, common_steps)
 first_member : (xs ys : List (List ℕ)) (c : List ℕ) → xs ≡ c ∷ ys → IsIn xs c
 first_member xs ys c e = subst (λ l. IsIn l c) (sym e) (inl refl)
 
--- a start after one of the choices of another begins later than it
+-- a start after one of the choices of another start begins later than that one, if it has choices
 after_later : (ns c : List ℕ) (start : Start) → IsIn (choices_from ns start) c → 0 < length (choices_from ns (After c)) → BeginsLater ns start (After c)
 after_later ns c start i some =
     let here = has_first ns start (member_some (choices_from ns start) c i) in
@@ -99,7 +99,7 @@ later_some ns start next h = omega (arith, ap length (begins_with ns h.next_firs
 
 -- ---- The start behind a page.
 
--- what holds of the start that a page leaves
+-- what holds of the start that follows a page
 pub record GoesOn (ns : List ℕ) (start next : Start) : Type 0 where
   pub is_start : IsStart ns next
   pub later : BeginsLater ns start next

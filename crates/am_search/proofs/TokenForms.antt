@@ -53,7 +53,8 @@ is_fingerprint text h some = grind (arith, common_steps, decode_sized-ok, decode
 
 -- ---- Forms.
 
--- if two joined lists are the same, and their first parts have one length, these are the same
+-- if two joined lists are the same, and their first parts have the same length, these parts are the
+-- same
 fronts : (a b r s : List ℕ) → length a ≡ length b → a ++ r ≡ b ++ s → a ≡ b
 fronts a b r s same e =
     sym (take-append_seam a r) ∙ ap (take (length a)) e ∙ ap (λ n. take n (b ++ s)) same ∙ take-append_seam b s

@@ -19,7 +19,7 @@ abbrev pub stop_of : List ℕ → (List ℕ → Verdict) → Start → Option �
 stop_of sizes verdict start None = None
 stop_of sizes verdict start (Some budget) = slice_get (visited sizes verdict start) budget
 
--- The trailer if a search stops at a prefix, and if it does not stop.
+-- The trailer of a search: `Stopped` if it stops at a prefix, and `End` if it does not stop.
 abbrev pub trailer_at : Option (List ℕ) → Trailer
 trailer_at None = End
 trailer_at (Some prefix) = Stopped prefix
@@ -39,11 +39,13 @@ page_under sizes verdict start limit budget =
     (given_under sizes verdict start budget) limit
 
 -- A budget that is enough for a search to come past the first choice of its start, whatever the
--- verdicts are: more steps than there are labels. Without a budget this always holds.
+-- verdicts are: it allows more prefixes to be judged than there are labels. Without a budget this
+-- always holds.
 abbrev pub IsEnough : List ℕ → Option ℕ → Type 0
 IsEnough sizes budget = IfSome budget (λ n. length sizes < n)
 
--- A page of a search from a start, under any limit of at least 1 and any budget that is enough.
+-- A page of a search from a start, under any limit of at least 1 or without a limit, and under any
+-- budget that is enough or without a budget.
 pub record IsSearchPage (sizes : List ℕ) (verdict : List ℕ → Verdict) (start : Start)
     (page : AnswerPage) : Type 0 where
   pub limit : Option ℕ

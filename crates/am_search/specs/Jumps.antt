@@ -15,9 +15,9 @@ abbrev pub IsOutcome : List ℕ → (List ℕ → Bool) → List ℕ → List �
 IsOutcome sizes truth old new Found = find truth (completions sizes old) ≡ Some new
 IsOutcome sizes truth old new (Refuted labels) = (new ≡ old) × IsConflict sizes truth labels old
 
--- The labels are to blame for the first positions of the next label after a prefix, those below
--- `position`: no whole choice is true that has one of these positions there, and the prefix's
--- positions at the labels.
+-- The labels are to blame for the positions below `position` of the label that follows a prefix: no
+-- whole choice that has one of these positions there, and the prefix's positions at the labels, is
+-- true.
 pub record IsConflictUpTo (sizes : List ℕ) (truth : List ℕ → Bool) (labels : Labels)
     (prefix : List ℕ) (position : ℕ) : Type 0 where
   pub within : (i : ℕ) → IsTrue (has_label labels i) → i < length prefix

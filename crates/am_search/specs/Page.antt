@@ -37,7 +37,7 @@ abbrev pub page_from : List ℕ → (List ℕ → Bool) → Start → Option ℕ
 page_from sizes truth start limit = page_of (answers_from sizes truth start) limit
 
 -- `start_after` is the start of the page that follows a trailer, if there is one. `rest_after`
--- lists the answers that the trailer leaves: the answers from that start on, or none without one.
+-- lists the answers that the trailer leaves: those from that start on, or none without a start.
 abbrev pub start_after : Trailer → Option Start
 start_after End = None
 start_after (Next c) = Some (After c)

@@ -1,4 +1,5 @@
--- Tokens: starts as texts. A page ends with a token, and a later call takes it.
+-- Tokens: starts as texts. A page after which more may follow ends with a token, and a later call
+-- takes it.
 use Rattle.std.specs.Prelude.{◌≡◌, ◌≢◌, ◌⊎◌, ℕ, List, ◌++◌, map, length, codes}
 use Rattle.std.specs.List.{join_with_byte}
 use Rattle.std.specs.Fmt.{decimal}
@@ -17,7 +18,7 @@ full_stop = 46
 abbrev pub positions_text : List ℕ → List ℕ
 positions_text c = join_with_byte full_stop (map decimal c)
 
--- The bytes can be a fingerprint of inputs: there are 16 bytes.
+-- The bytes can be a fingerprint of inputs: there are 16 of them.
 abbrev pub IsFingerprint : List ℕ → Type 0
 IsFingerprint bytes = (length bytes ≡ 16) × IsBytes bytes
 

@@ -17,8 +17,8 @@ abbrev pub if_begins : List ℕ → Option (List ℕ) → Option (List ℕ)
 if_begins prefix None = None
 if_begins prefix (Some c) = if starts_with nat_eq c prefix then Some c else None
 
--- The position that a search first adds to a prefix of `i` positions: the position of the choice
--- along which the prefix lies, or 0 if there is no such choice.
+-- The position that a search first adds to a prefix of `i` positions: if the prefix lies along a
+-- choice, the position that this choice has there, and otherwise 0.
 abbrev pub first_position : Option (List ℕ) → ℕ → ℕ
 first_position None i = 0
 first_position (Some c) i = slice_index c i
@@ -55,7 +55,8 @@ module _ (sizes : List ℕ) (verdict : List ℕ → Verdict) (start : Start) whe
     pub given_next : given ++ at_or_after (Some choice) (completions sizes (take depth choice))
         ≡ given_by sizes verdict start judged
 
-  -- All prefixes have been judged, and all choices have been given.
+  -- All prefixes that the search visits have been judged, and all choices that these give have been
+  -- given.
   pub record IsDone (judged given : List (List ℕ)) : Type 0 where
     pub all : length (visited sizes verdict start) ≤ length judged
     pub given_all : given ≡ given_by sizes verdict start judged

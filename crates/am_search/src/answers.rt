@@ -39,14 +39,18 @@ pub enum State {
 pub struct Answers<'a, J: Judge> {
     judge: &'a J,
     start: Start,
-    // How many prefixes may be judged in all, and how many of these are left.
+    // How many prefixes may be judged in all, and how many of these are left. What is left counts
+    // down. A count that goes up would need a bound to fit in its type, and a search without a
+    // budget has none.
     budget: Option<u64>,
     left: Option<u64>,
     state: State,
     stage: Stage,
-    // The prefix that is judged next, or the choice that is given next.
+    // The prefix that is judged next, or the choice that is given next. The search changes it in
+    // place, because to copy a choice for each verdict would cost more than to judge a short list.
     current: Choice,
-    // The choice at which the start begins, if that choice begins with the current prefix.
+    // The choice at which the start begins, if that choice begins with the current prefix. After
+    // that, every prefix has a completion from the start on, so none is compared with the start.
     along: Option<Choice>,
     judged: Judged,
     given: History<Choice>,
@@ -214,6 +218,7 @@ impl<'a, J: Judge> Iterator for Answers<'a, J> {
             (answers_budget self.new) (answers_judged self.new) (answers_given self.new)) }
     {
         while self.stage == Stage::Judging {
+            // The stage and the prefix stay as they are, so another call returns `None` again.
             if self.left == Some(0) {
                 self.state = State::Stopped(self.current);
                 return None;
@@ -290,8 +295,8 @@ fn one_less(left: Option<u64>) -> Option<u64>
     }
 }
 
-/// The position that the search first adds to a prefix of `i` positions: the position of the choice
-/// along which the prefix lies, or 0 if there is no such choice.
+/// The position that the search first adds to a prefix of `i` positions: if the prefix lies along a
+/// choice, the position that this choice has there, and otherwise 0.
 fn position_along(along: &Option<Choice>, i: usize) -> Position
     requires { IfSome along.now (λ first. i < length first) }
     ensures { result ≡ first_position along.now i }

@@ -26,8 +26,8 @@ pub trait Judge {
         requires { i < length (sizes self.now) }
         ensures size { slice_get (sizes self.now) i ≡ Some result };
 
-    /// Returns what is known of the completions of a prefix: `Yes` if all are true, `No` if none
-    /// is.
+    /// Returns what is known of the completions of a prefix: `Yes` means that all are true, and
+    /// `No` that none is.
     ///
     /// The prefix must be one that the sizes admit. At a whole choice, which is its only
     /// completion, the verdict is never `Open`.
@@ -35,5 +35,8 @@ pub trait Judge {
         requires { IsTrue (admits (sizes self.now) prefix.now) }
         ensures verdict { result ≡ verdict self.now prefix.now };
 
+    // The law holds for every value of the type, so a search has it without a call. In a law, a
+    // type stands for what contracts can see of it, without its invariant. So a judge keeps what it
+    // knows of itself in a ghost field, as `Plan` of `am_plans` does.
     ghost laws: { (judge : Self) → IsJudge (sizes judge) (truth judge) (verdict judge) };
 }

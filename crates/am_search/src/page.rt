@@ -1,8 +1,8 @@
 /// Which part of the answers is wanted.
 #[derive(Clone, Copy)]
 pub struct Page<'a> {
-    /// The token at the end of the page before, where this page begins. With `None`, it begins at
-    /// the first choice.
+    /// The token at the end of the page before, where this page begins. With `None`, this page
+    /// begins at the first choice.
     pub after: Option<&'a str>,
     /// The most lines to write, at least 1, without the trailer. `None` is no limit.
     pub limit: Option<u64>,

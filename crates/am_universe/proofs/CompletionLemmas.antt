@@ -16,7 +16,7 @@ below sizes [] = choices sizes
 below [] (p ∷ prefix) = []
 below (size ∷ sizes) (p ∷ prefix) = map (λ c. p ∷ c) (below sizes prefix)
 
--- ---- What stands below a prefix are its completions.
+-- ---- The choices below a prefix are its completions.
 
 -- The choices of a list that begin with a prefix.
 abbrev beginning : List ℕ → List (List ℕ) → List (List ℕ)
@@ -75,7 +75,7 @@ completions_are_below (size ∷ sizes) (p ∷ prefix) a =
     let high : p < 0 + size = grind (arith, nat_tests, parts.0) in
     at_its_own p 0 size prefix (choices sizes) (omega arith) high ∙ ap (map (λ c. p ∷ c)) (completions_are_below sizes prefix parts.1)
 
--- ---- What stands below a prefix, by the next position.
+-- ---- The choices below a prefix, by the next position.
 
 -- Below a whole choice there is only the choice itself.
 below_whole : (sizes c : List ℕ) → length c ≡ length sizes → below sizes c ≡ c ∷ []

@@ -83,7 +83,7 @@ label_set_of-more u c i l p h e f =
     let new = none_of_others (take i u) (take i c) l.name (AreOthers-before u i l h.distinct e) in
     rw add-one (ap from_entries (label_pairs-more u c i l p e f) ∙ from_pairs-push (label_pairs (take i u) (take i c)) l.name (value_at l p) new (value_at-text u i l p h e))
 
--- ---- The label at i, of which a choice has the position p, and the value there.
+-- ---- The label at i, for which a choice has the position p, and the value there.
 
 pub record Chosen (u : List Label) (c : List ℕ) (i p : ℕ) (value : Option (List ℕ)) : Type 0 where
   pub label : Label

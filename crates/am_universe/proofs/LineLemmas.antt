@@ -18,7 +18,7 @@ use Rattle.am_universe.proofs.LabelSetLemmas.{AreOthers-after, find_first, same_
 use Rattle.am_universe.proofs.SetTextLemmas.{Pairs, joined, joined-cons, following}
 use Rattle.am_universe.proofs.LabelValueLemmas.{value_in}
 
--- ---- What stands between quotes, and what follows.
+-- ---- The text between quotes, and what follows.
 
 abbrev Split : Type 0
 Split = List ℕ × List ℕ

@@ -28,7 +28,7 @@ left_at (y ∷ xs) (suc i) x e =
 
 -- ---- Numbered.
 
--- A number and the item that it counts.
+-- A number and the item that has it, if the items are numbered from `from` on.
 abbrev pub IsNumbered : {X : Type 0} → ℕ → List X → ℕ × X → Type 0
 IsNumbered from xs p = (k : ℕ) × (p.0 ≡ from + k) × (slice_get xs k ≡ Some p.1)
 

@@ -16,7 +16,7 @@ Pairs = List (List ℕ × List ℕ)
 abbrev pub joined : Pairs → List ℕ
 joined pairs = join_with_byte 44 (map pair_text pairs)
 
--- The separator between these pairs and the next one; empty if there are none.
+-- The separator between these pairs and the next one; empty if there are no pairs.
 abbrev pub separator : Pairs → List ℕ
 separator [] = []
 separator (p ∷ ps) = 44 ∷ []
@@ -78,7 +78,7 @@ pair_among u c i p name text whole k is named valued =
     label_pairs-split u c (i + 1) whole ∙ ap (λ ps. ps ++ later) (next_pair u c i p name text whole k is named valued)
     ∙ append_assoc (label_pairs (take i u) (take i c)) ((name, text) ∷ []) later
 
--- ---- The text in braces: what is written, the next pair behind its separator, and the rest.
+-- ---- The text in braces: what is written, the next pair after its separator, and the rest.
 
 pub set_through : (pairs ps : Pairs) (p : List ℕ × List ℕ) (qs : Pairs) (s : List ℕ) → pairs ≡ ps ++ p ∷ qs → s ≡ separator ps
     → (123 ∷ joined ps) ++ ((s ++ pair_text p) ++ (following qs ++ 125 ∷ [])) ≡ pairs_text pairs

@@ -21,7 +21,7 @@ pub IsUniverse-empty : IsUniverse []
 unfolding IsDistinct
 IsUniverse-empty = record { at_most = lit≤ tt; labels = tt; distinct = tt }
 
--- ---- Where a name stands.
+-- ---- The position of a name.
 
 -- What `Iterator::position` promises about its result for a name.
 abbrev pub IsFirstOfName : List Label → List ℕ → Option ℕ → Type 0

@@ -42,7 +42,7 @@ pub more_taken : (start now later text : List ℕ) (i n : ℕ) → now ≡ start
 more_taken start now later text i n before more =
     more ∙ ap (λ t. now ++ take n t) (rest_from i text) ∙ ap (λ t. t ++ take n (drop i text)) before ∙ append_assoc start (take i text) (take n (drop i text)) ∙ ap (λ t. start ++ t) (sym (take-add i n text))
 
--- ---- A proper prefix of a text, where the text goes on or has been begun.
+-- ---- A proper prefix of a text, if the text goes on after it or was begun before it.
 
 pub dropped_pieces : (a b text : List ℕ) → drop (length (a ++ b)) text ≡ drop (length b) (drop (length a) text)
 dropped_pieces a b text = simp (length-append, drop-drop)
@@ -96,7 +96,7 @@ around_read xs i d h = (refl, sym (take-append-drop (i + 1) xs) ∙ ap (λ t. t 
 
 pub ruleset steps = (append_assoc, append-nil, flat_map-append, take_all, take_at_read, around_read, more_taken, taken_in_part, drop-append_seam, dropped_pieces, cut_piece, cut_behind, cut_off)
 
--- ---- One write behind another. Calls that write a, b and c in turn write a text that is defined
+-- ---- One write after another. Calls that write a, b and c in turn write a text that is defined
 -- as `a ++ (b ++ c)`: `first ⟩ second ⟩ third`, or, if the second failed,
 -- `first ⟩ fails _ answer second`.
 

@@ -1,4 +1,4 @@
--- How positions are stored: in the first of `MAX_POSITIONS` cells. The other cells are 0.
+-- How positions are stored: at the front of `MAX_POSITIONS` cells. The other cells are 0.
 use Rattle.std.specs.Prelude.{◌≡◌, ℕ, ◌≤◌, ◌-◌, List, ◌++◌, length, take, drop, replicate}
 use Rattle.std.proofs.Common.{arith, length-take-le, take-append-drop}
 use Rattle.am_universe.specs.declared.positions.Positions.TheInside.{Inside}
@@ -13,7 +13,8 @@ abbrev pub stored_form : List ℕ → Inside
 stored_form c =
     record { positions = c ++ replicate (MAX_POSITIONS - length c) 0; len = length c }
 
--- There are no more positions than cells, and the cells after them are 0.
+-- There are `MAX_POSITIONS` cells, and no more positions than that. The cells after the positions
+-- are 0.
 pub record IsStored (a : Inside) : Type 0 where
   pub cells : length a.positions ≡ MAX_POSITIONS
   pub within : a.len ≤ MAX_POSITIONS

@@ -21,8 +21,9 @@ pub record WroteInPart {S : Type 0} (taken : S → List ℕ) (failures : S → �
   pub part : GrowsByProperPrefix (taken before) (taken after) text
   pub one_failed : failures after ≡ failures before + 1
 
--- A call wrote the text. If it returned `Ok`, it wrote all of it, and no take failed. If it
--- returned `Err`, which is then `Kind::Write`, it wrote a proper prefix, and one take failed.
+-- A call tried to write the text. If it returned `Ok`, it wrote all of it, and no take failed. If
+-- it returned `Err`, which is then `Kind::Write`, it wrote a proper prefix, and exactly one take
+-- failed.
 -- Source: own choice.
 -- Example: a call that is to write `{}` and returns `Err` has written nothing or `{`.
 pub record Writes {S T : Type 0} (taken : S → List ℕ) (failures : S → ℕ) (before after : S)

@@ -1,4 +1,4 @@
--- What a call returns that ends with a write. (This project's own.)
+-- What a call that ends with a write returns. (This project's own.)
 use Rattle.std.specs.Prelude.{◌≡◌, Result, Ok, Err}
 use Rattle.std.specs.Result.{IsErrAnd}
 use Rattle.am_universe.specs.declared.fault.Fault.{Fault}

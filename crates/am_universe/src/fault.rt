@@ -12,6 +12,9 @@ use thiserror::Error;
 /// `pointer` is a JSON Pointer (RFC 6901), which is empty if no part of a file is meant. A fault of
 /// the kind `Memory` always has the place `Memory`, and one of the kind `Write` the place `Output`,
 /// both with the empty pointer.
+///
+/// Users see the line that `write_fault` makes. The derived texts are for debugging, and no
+/// contract speaks of them.
 #[derive(Debug, Drop, Error)]
 #[error("{kind:?} at {place:?} {pointer}")]
 pub struct Fault {
@@ -63,6 +66,8 @@ impl Fault {
     }
 
     /// The fault that memory ran out. Takes no memory.
+    ///
+    /// There is no `From<AllocError>`, because the pointer is a `String`, which needs an allocator.
     pub fn memory(alloc: Global) -> Fault
         ensures kind { result.kind ≡ kinds.Memory }
     {

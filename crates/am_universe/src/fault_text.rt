@@ -81,8 +81,8 @@ pub fn status(fault: &Fault) -> u8
 
 /// Writes the line for a fault to `err`, and returns the exit status.
 ///
-/// The line is one write if there is memory for it and `err` takes it whole. A failure to write it
-/// is ignored.
+/// The line is one write if there is memory for it and `err` takes it whole. So the lines of
+/// several runs that share a standard error do not mix. A failure to write it is ignored.
 pub fn report<E: Write>(alloc: Global, fault: &Fault, err: &mut E) -> u8
     ensures status { result ≡ status_of fault.now.kind }
 {

@@ -93,7 +93,7 @@ fn add_within_room(line: &mut Vec<u8>, bytes: &[u8])
     let _ = line.extend_from_slice(bytes);
 }
 
-/// Replaces the comma of the first piece by the opening brace; adds the brace to an empty line.
+/// Replaces the comma of the first piece with the opening brace; adds the brace to an empty line.
 fn open_brace(line: &mut Vec<u8>)
     requires { 0 < vec_capacity line.old }
     ensures items { line.new.items ≡ left_brace ∷ drop 1 line.old.items }

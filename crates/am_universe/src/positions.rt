@@ -9,6 +9,9 @@ use std::marker::Model;
 pub type Position = u16;
 
 /// A list of at most [`MAX_POSITIONS`] positions.
+///
+/// A choice is such a list, and so is a path of `am_config`. So how positions are stored is proved
+/// once. The price is that a path takes twice the room that its steps need.
 #[derive(Clone, Copy, Debug)]
 pub struct Positions {
     positions: [Position; MAX_POSITIONS],

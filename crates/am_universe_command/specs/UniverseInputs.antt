@@ -29,6 +29,7 @@ SaysUniverseIfAny None s = s ≡ record { labels = []; impossible = [] }
 SaysUniverseIfAny (Some bytes) s = FileSaysUniverse bytes s
 
 -- The texts of the impossible lists of a universe file, if there is one, are these, word for word.
+-- Without a file there are none.
 abbrev pub HasListsIfAny : Option (List ℕ) → List (List ℕ) → Type 0
 HasListsIfAny None lists = lists ≡ []
 HasListsIfAny (Some bytes) lists = FileHasImpossibleTexts bytes lists

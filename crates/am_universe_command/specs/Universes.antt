@@ -113,8 +113,8 @@ origin_place (origin_is.Question position) = places.Question
 origin_place (origin_is.Impossible position) = places.Universe
 
 -- No universe is made, since there is no room for the labels that are asked about: one of them
--- needs more values than a label may have, or more labels have to be declared than a universe may
--- have.
+-- needs more values than a label may have, or, together with those of the space, more labels have
+-- to be declared than a universe may have.
 -- Source: own choice.
 -- Example: this is so if 65 routes ask about 65 labels, each with one matcher `=`.
 pub record NoRoomFor (inputs : UniverseInputs) (form : UniverseForm) (r : Refusal) : Type 0 where
@@ -129,18 +129,18 @@ pub record NoRoomFor (inputs : UniverseInputs) (form : UniverseForm) (r : Refusa
 -- Some universe keeps the labels of a space and covers each label that is asked about, except those
 -- at some positions.
 -- Source: own choice.
--- Example: if 65 labels are asked about, and one of them is at such a position, one may.
+-- Example: if 65 labels are asked about, and one of them is at such a position, there may be one.
 abbrev pub HaveRoomBut : Alphabet → Space → List AskedLabel → List ℕ → Type 0
 HaveRoomBut a s asked unproved =
     (u : List Label) × IsUniverse u × KeepsLabels s.labels u
     × CoversEachBut a s.impossible u asked unproved
 
--- No universe is made, since some labels are unproved, though there is room for the others. The
--- first matcher on the first of these labels stands in this file, and the refusal points to what it
--- stands in.
+-- No universe is made, since some labels are unproved and the universe may not be open, though
+-- there is room for the others. The refusal is at the place of the first matcher on the first of
+-- these labels, and points to what that matcher stands in.
 -- Source: own choice.
--- Example: if the first child of the top-level route has `team=~"\bdb"`, and no matcher before it
--- is on `team`, the pointer is `/route/routes/0`.
+-- Example: over Unicode, if the first child of the top-level route has `team=~"\bdb"`, and no
+-- matcher before it is on `team`, the pointer is `/route/routes/0`.
 pub record UnprovedFor (inputs : UniverseInputs) (form : UniverseForm) (place : Place)
     (r : Refusal) : Type 0 where
   pub space : Space
@@ -178,9 +178,9 @@ pub record TooLongFor (inputs : UniverseInputs) (form : UniverseForm) (r : Refus
   pub long : MAX_FILE_BYTES < length (universe_text labels texts)
   pub refusal : r ≡ refusal_here kinds.Limit
 
--- The stages of making a universe: there is room, no label is unproved, whose fault may be at any
--- of the files or at a question, and the file is not too long; and what `universe` owes, whose
--- stages are those of the inputs and then these.
+-- The stages of making a universe: there is room, no label is unproved, and the file is not too
+-- long. The fault of an unproved label may be at the configuration, the silences, a question or the
+-- universe file. And what `universe` owes, whose stages are those of the inputs and then these.
 -- Source: own choice.
 -- Example: if the file of alerts is `{}` and a label is unproved, the first fault is the `shape` of
 -- the alerts. If a label is unproved and there is no room for the others, it is the `limit`.
@@ -229,8 +229,9 @@ alerts_if_any has_alerts w = if has_alerts then Some w.alerts else None
 
 -- The text says what a space lacks for a world and for questions, for alerts whose texts are over
 -- an alphabet. It has the state of each label that the space declares, and then of each other label
--- that is asked about; if there are alerts, whether none of them has the label; and whether all
--- label sets are impossible. What it says is true. If nothing is missing, the space is complete.
+-- that is asked about; if a file of alerts is given, whether no alert has the label; and whether
+-- all label sets are impossible. What it says is true. If nothing is missing, the space is
+-- complete.
 -- Source: own choice.
 -- Example: for a space with just `team`, whose values are `db` and `web`, and a world whose only
 -- matcher is `team="db"`, it says `team complete 2`, `2 label sets` and `# complete`.

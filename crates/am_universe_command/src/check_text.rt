@@ -16,8 +16,9 @@ use am_report_texts::push_quoted;
 use am_universe::Universe;
 use std::alloc::{AllocError, Global};
 
-/// Says what a universe lacks: a line for each label, the number of its label sets and whether all
-/// of them are impossible, and whether anything is missing. Fails only if memory runs out.
+/// Returns what a universe lacks, as a text: a line for each label, the number of its label sets
+/// and whether all of them are impossible, and whether nothing is missing. Fails only if memory
+/// runs out.
 pub(crate) fn text_of_check(
     alloc: Global,
     universe: &Universe,

@@ -14,7 +14,7 @@ use Rattle.am_unseen.specs.Unseen.{is_missing, most_similar, is_similar, is_near
 use Rattle.am_unseen.specs.Search.{with_text, each_once}
 use Rattle.am_unseen.proofs.Found.{HaveSame, one_test, one_found, find_same, all_same}
 
--- ---- One text more.
+-- ---- One more text.
 
 -- a text that is there
 there_already : (texts : List (List ℕ)) (text : List ℕ) → list_any (same_text text) texts ≡ true

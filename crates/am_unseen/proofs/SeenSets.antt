@@ -50,7 +50,7 @@ said_of_all alerts origin m texts same =
     })
     else None)
 
--- ---- One set more.
+-- ---- One more set.
 
 module _ {S : Type 0} (alerts : List LabelMap)
     (before after : BTreeMap (Bor (List ℕ)) (IndexSet (Bor (List ℕ)) S)) where

@@ -15,7 +15,7 @@ use Rattle.am_complete.specs.FoundState.{begins}
 use Rattle.am_unseen.specs.Unseen.{seen_values, is_missing}
 use Rattle.am_unseen.specs.Search.{with_text, each_once}
 
--- ---- One alert more.
+-- ---- One more alert.
 
 one_more : {X : Type 0} (xs : List X) (i : ℕ) (x : X) → slice_get xs i ≡ Some x
     → take (i + 1) xs ≡ take i xs ++ x ∷ []

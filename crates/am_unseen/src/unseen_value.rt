@@ -1,4 +1,5 @@
-//! Unseen values, as they are kept in memory.
+//! Unseen values, as they are kept in memory. The `impl Model` has imports of its own, so that no
+//! import goes in a circle.
 ghost use Rattle.std.specs.Prelude.{◌≡◌, option_map};
 
 use am_complete::Origin;

@@ -1,4 +1,8 @@
 //! The unseen values of a world, in the order of its files.
+//!
+//! Only values of `=` may be unseen, because a pattern is meant for values that you do not know.
+//! Labels that no alert has are ignored. Otherwise a file of a quiet hour would give a line for
+//! each matcher.
 
 ghost use Rattle.std.specs.Prelude.{◌≡◌, fold, IfOk, OnOk};
 ghost use Rattle.am_unseen.specs.Unseen.{unseen_values, placed_in_silences_left};

@@ -9,6 +9,6 @@ invariant-loop-choice l =
     AreSameLiterals l.fn.candidates l.candidates
     × ((n : ℕ) → AreNamedBefore n l.fn.candidates → AreNamedBefore n l.candidates)
 
--- ever fewer literals are not named
+-- the number of literals that are not named goes down
 abbrev pub decreases-loop-choice : goal.decreases-loop-choice
 decreases-loop-choice l = count_unnamed l.candidates
