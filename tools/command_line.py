@@ -1,6 +1,6 @@
-"""The commands and options of amcover, for the scripts beside this file. They are read from the two
-sources that define them: crates/am_command_line/src/command_line.rt and help.rt. A script ends if a
-source has another form than the one that is read here.
+"""The commands and options of amcover, for the scripts beside this file. They are read from the
+sources that define them, in crates/am_command_line/src: table.rt, help.rt, and the version in
+commands.rt. A script ends if a source has another form than the one that is read here.
 """
 import re
 import sys
@@ -9,32 +9,35 @@ from documents import ROOT
 
 FOLDER = ROOT / "crates/am_command_line/src"
 TEXT = r'"((?:[^"\\]|\\.)*)"'
-FUNCTION = re.compile(r"^fn (\w+)<'a>\([^)]*\) -> [^{]*\{\n(.*?)\n\}", re.M | re.S)
-METHODS = "new long value_name value_parser num_args action required conflicts_with help"
+ARGUMENT = re.compile(
+    rf"^const (\w+): Argument = Argument {{\n    id: {TEXT},\n    form: Form::(\w+)\((.*)\),\n"
+    rf"    help: {TEXT},\n}};$",
+    re.M,
+)
+COMMAND = re.compile(
+    rf"CommandRow {{\s+name: {TEXT},\s+about: (\w+),\s+help: (\w+),\s+takes: &\[(.*?)\],\s+}}",
+    re.S,
+)
+TAKEN = re.compile(rf"\((\w+), Need::(?:(Optional)|(Required)|Without\({TEXT}\))\)")
 
 
 class Argument:
     """An option or, if it has no `name`, a positional argument."""
 
-    def __init__(self, chain):
-        unknown = set(re.findall(r"\.(\w+)\(", without_texts(chain))) - set(METHODS.split())
-        if unknown:
-            stop(f"a call of an argument that is not read here: {', '.join(sorted(unknown))}")
-        self.id = re.match(rf"Arg::new\(alloc, {TEXT}\)", chain)[1]
-        self.name = self.text_of(chain, "long")
-        self.value = self.text_of(chain, "value_name")
-        self.help = self.text_of(chain, "help")
-        self.is_required = ".required(true)" in chain
-        self.is_repeated = "ArgAction::Append" in chain
-        self.conflicts = re.findall(rf"\.conflicts_with\({TEXT}\)", chain)
-        self.excludes = set()
-        if not self.help or not (self.value or "ArgAction::SetTrue" in chain):
-            stop(f"the argument {self.id} has no help, or no value")
-
-    @staticmethod
-    def text_of(chain, method):
-        found = re.search(rf"\.{method}\(\s*{TEXT},?\s*\)", chain)
-        return meant(found[1]) if found else None
+    def __init__(self, it, form, words, help_text):
+        texts = [meant(word) for word in re.findall(TEXT, words)]
+        forms = {
+            "Flag": lambda name: (name, None),
+            "Value": lambda name, value: (name, value),
+            "Values": lambda name, value: (name, value),
+            "Number": lambda name: (name, "N"),
+            "Word": lambda value: (None, value),
+            "Words": lambda value: (None, value),
+        }
+        self.id, self.help = it, meant(help_text)
+        self.name, self.value = forms[form](*texts)
+        self.is_repeated = form in ("Values", "Words")
+        self.is_required, self.conflicts, self.excludes = False, [], set()
 
     def takes_file(self):
         return bool(self.name) and self.value in ("FILE", "UNIVERSE")
@@ -58,36 +61,32 @@ class Program:
 
     def __init__(self):
         texts = texts_of((FOLDER / "help.rt").read_text(encoding="utf-8"))
-        source = (FOLDER / "command_line.rt").read_text(encoding="utf-8")
-        self.functions = dict(FUNCTION.findall(source))
+        table = (FOLDER / "table.rt").read_text(encoding="utf-8")
+        source = (FOLDER / "commands.rt").read_text(encoding="utf-8")
         self.version = re.search(rf"\.version\({TEXT}\)", source)[1]
-        self.about, self.example = texts["ABOUT"], texts["EXAMPLE"]
-        self.commands = []
-        body = self.functions["command"]
-        for function, handed in re.findall(r"\.subcommand\((\w+)\(alloc((?:, [^)]*)?)\)", body):
-            name, about, help_text = handed[2:].split(", ") if handed else self.named(function)
-            self.commands.append(
-                Command(name.strip('"'), texts[about], texts[help_text], self.arguments(function))
-            )
-        if len(self.commands) != body.count(".subcommand("):
-            stop("a command is not read")
+        self.arguments = {name: parts for name, *parts in ARGUMENT.findall(table)}
+        if len(self.arguments) != table.count(": Argument ="):
+            stop("an argument of table.rt is not read")
+        rows = COMMAND.findall(table)
+        if len(rows) != table.count(' name: "'):
+            stop("a command of table.rt is not read")
+        (_, about, example, _), *rows = rows
+        self.about, self.example = texts[about], texts[example]
+        self.commands = [
+            Command(name, texts[about], texts[help_text], self.taken(takes))
+            for name, about, help_text, takes in rows
+        ]
 
-    def named(self, function):
-        """Returns the name of a command, and the names of the constants with its texts."""
-        body = self.functions[function]
-        calls = rf"Command::new\(alloc, {TEXT}\)", r"\.about\((\w+)\)", r"\.after_help\((\w+)\)"
-        return [re.search(it, body)[1] for it in calls]
-
-    def arguments(self, function):
-        body = self.functions[function]
-        local = dict(re.findall(r"let (\w+) = (Arg::new.*?);\n", body, re.S))
+    def taken(self, takes):
+        """Returns the arguments of a row of the table."""
         found = []
-        called_as = r"\.arg\((\w+)(\(alloc\))?((?:\.\w+\(\w+\))*)\)"
-        for name, called, behind in re.findall(called_as, body):
-            chain = self.functions[name].strip() if called else local[name]
-            found.append(Argument(chain + behind))
-        if len(found) != body.count(".arg("):
-            stop(f"an argument of {function} is not read")
+        for name, _, required, other in TAKEN.findall(takes):
+            argument = Argument(*self.arguments[name])
+            argument.is_required = bool(required)
+            argument.conflicts = [other] if other else []
+            found.append(argument)
+        if len(found) != takes.count("Need::"):
+            stop("what a command takes is not read")
         return found
 
 
@@ -103,10 +102,6 @@ def meant(text):
     """Returns what the text between the quotes of a literal stands for."""
     marks = {"\n": "", "n": "\n", '"': '"', "\\": "\\"}
     return re.sub(r"\\(\n|.)((?<=\n)\s*)?", lambda it: marks[it[1]], text)
-
-
-def without_texts(chain):
-    return re.sub(TEXT, '""', chain)
 
 
 def stop(why):

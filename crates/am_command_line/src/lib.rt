@@ -7,8 +7,10 @@
 #![tactic(auto)]
 
 mod command_line;
+mod commands;
 mod help;
 mod steps;
+mod table;
 
 pub use command_line::{CommandLine, InputFiles, Request, parse_command_line};
 pub use steps::{MIN_STEPS, Steps};
