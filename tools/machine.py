@@ -1,5 +1,5 @@
-"""What the tools that run rt share: how many processors and how much memory they may use, counted
-as rt counts them, and how they end at a signal.
+"""What the scripts that run rt share: how many processors and how much memory they may use, counted
+as rt counts them, how they end at a signal, and what `rt ci` says of crates that are not proved.
 """
 import os
 import re
@@ -7,6 +7,8 @@ import signal
 import sys
 
 CGROUP = "/sys/fs/cgroup"
+# The line for a crate whose library failed is longer.
+NOT_PROVED = re.compile(r"rt: (.+) NOT PROVED\n?")
 
 
 def number_in(file, pattern=r"(\d+)"):
@@ -58,3 +60,22 @@ def end_at_signals():
     for it in (signal.SIGHUP, signal.SIGINT, signal.SIGQUIT, signal.SIGTERM):
         if signal.getsignal(it) is not signal.SIG_IGN:
             signal.signal(it, lambda number, _: sys.exit(128 + number))
+
+
+class Failures:
+    """How the check of each crate ended that was not proved, in at most so many lines."""
+
+    def __init__(self, most):
+        self.most, self.check, self.told = most, [], []
+
+    def read(self, line):
+        """Takes the next line of `rt ci`."""
+        if line.startswith("== "):
+            self.check = []
+        # These are many, and none of them says what failed.
+        if not line.endswith(": proved\n") and not line.startswith("statements "):
+            self.check.append(line)
+        found = NOT_PROVED.fullmatch(line)
+        if found:
+            self.told.append(f"== {found[1]} NOT PROVED: its check ended thus\n")
+            self.told += self.check[-self.most :]
