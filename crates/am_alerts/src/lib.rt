@@ -9,6 +9,8 @@
 mod fates;
 mod truth;
 
+pub use truth::is_true_of;
+
 // The alerts of which a question is true.
 mod finding;
 

@@ -8,11 +8,27 @@ ghost use Rattle.am_eval.specs.Question.{has_property, reaches, satisfies};
 ghost use Rattle.am_eval.specs.World.{World};
 ghost use Rattle.am_alerts.specs.Fates.{IsFate};
 
-use crate::fates::Fate;
+use crate::fates::{Fate, fate_of};
 use am_config::Path;
 use am_eval::{Property, Question, Reach, World};
 use am_universe::LabelSet;
 use std::alloc::{AllocError, Global};
+
+/// Returns whether a question is true of the alert with these labels, in a world. The routes,
+/// receivers, silences and inhibition rules of the alert are found for it alone. Fails only if
+/// memory runs out.
+pub fn is_true_of(
+    alloc: Global,
+    world: &World,
+    question: &Question,
+    set: &LabelSet,
+) -> Result<bool, AllocError>
+    ensures truth { IfOk result (λ truth.
+        truth ≡ satisfies world.now (question_view question.now) set.now) }
+{
+    let fate = fate_of(alloc, world, set)?;
+    satisfies(alloc, world, question, set, &fate)
+}
 
 /// Whether a question is true of an alert with these labels and this fate. Fails only if memory
 /// runs out.

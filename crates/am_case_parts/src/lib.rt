@@ -1,25 +1,23 @@
-//! The calls of cases to the parts of the program: readers, matchers, silences, judges and
-//! searches.
+//! The parts of `amcover` that tables of cases call, and what each gives as a text.
 //!
-//! [`PartCall`] is a call that a table names, and what it gives is a text. Nothing here runs a
-//! command, so it is proved beside the crates that do.
+//! [`call`] has the list of the parts. They show what no command shows: how a text is read, and how
+//! a search goes.
 #![tactic(auto)]
 
-// What is read.
-mod alerts;
-mod configs;
-mod faults;
-mod matchers;
-mod silences;
-mod worlds;
+// What a case names, and what it gives, as a text.
+mod asked;
+mod texts;
 
-// What is searched, and by which judge.
+pub use asked::digits_of_command;
+
+// The parts.
 mod classes;
-mod counted;
-mod judges;
-mod starts;
+mod matchers;
+mod readers;
+mod search;
+mod whole;
 
-// What a table calls.
-mod part_call;
+// Their list.
+mod part;
 
-pub use part_call::PartCall;
+pub use part::call;

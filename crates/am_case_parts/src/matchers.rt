@@ -1,19 +1,20 @@
-//! Matchers, label sets and rows, as the libraries read and compute them.
+//! Matchers, as they are read, and what they match.
 
 ghost use Rattle.std.specs.Prelude.{◌≡◌, Some, IfSome, length, slice_get};
 ghost use Rattle.am_universe.specs.Universe.{sizes};
 
-use am_case_files::{Problem, split_at_first, split_at_last, utf8};
-use am_case_texts::{Refusal, set_behind, told};
+use crate::asked::read_file;
+use crate::texts::{Refusal, begun};
 use am_labels::{Matcher, Matchers, Op, Row, parse_matchers, parse_set};
 use am_list_files::read_universe;
 use am_universe::{Kind, Out, Universe, put_str, write_text};
-use std::alloc::Global;
+use std::alloc::{AllocError, Global};
+use std::rt::Files;
 
 /// Returns the list of matchers that a text spells.
 pub fn of_matchers(alloc: Global, text: &str) -> Result<Vec<u8>, Refusal> {
     let list = parse_matchers(alloc, text)?;
-    let mut out = Out::new(told(alloc, "ok: ")?);
+    let mut out = begun(alloc, "ok: ")?;
     write_matchers(&list, &mut out)?;
     Ok(out.into_inner())
 }
@@ -36,53 +37,26 @@ fn write_matcher(matcher: &Matcher, out: &mut Out<Vec<u8>>) -> Result<(), Kind> 
     write_text(out, matcher.value())
 }
 
-/// Returns the matcher of a name, an operator and a value, separated by blanks.
-pub fn of_matcher(alloc: Global, text: &[u8]) -> Result<Vec<u8>, Refusal> {
-    if let Some((name, rest)) = split_at_first(text, b" ")
-        && let Some((operator, value)) = split_at_first(rest, b" ")
-        && let Some(op) = operator_named(operator)
-    {
-        let name = String::from_str(alloc, utf8(alloc, name)?)?;
-        let value = String::from_str(alloc, utf8(alloc, value)?)?;
-        let matcher = Matcher::new(alloc, name, op, value)?;
-        let mut out = Out::new(told(alloc, "ok: ")?);
-        write_matcher(&matcher, &mut out)?;
-        return Ok(out.into_inner());
-    }
-    Err(Problem::about(alloc, "a name, an operator and a value are wanted", text).into())
-}
-
-fn operator_named(text: &[u8]) -> Option<Op> {
-    for op in Op::ALL {
-        if op.text().as_bytes() == text {
-            return Some(op);
-        }
-    }
-    None
-}
-
-/// Returns the label set that a text spells.
-pub fn of_set(alloc: Global, text: &str) -> Result<Vec<u8>, Refusal> {
-    let set = parse_set(alloc, text)?;
-    Ok(set_behind(alloc, "ok: ", &set)?)
-}
-
-/// Returns `ok` if a text is accepted as a pattern.
-pub fn of_pattern(alloc: Global, text: &str) -> Result<Vec<u8>, Refusal> {
-    let name = String::from_str(alloc, "a")?;
-    let value = String::from_str(alloc, text)?;
-    let _ = Matcher::new(alloc, name, Op::Matches, value)?;
-    Ok(told(alloc, "ok")?)
-}
-
-/// Returns whether a list of matchers matches a label set. The text has ` on ` between them.
-pub fn of_match(alloc: Global, text: &[u8]) -> Result<Vec<u8>, Refusal> {
-    let Some((list, set)) = split_at_last(text, b" on ") else {
-        return Err(Problem::said(alloc, "a list, ` on ` and a label set are wanted").into());
+/// Returns the matcher of a name, an operator and a value.
+pub fn of_matcher(alloc: Global, name: &str, op: &str, value: &str) -> Result<Vec<u8>, Refusal> {
+    let Some(op) = Op::ALL.iter().find(|it| it.text() == op) else {
+        return Err(Refusal::wrong(alloc, "a name, an operator and a value are wanted"));
     };
-    let list = parse_matchers(alloc, utf8(alloc, list)?)?;
-    let set = parse_set(alloc, utf8(alloc, set)?)?;
-    Ok(told(alloc, yes_or_no(list.matches(alloc, &set)?))?)
+    let (name, value) = (
+        String::from_str(alloc, name)?,
+        String::from_str(alloc, value)?,
+    );
+    let matcher = Matcher::new(alloc, name, *op, value)?;
+    let mut out = begun(alloc, "ok: ")?;
+    write_matcher(&matcher, &mut out)?;
+    Ok(out.into_inner())
+}
+
+/// Returns whether a list of matchers matches a label set.
+pub fn of_match(alloc: Global, list: &str, set: &str) -> Result<Vec<u8>, Refusal> {
+    let (list, set) = (parse_matchers(alloc, list)?, parse_set(alloc, set)?);
+    let words = yes_or_no(list.matches(alloc, &set)?);
+    Ok(Vec::from_slice(alloc, words.as_bytes())?)
 }
 
 fn yes_or_no(truth: bool) -> &'static str {
@@ -90,17 +64,22 @@ fn yes_or_no(truth: bool) -> &'static str {
 }
 
 /// Returns the row of one matcher over a universe: its truth on each value of its label.
-pub fn of_row(alloc: Global, over: &[u8], text: &str) -> Result<Vec<u8>, Refusal> {
-    let space = read_universe(alloc, over)?;
+pub fn of_row<R: Files + AllocGlobal>(
+    files: &R,
+    universe: &str,
+    text: &str,
+) -> Result<Vec<u8>, Refusal> {
+    let alloc = files.alloc();
+    let space = read_universe(alloc, read_file(files, universe)?.as_slice())?;
     let list = parse_matchers(alloc, text)?;
     if list.len() != 1 {
-        return Err(Problem::said(alloc, "one matcher is wanted").into());
+        return Err(Refusal::wrong(alloc, "one matcher is wanted"));
     }
     let row = list.get(0).row(alloc, space.universe())?;
     Ok(row_text(alloc, space.universe(), &row)?)
 }
 
-fn row_text(alloc: Global, universe: &Universe, row: &Row) -> Result<Vec<u8>, Problem>
+fn row_text(alloc: Global, universe: &Universe, row: &Row) -> Result<Vec<u8>, AllocError>
     requires { IfSome row.now.label
         (λ i. slice_get (sizes universe.now) i ≡ Some (length row.now.truths)) }
 {

@@ -1,10 +1,22 @@
 //! Commands: a command line, and what its run must write and return.
 
-use crate::expected::{Wanted, check_count, check_status, check_stream};
-use am_case_files::{
-    Item, Line, Manner, Named, Problem, Stop, Writer, filled, number, utf8, words,
-};
+use crate::inserts::{Named, filled};
+use crate::lines::{Item, Line, number, number_between, split_at_first, utf8};
+use crate::problem::Problem;
+use crate::shell_words::words;
+use crate::writer::{Manner, Stop, Writer};
 use std::alloc::Global;
+
+/// What a stream must have.
+#[derive(Drop)]
+pub enum Wanted {
+    /// Exactly this text.
+    Whole(Vec<u8>),
+    /// This text somewhere.
+    Has(Vec<u8>),
+    /// This number of lines.
+    Lines(usize),
+}
 
 /// What a case says about standard output, or about standard error.
 #[derive(Drop)]
@@ -14,8 +26,6 @@ pub struct Stream {
     /// How many writes it must get, if the case says so.
     pub writes: Option<usize>,
     pub manner: Manner,
-    /// Whether the command is run again for each write, with a writer that stops there.
-    pub stops: bool,
 }
 
 /// A command line, and what a case says about its run.
@@ -25,9 +35,10 @@ pub struct Command {
     pub words: Vec<String>,
     pub out: Stream,
     pub err: Stream,
-    pub status: Option<u8>,
-    /// The path of the file to which standard output goes, if the case names one.
-    pub device: Option<String>,
+    /// Whether the command is run again for each write to standard output, which then stops.
+    pub stops: bool,
+    /// The exit status that the run must have, which is 0 if the case does not say.
+    pub status: Option<usize>,
     /// The notes that must end standard error, if the command is run as on a terminal.
     pub notes: Option<Vec<u8>>,
 }
@@ -35,7 +46,7 @@ pub struct Command {
 /// What a run gave.
 #[derive(Drop)]
 pub struct Ran {
-    pub status: u8,
+    pub status: usize,
     pub out: Writer,
     pub err: Writer,
 }
@@ -51,20 +62,11 @@ pub fn read_command(alloc: Global, texts: &[Named], item: &Item<'_>) -> Result<C
         _ => return Err(Problem::about(alloc, "no command of amcover", head)),
     }
     let lines = item.body.as_slice().get(count..).unwrap_or(&[]);
-    let out = if lines.is_empty() {
-        None
-    } else {
-        Some(Wanted::Whole(output(alloc, texts, lines)?))
-    };
-    Ok(Command {
-        line: item.head.number,
-        words,
-        out: Stream::new(out),
-        err: Stream::new(None),
-        status: None,
-        device: None,
-        notes: None,
-    })
+    let mut command = Command::new(item.head.number, words);
+    if !lines.is_empty() {
+        command.out.wanted = Some(Wanted::Whole(output(alloc, texts, lines)?));
+    }
+    Ok(command)
 }
 
 /// Joins the lines of a command line, each of which but the last ends with ` \`. Returns how many
@@ -92,21 +94,18 @@ pub fn output(alloc: Global, texts: &[Named], lines: &[Line<'_>]) -> Result<Vec<
 }
 
 impl Stream {
-    fn new(wanted: Option<Wanted>) -> Stream {
+    fn new() -> Stream {
         Stream {
-            wanted,
+            wanted: None,
             writes: None,
             manner: Manner::WHOLE,
-            stops: false,
         }
     }
 
     /// Takes what a line says about its writer. Returns `false` if the words say nothing about a
     /// writer.
     fn take_writer(&mut self, words: &[u8]) -> bool {
-        if words == b"stops at each call".as_slice() {
-            self.stops = true;
-        } else if words == b"fails at its flush".as_slice() {
+        if words == b"fails at its flush".as_slice() {
             self.manner.flush_fails = true;
         } else if let Some(count) = number_between(words, b"takes ", b" bytes a call") {
             self.manner.step = count;
@@ -124,6 +123,19 @@ impl Stream {
 }
 
 impl Command {
+    /// Makes a command of which nothing is said yet.
+    pub fn new(line: usize, words: Vec<String>) -> Command {
+        Command {
+            line,
+            words,
+            out: Stream::new(),
+            err: Stream::new(),
+            stops: false,
+            status: None,
+            notes: None,
+        }
+    }
+
     /// Takes an item that says more about the run. Returns `false` for any other item.
     pub fn take(
         &mut self,
@@ -133,75 +145,46 @@ impl Command {
     ) -> Result<bool, Problem> {
         let line = item.head.text;
         if line == b"on a terminal".as_slice() {
-            let notes = output(alloc, texts, item.body.as_slice())?;
-            say_once(alloc, &mut self.notes, notes, line)?;
+            self.notes = Some(output(alloc, texts, item.body.as_slice())?);
             return Ok(true);
         }
-        if !self.take_expectation(alloc, texts, line)? && !self.take_manner(alloc, line)? {
-            return Ok(false);
-        }
-        if !item.body.is_empty() {
+        let is_taken = if line == b"writer stops at each call".as_slice() {
+            self.stops = true;
+            true
+        } else if let Some(words) = line.strip_prefix(b"writer ") {
+            self.out.take_writer(words)
+        } else if let Some(words) = line.strip_prefix(b"error writer ") {
+            self.err.take_writer(words)
+        } else if let Some((name, text)) = split_at_first(line, b": ") {
+            self.take_expectation(utf8(alloc, name)?, filled(alloc, texts, text)?)?
+        } else {
+            false
+        };
+        if is_taken && !item.body.is_empty() {
             return Err(Problem::about(alloc, "nothing stands below this line", line));
         }
-        Ok(true)
+        Ok(is_taken)
     }
 
-    fn take_expectation(
-        &mut self,
-        alloc: Global,
-        texts: &[Named],
-        line: &[u8],
-    ) -> Result<bool, Problem> {
-        if let Some(text) = line.strip_prefix(b"stderr: ") {
-            let mut text = filled(alloc, texts, text)?;
-            text.push(b'\n')?;
-            say_once(alloc, &mut self.err.wanted, Wanted::Whole(text), line)?;
-        } else if let Some(text) = line.strip_prefix(b"stderr has: ") {
-            let text = filled(alloc, texts, text)?;
-            say_once(alloc, &mut self.err.wanted, Wanted::Has(text), line)?;
-        } else if let Some(text) = line.strip_prefix(b"stdout: ") {
-            let text = filled(alloc, texts, text)?;
-            say_once(alloc, &mut self.out.wanted, Wanted::Whole(text), line)?;
-        } else if let Some(text) = line.strip_prefix(b"stdout has: ") {
-            let text = filled(alloc, texts, text)?;
-            say_once(alloc, &mut self.out.wanted, Wanted::Has(text), line)?;
-        } else {
-            return self.take_number(alloc, line);
+    /// Takes what the run must give, by its name. Returns `false` if nothing has this name.
+    fn take_expectation(&mut self, name: &str, text: Vec<u8>) -> Result<bool, Problem> {
+        let count = number(text.as_slice());
+        let mut text = text;
+        match name {
+            "stdout" => self.out.wanted = Some(Wanted::Whole(text)),
+            "stdout has" => self.out.wanted = Some(Wanted::Has(text)),
+            "stderr has" => self.err.wanted = Some(Wanted::Has(text)),
+            "stderr" => {
+                text.push(b'\n')?;
+                self.err.wanted = Some(Wanted::Whole(text));
+            }
+            "stdout lines" if count.is_some() => self.out.wanted = count.map(Wanted::Lines),
+            "status" if count.is_some() => self.status = count,
+            "writes" if count.is_some() => self.out.writes = count,
+            "error writes" if count.is_some() => self.err.writes = count,
+            _ => return Ok(false),
         }
         Ok(true)
-    }
-
-    fn take_number(&mut self, alloc: Global, line: &[u8]) -> Result<bool, Problem> {
-        if let Some(count) = number_behind(line, b"status: ") {
-            let Ok(status) = u8::try_from(count) else {
-                return Err(Problem::about(alloc, "no exit status", line));
-            };
-            say_once(alloc, &mut self.status, status, line)?;
-        } else if let Some(count) = number_behind(line, b"stdout lines: ") {
-            say_once(alloc, &mut self.out.wanted, Wanted::Lines(count), line)?;
-        } else if let Some(count) = number_behind(line, b"writes: ") {
-            say_once(alloc, &mut self.out.writes, count, line)?;
-        } else if let Some(count) = number_behind(line, b"error writes: ") {
-            say_once(alloc, &mut self.err.writes, count, line)?;
-        } else {
-            return Ok(false);
-        }
-        Ok(true)
-    }
-
-    fn take_manner(&mut self, alloc: Global, line: &[u8]) -> Result<bool, Problem> {
-        if let Some(path) = line.strip_prefix(b"writer is ") {
-            let path = utf8(alloc, path)?;
-            self.device = Some(String::from_str(alloc, path)?);
-            return Ok(true);
-        }
-        if let Some(words) = line.strip_prefix(b"writer ") {
-            return Ok(self.out.take_writer(words));
-        }
-        match line.strip_prefix(b"error writer ") {
-            Some(words) => Ok(self.err.take_writer(words)),
-            None => Ok(false),
-        }
     }
 
     /// Whether the case says anything about the outcome of the run.
@@ -210,49 +193,69 @@ impl Command {
         is_said || self.status.is_some() || self.notes.is_some()
     }
 
-    /// Returns the exit status that the run must have, which is 0 if the case does not say.
-    pub fn wanted_status(&self) -> u8 {
-        self.status.unwrap_or(0)
-    }
-
     /// Checks what a run has written, its exit status and the numbers of its writes.
     pub fn check_outputs(&self, alloc: Global, ran: &Ran) -> Result<(), Problem> {
-        self.check_error(alloc, ran.err.taken.as_slice())?;
-        let out = ran.out.taken.as_slice();
-        check_stream(alloc, "standard output", &self.out.wanted, out)?;
-        check_status(alloc, self.wanted_status(), ran.status)?;
+        let notes = self.notes.as_deref().unwrap_or(b"");
+        let err = ran.err.taken.as_slice();
+        let Some(line) = err.strip_suffix(notes) else {
+            return Err(Problem::differs(alloc, "notes", notes, err));
+        };
+        check_stream(alloc, "standard error", &self.err, line)?;
+        check_stream(
+            alloc,
+            "standard output",
+            &self.out,
+            ran.out.taken.as_slice(),
+        )?;
+        check_count(alloc, "status", self.status.or(Some(0)), ran.status)?;
         check_count(alloc, "writes", self.out.writes, ran.out.calls)?;
         check_count(alloc, "error writes", self.err.writes, ran.err.calls)
     }
+}
 
-    /// Checks what a run has written to standard error, with the notes at its end.
-    pub fn check_error(&self, alloc: Global, found: &[u8]) -> Result<(), Problem> {
-        let notes = self.notes.as_deref().unwrap_or(b"");
-        match found.strip_suffix(notes) {
-            Some(found) => check_stream(alloc, "standard error", &self.err.wanted, found),
-            None => Err(Problem::differs(alloc, "notes", notes, found)),
+/// Checks that what was found in a stream is as wanted, or empty if nothing is said.
+fn check_stream(alloc: Global, name: &str, stream: &Stream, found: &[u8]) -> Result<(), Problem> {
+    match &stream.wanted {
+        None => check_text(alloc, name, b"", found),
+        Some(Wanted::Whole(text)) => check_text(alloc, name, text.as_slice(), found),
+        Some(Wanted::Has(text)) if split_at_first(found, text.as_slice()).is_some() => Ok(()),
+        Some(Wanted::Has(text)) => Err(Problem::differs(alloc, name, text.as_slice(), found)),
+        Some(Wanted::Lines(count)) => {
+            let lines = found.iter().filter(|byte| **byte == b'\n').count();
+            check_count(alloc, name, Some(*count), lines)
         }
     }
 }
 
-/// Stores what a line says. Fails if that was said before.
-fn say_once<T: Drop>(
-    alloc: Global,
-    place: &mut Option<T>,
-    value: T,
-    line: &[u8],
-) -> Result<(), Problem> {
-    if place.is_some() {
-        return Err(Problem::about(alloc, "this was said already", line));
+/// Checks that the wanted text was found.
+pub fn check_text(alloc: Global, name: &str, wanted: &[u8], found: &[u8]) -> Result<(), Problem> {
+    if wanted == found {
+        return Ok(());
     }
-    *place = Some(value);
-    Ok(())
+    Err(Problem::differs(alloc, name, wanted, found))
 }
 
-fn number_behind(line: &[u8], words: &[u8]) -> Option<usize> {
-    number(line.strip_prefix(words)?)
+/// Checks that a writer stopped in this call and has taken a proper prefix of a text.
+pub fn check_cut(alloc: Global, text: &[u8], writer: &Writer, call: usize) -> Result<(), Problem> {
+    let taken = writer.taken.as_slice();
+    if writer.calls == call && taken.len() < text.len() && text.starts_with(taken) {
+        return Ok(());
+    }
+    Err(Problem::differs(alloc, "output cut short", text, taken))
 }
 
-fn number_between(words: &[u8], before: &[u8], behind: &[u8]) -> Option<usize> {
-    number(words.strip_prefix(before)?.strip_suffix(behind)?)
+/// Checks that a number is the wanted one, if one is wanted.
+pub fn check_count(
+    alloc: Global,
+    name: &str,
+    wanted: Option<usize>,
+    found: usize,
+) -> Result<(), Problem> {
+    match wanted {
+        Some(count) if count != found => {
+            let words = format!(in alloc; "{name}: expected {count} and found {found}")?;
+            Err(Problem::Said(words))
+        }
+        _ => Ok(()),
+    }
 }

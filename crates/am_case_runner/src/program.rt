@@ -1,15 +1,11 @@
 //! The program whose command lines are cases.
 
-use crate::call::Call;
-use am_case_files::Problem;
+use crate::problem::Problem;
 use std::io::Write;
 use std::rt::Files;
 
 /// A program whose command lines are cases.
 pub trait Program {
-    /// The calls that tables beside the command lines name.
-    type Call: Call;
-
     /// Runs the program, with its name as the first word, and returns its exit status. If `notes`
     /// is set, it runs as on a terminal.
     fn run<R: Files + AllocGlobal, W: Write + Drop, E: Write + Drop>(
@@ -27,4 +23,12 @@ pub trait Program {
         files: &R,
         words: &[String],
     ) -> Result<String, Problem>;
+
+    /// Calls the part of the program that the first word names, with the other words, and returns
+    /// what it gives. Returns `None` if no part has this name.
+    fn call<R: Files + AllocGlobal>(
+        &self,
+        files: &R,
+        words: &[String],
+    ) -> Result<Option<Vec<u8>>, Problem>;
 }

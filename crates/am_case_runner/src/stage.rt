@@ -1,22 +1,25 @@
-//! A program and the files that it can read: those that the file of cases defines, and otherwise
-//! those of the system.
+//! A program and the files that it can read: those that a case makes, those that the file of cases
+//! defines, and otherwise those of the system.
 
-use am_case_files::{Named, text_named};
+use crate::inserts::{Named, text_named};
 use std::alloc::{Allocator, Global};
 use std::fs::{Metadata, OpenFile, OpenOptions};
 use std::io;
 use std::io::{Cursor, ErrorKind, Read, Seek, SeekFrom, Write};
 use std::rt::Files;
 
-/// A program, and the files that a file of cases defines. Other files are those of the system.
+/// A program, and the files that it can read.
 #[derive(Drop)]
 pub struct Stage<'s, R, P> {
     pub host: &'s R,
     pub program: &'s P,
+    /// The files that a case makes. They come before others of the same name.
+    pub made: &'s [Named],
+    /// The files that the file of cases defines.
     pub files: &'s [Named],
 }
 
-/// An open file: one that the file of cases defines, or one of the system.
+/// An open file: one of the case, or one of the system.
 #[derive(Drop)]
 pub enum Opened<'s, F> {
     Shown(Cursor<&'s [u8]>),
@@ -41,7 +44,8 @@ impl<'s, R: Files, P> Files for Stage<'s, R, P> {
     type Dir = R::Dir;
 
     fn open_file(&self, how: &OpenOptions, path: &str) -> io::Result<Opened<'s, R::File>> {
-        match text_named(self.files, path.as_bytes()) {
+        let name = path.as_bytes();
+        match text_named(self.made, name).or(text_named(self.files, name)) {
             Some(bytes) => Ok(Opened::Shown(Cursor::new(bytes))),
             None => Ok(Opened::Host(self.host.open_file(how, path)?)),
         }

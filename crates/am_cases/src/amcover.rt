@@ -1,9 +1,7 @@
 //! The program whose command lines are cases.
 
-use crate::table_call::TableCall;
-use am_case_files::Problem;
-use am_case_runner::Program;
-use am_case_texts::digits_of_command;
+use am_case_parts::{call, digits_of_command};
+use am_case_runner::{Problem, Program};
 use am_program::{run, run_with_notes};
 use std::io::Write;
 use std::rt::Files;
@@ -12,8 +10,6 @@ use std::rt::Files;
 pub struct Amcover;
 
 impl Program for Amcover {
-    type Call = TableCall;
-
     fn run<R: Files + AllocGlobal, W: Write + Drop, E: Write + Drop>(
         &self,
         files: &R,
@@ -35,5 +31,13 @@ impl Program for Amcover {
         words: &[String],
     ) -> Result<String, Problem> {
         digits_of_command(files, words)
+    }
+
+    fn call<R: Files + AllocGlobal>(
+        &self,
+        files: &R,
+        words: &[String],
+    ) -> Result<Option<Vec<u8>>, Problem> {
+        call(files, words)
     }
 }

@@ -3,9 +3,8 @@
 //! file.
 #![tactic(auto)]
 
-// What tables call, and what command lines run.
+// What cases run.
 mod amcover;
-mod table_call;
 
 use crate::amcover::Amcover;
 use am_case_runner::run_cases;

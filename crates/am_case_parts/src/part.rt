@@ -1,0 +1,49 @@
+//! The parts of `amcover` that tables call, by their names.
+
+use crate::classes::of_classes;
+use crate::matchers::{of_match, of_matcher, of_matchers, of_row};
+use crate::readers::{of_config, of_instant, of_silences};
+use crate::search::{of_count, of_judge};
+use crate::texts::Refusal;
+use crate::whole::of_whole;
+use am_case_runner::Problem;
+use am_classes::Alphabet;
+use std::rt::Files;
+
+/// Calls the part that the first word names, with the other words. Returns a text that begins with
+/// `ok:` if the input is accepted, or the fault. Returns `None` if no part has this name.
+pub fn call<R: Files + AllocGlobal>(
+    files: &R,
+    words: &[String],
+) -> Result<Option<Vec<u8>>, Problem> {
+    let (name, one) = (word(words, 0), word(words, 1));
+    let (two, three) = (word(words, 2), word(words, 3));
+    let alloc = files.alloc();
+    let found = match name {
+        "config" => of_config(files, one),
+        "silences" => of_silences(files, one),
+        "instant" => of_instant(alloc, one),
+        "matchers" => of_matchers(alloc, one),
+        "matcher" => of_matcher(alloc, one, two, three),
+        "match" => of_match(alloc, one, two),
+        "row" => of_row(files, one, two),
+        "classes" => of_classes(alloc, Alphabet::Unicode, one),
+        "classes-ascii" => of_classes(alloc, Alphabet::Ascii, one),
+        "judge" => of_judge(files, words),
+        "count" => of_count(files, words),
+        "whole" => of_whole(files, words),
+        _ => return Ok(None),
+    };
+    match found {
+        Ok(text) => Ok(Some(text)),
+        Err(refusal) => Ok(Some(refusal.text(alloc)?)),
+    }
+}
+
+/// A word, or the empty one if there are not so many.
+fn word(words: &[String], i: usize) -> &str {
+    match words.get(i) {
+        Some(word) => word.as_str(),
+        None => "",
+    }
+}

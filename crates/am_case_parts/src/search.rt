@@ -1,0 +1,148 @@
+//! What the plan of a question says and is asked.
+
+ghost use Rattle.std.specs.Prelude.{◌≡◌, IfSome, IsTrue};
+ghost use Rattle.am_universe.specs.Choice.{admits};
+ghost use Rattle.am_universe.specs.Universe.{sizes};
+ghost use Rattle.am_plans.specs.PlanWords.{plan_sizes, plan_truth, plan_verdict, plan_is_judge};
+ghost use Rattle.am_search.specs.Start.{IsStart};
+
+use crate::asked::Asked;
+use crate::texts::{Refusal, add_positions};
+use am_case_runner::Problem;
+use am_plans::Plan;
+use am_search::{Answers, Judge, Start, State, Verdict, first};
+use am_universe::{Choice, Universe};
+use std::alloc::Global;
+use std::cell::Cell;
+use std::rt;
+
+/// More answers than a case may have.
+const MOST_ANSWERS: usize = 100_000;
+
+/// Returns what the plan of a question says of the prefix at which the answers begin.
+pub fn of_judge<R: rt::Files + AllocGlobal>(
+    files: &R,
+    words: &[String],
+) -> Result<Vec<u8>, Refusal> {
+    let alloc = files.alloc();
+    let line = Asked::line(alloc, words, 1)?;
+    let inputs = Asked::read(files, line.as_slice())?.inputs(alloc)?;
+    let plan = Plan::new(alloc, &inputs.space, &inputs.world, &inputs.question)?;
+    let Some(prefix) = prefix_of(inputs.space.universe(), inputs.start) else {
+        return Err(Refusal::wrong(alloc, "no prefix"));
+    };
+    Ok(Vec::from_slice(alloc, verdict_text(plan.judge(&prefix)).as_bytes())?)
+}
+
+/// The prefix at which a start is, if it is at one.
+fn prefix_of(universe: &Universe, start: Start) -> Option<Choice>
+    ensures { IfSome result (λ prefix. IsTrue (admits (sizes universe.now) prefix)) }
+{
+    let Start::At(prefix) = start else {
+        return None;
+    };
+    if universe.admits(&prefix) {
+        Some(prefix)
+    } else {
+        None
+    }
+}
+
+fn verdict_text(verdict: Verdict) -> &'static str {
+    match verdict {
+        Verdict::Yes => "yes",
+        Verdict::No => "no",
+        Verdict::Open => "open",
+    }
+}
+
+/// A plan that counts how often it is asked.
+#[derive(Drop)]
+struct CountedPlan<'a, 'p> {
+    plan: &'a Plan<'p>,
+    asked: Cell<u64>,
+}
+
+impl<'a, 'p> Judge for CountedPlan<'a, 'p> {
+    ghost sizes = { λ counted. plan_sizes counted.plan.now };
+
+    ghost truth = { λ counted. plan_truth counted.plan.now };
+
+    ghost verdict = { λ counted. plan_verdict counted.plan.now };
+
+    ghost laws = { λ counted. plan_is_judge counted.plan.now };
+
+    fn labels(&self) -> usize {
+        self.plan.labels()
+    }
+
+    fn size(&self, i: usize) -> usize {
+        self.plan.size(i)
+    }
+
+    fn judge(&self, prefix: &Choice) -> Verdict {
+        self.asked.set(self.asked.get().saturating_add(1));
+        self.plan.judge(prefix)
+    }
+}
+
+/// Returns how many choices a search over the plan of a question gives, and how often it asks the
+/// plan. The first word is the most prefixes that it may judge; or `all`; or `first`, if it looks
+/// for the first choice alone.
+pub fn of_count<R: rt::Files + AllocGlobal>(
+    files: &R,
+    words: &[String],
+) -> Result<Vec<u8>, Refusal> {
+    let alloc = files.alloc();
+    let line = Asked::line(alloc, words, 2)?;
+    let asked = Asked::read(files, line.as_slice())?;
+    let inputs = asked.inputs(alloc)?;
+    let plan = Plan::new(alloc, &inputs.space, &inputs.world, &inputs.question)?;
+    let counted = CountedPlan {
+        plan: &plan,
+        asked: Cell::new(0),
+    };
+    let most = match words.get(1) {
+        Some(most) => most.as_str(),
+        None => "",
+    };
+    if most == "first" {
+        let given = usize::from(first(&counted).is_some());
+        return Ok(count_text(alloc, given, &counted, State::Ended)?);
+    }
+    let steps = most.parse::<u64>().ok().or(asked.steps);
+    Ok(count_from(alloc, &counted, inputs.start, steps)?)
+}
+
+/// Counts what a search gives from a start on, and how often it asks the plan.
+fn count_from(
+    alloc: Global,
+    counted: &CountedPlan<'_, '_>,
+    start: Start,
+    steps: Option<u64>,
+) -> Result<Vec<u8>, Problem>
+    requires { IsStart (plan_sizes counted.now.plan.now) start }
+{
+    let mut answers = Answers::from(counted, start, steps);
+    for given in 0..MOST_ANSWERS {
+        if answers.next().is_none() {
+            return count_text(alloc, given, counted, answers.state());
+        }
+    }
+    Err(Problem::said(alloc, "more answers than a case may have"))
+}
+
+fn count_text(
+    alloc: Global,
+    given: usize,
+    counted: &CountedPlan<'_, '_>,
+    state: State,
+) -> Result<Vec<u8>, Problem> {
+    let asked = counted.asked.get();
+    let mut text = format!(in alloc; "ok: {given} given, {asked} judged")?;
+    if let State::Stopped(prefix) = state {
+        text.push_str(", stopped at")?;
+        add_positions(&prefix, &mut text)?;
+    }
+    Ok(text.into_bytes())
+}

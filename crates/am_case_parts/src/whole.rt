@@ -1,0 +1,135 @@
+//! The whole choices of a universe whose label sets satisfy a question, found one by one, beside
+//! what a search over the plan of the question gives.
+
+ghost use Rattle.std.specs.Prelude.{◌≡◌, IfSome};
+ghost use Rattle.am_plans.specs.PlanWords.{plan_sizes};
+ghost use Rattle.am_search.specs.Start.{IsStart};
+ghost use Rattle.am_universe.specs.Universe.{sizes};
+
+use crate::asked::Asked;
+use crate::texts::{Refusal, add_positions};
+use am_alerts::is_true_of;
+use am_case_runner::Problem;
+use am_eval::{Property, Question};
+use am_plans::Plan;
+use am_questions::AcceptedInputs;
+use am_search::{Answers, Judge, Start};
+use am_universe::{Choice, Universe, set_of};
+use std::alloc::Global;
+use std::rt::Files;
+
+/// The most choices that are looked at.
+const MOST_CHOICES: usize = 1_000;
+
+/// A whole choice, and whether its label set is an answer.
+#[derive(Clone, Copy)]
+struct Whole {
+    choice: Choice,
+    is_answer: bool,
+}
+
+/// Returns how many starts there are, at the first choice and behind each, and how many choices are
+/// given from them all. Fails if a search over the plan of the question gives others than those
+/// whose label sets satisfy the question.
+pub fn of_whole<R: Files + AllocGlobal>(files: &R, words: &[String]) -> Result<Vec<u8>, Refusal> {
+    let alloc = files.alloc();
+    let line = Asked::line(alloc, words, 1)?;
+    let inputs = Asked::read(files, line.as_slice())?.inputs(alloc)?;
+    let all = all_choices(alloc, &inputs)?;
+    let plan = Plan::new(alloc, &inputs.space, &inputs.world, &inputs.question)?;
+    let universe = inputs.space.universe();
+    let mut items = compare(alloc, &plan, universe, inputs.start, all.as_slice())?;
+    for (i, one) in all.iter().enumerate() {
+        let Some(start) = start_after(universe, one.choice) else {
+            return Err(Refusal::wrong(alloc, "a choice that is not whole"));
+        };
+        let rest = all.as_slice().get(i.saturating_add(1)..).unwrap_or(&[]);
+        items = items.saturating_add(compare(alloc, &plan, universe, start, rest)?);
+    }
+    let starts = all.len().saturating_add(1);
+    let text = format!(in alloc; "ok: {starts} starts, {items} given")?;
+    Ok(text.into_bytes())
+}
+
+/// All whole choices in declared order, each with the truth of the question on its label set.
+fn all_choices(alloc: Global, inputs: &AcceptedInputs) -> Result<Vec<Whole>, Refusal> {
+    let any = Question::Is(Property::Any);
+    let plan = Plan::new(alloc, &inputs.space, &inputs.world, &any)?;
+    let mut all = Vec::new(alloc);
+    for choice in &given_from(alloc, &plan, Start::At(Choice::empty()))? {
+        let is_answer = is_answer(alloc, inputs, choice)?;
+        all.push(Whole {
+            choice: *choice,
+            is_answer,
+        })?;
+    }
+    Ok(all)
+}
+
+/// The choices that a search over a judge gives from a start on.
+fn given_from<J: Judge>(alloc: Global, judge: &J, start: Start) -> Result<Vec<Choice>, Problem>
+    requires { IsStart (J.sizes judge.now) start }
+{
+    let mut answers = Answers::from(judge, start, None);
+    let mut given = Vec::new(alloc);
+    for _ in 0..MOST_CHOICES {
+        match next_of(&mut answers) {
+            Some(choice) => given.push(choice)?,
+            None => return Ok(given),
+        }
+    }
+    Err(Problem::said(alloc, "too many choices"))
+}
+
+// In a function of its own, so that the loop is proved to end.
+fn next_of<J: Judge>(answers: &mut Answers<'_, J>) -> Option<Choice> {
+    answers.next()
+}
+
+/// Whether the label set of a choice satisfies the question.
+fn is_answer(alloc: Global, inputs: &AcceptedInputs, choice: &Choice) -> Result<bool, Refusal> {
+    let universe = inputs.space.universe();
+    if !universe.admits(choice) || choice.len() != universe.len() {
+        return Err(Refusal::wrong(alloc, "a choice that is not whole"));
+    }
+    let set = set_of(alloc, universe, choice)?;
+    Ok(is_true_of(alloc, &inputs.world, &inputs.question, &set)?)
+}
+
+/// The start behind a whole choice, or `None` if the choice is not whole.
+fn start_after(universe: &Universe, choice: Choice) -> Option<Start>
+    ensures { IfSome result (IsStart (sizes universe.now)) }
+{
+    if universe.admits(&choice) && choice.len() == universe.len() {
+        Some(Start::After(choice))
+    } else {
+        None
+    }
+}
+
+/// Compares what a search gives from a start on with the answers that are left there, and returns
+/// how many there are.
+fn compare(
+    alloc: Global,
+    plan: &Plan<'_>,
+    universe: &Universe,
+    start: Start,
+    left: &[Whole],
+) -> Result<usize, Problem>
+    requires sizes { plan_sizes plan.now ≡ sizes universe.now }
+    requires start { IsStart (sizes universe.now) start }
+{
+    let choices = given_from(alloc, plan, start)?;
+    let mut given = String::new(alloc);
+    for choice in &choices {
+        add_positions(choice, &mut given)?;
+    }
+    let mut wanted = String::new(alloc);
+    for one in left.iter().filter(|one| one.is_answer) {
+        add_positions(&one.choice, &mut wanted)?;
+    }
+    if given.as_str() == wanted.as_str() {
+        return Ok(choices.len());
+    }
+    Err(Problem::differs(alloc, "the answers", wanted.as_bytes(), given.as_bytes()))
+}
