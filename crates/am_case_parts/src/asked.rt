@@ -10,12 +10,12 @@ use am_command_line::{Request, parse_command_line};
 use am_eval::Files;
 use am_questions::{AcceptedInputs, fingerprint, read_inputs};
 use am_search::Page;
-use std::alloc::{AllocError, Global};
+use std::alloc::Global;
 use std::{fs, rt};
 
 /// A question, the token at which the answers begin, and the files that it is asked over.
 #[derive(Drop)]
-pub struct Asked<'a> {
+struct Asked<'a> {
     universe: Vec<u8>,
     config: Option<Vec<u8>>,
     silences: Option<Vec<u8>>,
@@ -23,28 +23,11 @@ pub struct Asked<'a> {
     at: Option<&'a str>,
     question: &'a str,
     after: Option<&'a str>,
-    /// The most prefixes that are judged.
-    pub steps: Option<u64>,
 }
 
 impl<'a> Asked<'a> {
-    /// Returns the command line of `ask` that goes on with these words, but for the first ones.
-    pub fn line(
-        alloc: Global,
-        words: &[String],
-        skipped: usize,
-    ) -> Result<Vec<String>, AllocError> {
-        let mut line = Vec::new(alloc);
-        line.push(String::from_str(alloc, "amcover")?)?;
-        line.push(String::from_str(alloc, "ask")?)?;
-        for word in words.iter().skip(skipped) {
-            line.push(word.clone()?)?;
-        }
-        Ok(line)
-    }
-
     /// Reads a command line, with the program's name, and the files that it names.
-    pub fn read<R: rt::Files + AllocGlobal>(
+    fn read<R: rt::Files + AllocGlobal>(
         files: &R,
         words: &'a [String],
     ) -> Result<Asked<'a>, Problem> {
@@ -55,7 +38,6 @@ impl<'a> Asked<'a> {
         let Request::Ask {
             question,
             after,
-            steps,
             ..
         } = line.request
         else {
@@ -69,7 +51,6 @@ impl<'a> Asked<'a> {
             at: line.files.at,
             question,
             after,
-            steps: steps.map(|steps| steps.get()),
         })
     }
 
@@ -83,7 +64,7 @@ impl<'a> Asked<'a> {
     }
 
     /// Reads the inputs, and fails with their fault.
-    pub fn inputs(&self, alloc: Global) -> Result<AcceptedInputs, Refusal>
+    fn inputs(&self, alloc: Global) -> Result<AcceptedInputs, Refusal>
         ensures start { IfOk result (λ accepted.
             IsStart (sizes accepted.space.labels) accepted.start) }
     {
@@ -92,17 +73,30 @@ impl<'a> Asked<'a> {
             limit: None,
             steps: None,
         };
-        match read_inputs(
-            alloc,
-            self.universe.as_slice(),
-            &self.files(),
-            self.question,
-            &page,
-        ) {
-            Ok(inputs) => Ok(inputs),
-            Err(fault) => Err(Refusal::Fault(fault)),
-        }
+        let universe = self.universe.as_slice();
+        Ok(read_inputs(alloc, universe, &self.files(), self.question, &page)?)
     }
+}
+
+/// Reads the inputs of the command line of `ask` that goes on with these words, but for the first
+/// ones.
+pub fn read_words<R: rt::Files + AllocGlobal>(
+    files: &R,
+    words: &[String],
+    skipped: usize,
+) -> Result<AcceptedInputs, Refusal>
+    ensures start { IfOk result (λ accepted.
+        IsStart (sizes accepted.space.labels) accepted.start) }
+{
+    let alloc = files.alloc();
+    let mut line = Vec::new(alloc);
+    for word in ["amcover", "ask"] {
+        line.push(String::from_str(alloc, word)?)?;
+    }
+    for word in words.iter().skip(skipped) {
+        line.push(word.clone()?)?;
+    }
+    Asked::read(files, line.as_slice())?.inputs(alloc)
 }
 
 /// Returns the digits for which `H` stands in a command line that asks a question.
@@ -126,8 +120,5 @@ fn read_if_any<R: rt::Files + AllocGlobal>(
     files: &R,
     path: Option<&str>,
 ) -> Result<Option<Vec<u8>>, Problem> {
-    match path {
-        Some(path) => Ok(Some(read_file(files, path)?)),
-        None => Ok(None),
-    }
+    path.map(|path| read_file(files, path)).transpose()
 }

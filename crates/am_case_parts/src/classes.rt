@@ -42,11 +42,8 @@ pub fn of_classes(alloc: Global, alphabet: Alphabet, text: &str) -> Result<Vec<u
 fn truths_on(alloc: Global, matchers: &[&Matcher], text: &str) -> Result<String, Kind> {
     let mut truths = String::new(alloc);
     for matcher in matchers {
-        truths.push(if is_true(alloc, matcher, text)? {
-            '1'
-        } else {
-            '0'
-        })?;
+        let truth = is_true(alloc, matcher, text)?;
+        truths.push(if truth { '1' } else { '0' })?;
     }
     Ok(truths)
 }

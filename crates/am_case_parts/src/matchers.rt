@@ -42,10 +42,8 @@ pub fn of_matcher(alloc: Global, name: &str, op: &str, value: &str) -> Result<Ve
     let Some(op) = Op::ALL.iter().find(|it| it.text() == op) else {
         return Err(Refusal::wrong(alloc, "a name, an operator and a value are wanted"));
     };
-    let (name, value) = (
-        String::from_str(alloc, name)?,
-        String::from_str(alloc, value)?,
-    );
+    let name = String::from_str(alloc, name)?;
+    let value = String::from_str(alloc, value)?;
     let matcher = Matcher::new(alloc, name, *op, value)?;
     let mut out = begun(alloc, "ok: ")?;
     write_matcher(&matcher, &mut out)?;

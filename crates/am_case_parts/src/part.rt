@@ -4,7 +4,7 @@ use crate::classes::of_classes;
 use crate::matchers::{of_match, of_matcher, of_matchers, of_row};
 use crate::readers::{of_config, of_instant, of_silences};
 use crate::search::{of_count, of_judge};
-use crate::texts::Refusal;
+use crate::texts::{Refusal, word};
 use crate::whole::of_whole;
 use am_case_runner::Problem;
 use am_classes::Alphabet;
@@ -37,13 +37,5 @@ pub fn call<R: Files + AllocGlobal>(
     match found {
         Ok(text) => Ok(Some(text)),
         Err(refusal) => Ok(Some(refusal.text(alloc)?)),
-    }
-}
-
-/// A word, or the empty one if there are not so many.
-fn word(words: &[String], i: usize) -> &str {
-    match words.get(i) {
-        Some(word) => word.as_str(),
-        None => "",
     }
 }

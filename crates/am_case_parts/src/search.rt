@@ -6,8 +6,8 @@ ghost use Rattle.am_universe.specs.Universe.{sizes};
 ghost use Rattle.am_plans.specs.PlanWords.{plan_sizes, plan_truth, plan_verdict, plan_is_judge};
 ghost use Rattle.am_search.specs.Start.{IsStart};
 
-use crate::asked::Asked;
-use crate::texts::{Refusal, add_positions};
+use crate::asked::read_words;
+use crate::texts::{Refusal, add_positions, word};
 use am_case_runner::Problem;
 use am_plans::Plan;
 use am_search::{Answers, Judge, Start, State, Verdict, first};
@@ -16,7 +16,7 @@ use std::alloc::Global;
 use std::cell::Cell;
 use std::rt;
 
-/// More answers than a case may have.
+/// The most answers that are counted.
 const MOST_ANSWERS: usize = 100_000;
 
 /// Returns what the plan of a question says of the prefix at which the answers begin.
@@ -25,8 +25,7 @@ pub fn of_judge<R: rt::Files + AllocGlobal>(
     words: &[String],
 ) -> Result<Vec<u8>, Refusal> {
     let alloc = files.alloc();
-    let line = Asked::line(alloc, words, 1)?;
-    let inputs = Asked::read(files, line.as_slice())?.inputs(alloc)?;
+    let inputs = read_words(files, words, 1)?;
     let plan = Plan::new(alloc, &inputs.space, &inputs.world, &inputs.question)?;
     let Some(prefix) = prefix_of(inputs.space.universe(), inputs.start) else {
         return Err(Refusal::wrong(alloc, "no prefix"));
@@ -94,42 +93,47 @@ pub fn of_count<R: rt::Files + AllocGlobal>(
     words: &[String],
 ) -> Result<Vec<u8>, Refusal> {
     let alloc = files.alloc();
-    let line = Asked::line(alloc, words, 2)?;
-    let asked = Asked::read(files, line.as_slice())?;
-    let inputs = asked.inputs(alloc)?;
+    let inputs = read_words(files, words, 2)?;
     let plan = Plan::new(alloc, &inputs.space, &inputs.world, &inputs.question)?;
     let counted = CountedPlan {
         plan: &plan,
         asked: Cell::new(0),
     };
-    let most = match words.get(1) {
-        Some(most) => most.as_str(),
-        None => "",
-    };
+    let most = word(words, 1);
     if most == "first" {
         let given = usize::from(first(&counted).is_some());
         return Ok(count_text(alloc, given, &counted, State::Ended)?);
     }
-    let steps = most.parse::<u64>().ok().or(asked.steps);
-    Ok(count_from(alloc, &counted, inputs.start, steps)?)
+    let steps = most.parse::<u64>().ok();
+    let (given, state) = given_from(alloc, &counted, inputs.start, steps, MOST_ANSWERS)?;
+    Ok(count_text(alloc, given.len(), &counted, state)?)
 }
 
-/// Counts what a search gives from a start on, and how often it asks the plan.
-fn count_from(
+/// The choices that a search over a judge gives from a start on, and where it ended. Fails if it
+/// gives more choices than a case may have.
+pub fn given_from<J: Judge>(
     alloc: Global,
-    counted: &CountedPlan<'_, '_>,
+    judge: &J,
     start: Start,
     steps: Option<u64>,
-) -> Result<Vec<u8>, Problem>
-    requires { IsStart (plan_sizes counted.now.plan.now) start }
+    most: usize,
+) -> Result<(Vec<Choice>, State), Problem>
+    requires { IsStart (J.sizes judge.now) start }
 {
-    let mut answers = Answers::from(counted, start, steps);
-    for given in 0..MOST_ANSWERS {
-        if answers.next().is_none() {
-            return count_text(alloc, given, counted, answers.state());
+    let mut answers = Answers::from(judge, start, steps);
+    let mut given = Vec::new(alloc);
+    for _ in 0..=most {
+        match next_of(&mut answers) {
+            Some(choice) => given.push(choice)?,
+            None => return Ok((given, answers.state())),
         }
     }
     Err(Problem::said(alloc, "more answers than a case may have"))
+}
+
+// In a function of its own, so that the loop is proved to end.
+fn next_of<J: Judge>(answers: &mut Answers<'_, J>) -> Option<Choice> {
+    answers.next()
 }
 
 fn count_text(

@@ -89,3 +89,11 @@ pub fn add_positions(choice: &Choice, text: &mut String) -> Result<(), AllocErro
     }
     Ok(())
 }
+
+/// A word, or the empty one if there are not so many.
+pub fn word(words: &[String], i: usize) -> &str {
+    match words.get(i) {
+        Some(word) => word.as_str(),
+        None => "",
+    }
+}

@@ -6,20 +6,21 @@ ghost use Rattle.am_plans.specs.PlanWords.{plan_sizes};
 ghost use Rattle.am_search.specs.Start.{IsStart};
 ghost use Rattle.am_universe.specs.Universe.{sizes};
 
-use crate::asked::Asked;
+use crate::asked::read_words;
+use crate::search::given_from;
 use crate::texts::{Refusal, add_positions};
 use am_alerts::is_true_of;
 use am_case_runner::Problem;
 use am_eval::{Property, Question};
 use am_plans::Plan;
 use am_questions::AcceptedInputs;
-use am_search::{Answers, Judge, Start};
+use am_search::Start;
 use am_universe::{Choice, Universe, set_of};
 use std::alloc::Global;
 use std::rt::Files;
 
 /// The most choices that are looked at.
-const MOST_CHOICES: usize = 1_000;
+const MOST_CHOICES: usize = 999;
 
 /// A whole choice, and whether its label set is an answer.
 #[derive(Clone, Copy)]
@@ -33,8 +34,7 @@ struct Whole {
 /// whose label sets satisfy the question.
 pub fn of_whole<R: Files + AllocGlobal>(files: &R, words: &[String]) -> Result<Vec<u8>, Refusal> {
     let alloc = files.alloc();
-    let line = Asked::line(alloc, words, 1)?;
-    let inputs = Asked::read(files, line.as_slice())?.inputs(alloc)?;
+    let inputs = read_words(files, words, 1)?;
     let all = all_choices(alloc, &inputs)?;
     let plan = Plan::new(alloc, &inputs.space, &inputs.world, &inputs.question)?;
     let universe = inputs.space.universe();
@@ -56,7 +56,8 @@ fn all_choices(alloc: Global, inputs: &AcceptedInputs) -> Result<Vec<Whole>, Ref
     let any = Question::Is(Property::Any);
     let plan = Plan::new(alloc, &inputs.space, &inputs.world, &any)?;
     let mut all = Vec::new(alloc);
-    for choice in &given_from(alloc, &plan, Start::At(Choice::empty()))? {
+    let (choices, _) = given_from(alloc, &plan, Start::At(Choice::empty()), None, MOST_CHOICES)?;
+    for choice in &choices {
         let is_answer = is_answer(alloc, inputs, choice)?;
         all.push(Whole {
             choice: *choice,
@@ -64,26 +65,6 @@ fn all_choices(alloc: Global, inputs: &AcceptedInputs) -> Result<Vec<Whole>, Ref
         })?;
     }
     Ok(all)
-}
-
-/// The choices that a search over a judge gives from a start on.
-fn given_from<J: Judge>(alloc: Global, judge: &J, start: Start) -> Result<Vec<Choice>, Problem>
-    requires { IsStart (J.sizes judge.now) start }
-{
-    let mut answers = Answers::from(judge, start, None);
-    let mut given = Vec::new(alloc);
-    for _ in 0..MOST_CHOICES {
-        match next_of(&mut answers) {
-            Some(choice) => given.push(choice)?,
-            None => return Ok(given),
-        }
-    }
-    Err(Problem::said(alloc, "too many choices"))
-}
-
-// In a function of its own, so that the loop is proved to end.
-fn next_of<J: Judge>(answers: &mut Answers<'_, J>) -> Option<Choice> {
-    answers.next()
 }
 
 /// Whether the label set of a choice satisfies the question.
@@ -119,7 +100,7 @@ fn compare(
     requires sizes { plan_sizes plan.now ≡ sizes universe.now }
     requires start { IsStart (sizes universe.now) start }
 {
-    let choices = given_from(alloc, plan, start)?;
+    let (choices, _) = given_from(alloc, plan, start, None, MOST_CHOICES)?;
     let mut given = String::new(alloc);
     for choice in &choices {
         add_positions(choice, &mut given)?;

@@ -154,11 +154,6 @@ impl<'s, R: Files + AllocGlobal, P: Program> Ground<'s, R, P> {
         tally: &mut Tally,
     ) -> Result<(), Problem> {
         let length = case.text.len();
-        let lengths = if table.has_prefixes {
-            0..length
-        } else {
-            length..length.saturating_add(1)
-        };
         if length == 0 && table.has_prefixes {
             let none = Problem::said(self.host.alloc(), "the empty text has no proper prefix");
             return Ok(tally.count(case.number, Err(none))?);
@@ -166,7 +161,11 @@ impl<'s, R: Files + AllocGlobal, P: Program> Ground<'s, R, P> {
         if !tally.is_asked_for(case.number) {
             return Ok(());
         }
-        for length in lengths {
+        let (least, end) = match table.has_prefixes {
+            true => (0, length),
+            false => (length, length.saturating_add(1)),
+        };
+        for length in least..end {
             let text = case.text.as_slice().get(..length).unwrap_or(b"");
             let outcome = self.check(heading, text, case.result.as_slice(), table.stops);
             tally.count(case.number, outcome)?;
