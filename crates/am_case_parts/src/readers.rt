@@ -4,7 +4,7 @@ use crate::asked::read_file;
 use crate::matchers::write_matchers;
 use crate::texts::{Refusal, begun};
 use am_config::{Config, Path, Route, Rule, read_config};
-use am_list_files::{Silence, parse_instant, read_silences};
+use am_list_files::{Timestamp, parse_instant, read_silences};
 use am_universe::{Kind, Out, put_str, write_text};
 use std::alloc::Global;
 use std::rt::Files;
@@ -74,21 +74,23 @@ pub fn of_silences<R: Files + AllocGlobal>(files: &R, path: &str) -> Result<Vec<
     let mut out = begun(alloc, "ok:")?;
     for i in 0..silences.len() {
         put_str(&mut out, if i > 0 { "; " } else { " " })?;
-        write_silence(alloc, silences.get(i), &mut out)?;
+        let silence = silences.get(i);
+        let (starts, ends) = (utc(alloc, silence.starts())?, utc(alloc, silence.ends())?);
+        let span = format!(in alloc; "{starts} {ends} ")?;
+        put_str(&mut out, span.as_str())?;
+        write_matchers(silence.matchers(), &mut out)?;
     }
     Ok(out.into_inner())
 }
 
-fn write_silence(alloc: Global, silence: &Silence, out: &mut Out<Vec<u8>>) -> Result<(), Kind> {
-    let (starts, ends) = (silence.starts(), silence.ends());
-    let span = format!(in alloc; "{starts} {ends} ")?;
-    put_str(out, span.as_str())?;
-    write_matchers(silence.matchers(), out)
-}
-
 /// Returns an instant in UTC.
 pub fn of_instant(alloc: Global, text: &str) -> Result<Vec<u8>, Refusal> {
-    let instant = parse_instant(alloc, text)?;
+    let instant = utc(alloc, parse_instant(alloc, text)?)?;
     let text = format!(in alloc; "ok: {instant}")?;
     Ok(text.into_bytes())
+}
+
+fn utc(alloc: Global, instant: Timestamp) -> Result<jiff::Timestamp, Refusal> {
+    let instant = jiff::Timestamp::from_nanosecond(instant.nanosecond());
+    instant.map_err(|_| Refusal::wrong(alloc, "an instant outside the range of `jiff`"))
 }

@@ -14,9 +14,8 @@ ghost use Rattle.am_eval.specs.Pairs.{pairs_of};
 use crate::limits::MAX_PAIRS;
 use crate::pair::{Pair, pairs_of};
 use am_config::Config;
-use am_list_files::{Alerts, Silence, Silences};
+use am_list_files::{Alerts, Silence, Silences, Timestamp};
 use am_universe::{Fault, Kind, Place};
-use jiff::Timestamp;
 use std::alloc::Global;
 use std::marker::Model;
 

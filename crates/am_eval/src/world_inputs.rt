@@ -15,9 +15,8 @@ use crate::files::Files;
 use crate::world::World;
 use am_config::{Config, read_config};
 use am_labels::parse_set_words;
-use am_list_files::{Alerts, Silences, parse_instant, read_alerts, read_silences};
+use am_list_files::{Alerts, Silences, Timestamp, parse_instant, read_alerts, read_silences};
 use am_universe::{Fault, Kind, LabelSet, Place};
-use jiff::Timestamp;
 use std::alloc::Global;
 
 /// Reads a world from its files.

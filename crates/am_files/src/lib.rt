@@ -8,5 +8,5 @@
 pub use am_config::{Config, Path, Route, RouteList, Rule, read_config};
 pub use am_labels::Space;
 pub use am_list_files::{
-    Alerts, Silence, Silences, parse_instant, read_alerts, read_silences, read_universe,
+    Alerts, Silence, Silences, Timestamp, parse_instant, read_alerts, read_silences, read_universe,
 };

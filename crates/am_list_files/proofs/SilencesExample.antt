@@ -1,9 +1,10 @@
 -- What the worked example of an export of silences says.
-use Rattle.std.proofs.Common.{◌≡◌, ℕ, List, [], ◌∷◌, pos, Some, codes, refl, inl, inr, true, false}
+use Rattle.std.proofs.Common.{◌≡◌, ℕ, List, [], ◌∷◌, pos, Some, codes, refl, inl, inr, true, false, ◌∙◌}
 use Rattle.std.proofs.Common.{IsTrue, arith}
 use Rattle.jiff.proofs.OnLiterals.{jiff_on_literals}
 use Rattle.am_labels.specs.MatcherRefusals.{has_valid_pattern}
 use Rattle.am_list_files.specs.Instant.{instant_of}
+use Rattle.am_list_files.specs.Instant.Reading.{instant_read}
 use Rattle.am_list_files.specs.SilencesFile.{SaysSilenceMatcher, SaysSilences}
 use Rattle.am_list_files.specs.SilencesExample.{team_matcher, severity_matcher, silence_example}
 use Rattle.am_list_files.specs.SilencesExample.{silences_example, team_condition, severity_condition}
@@ -11,11 +12,11 @@ use Rattle.am_list_files.specs.SilencesExample.{example_silences}
 
 begins : instant_of (codes "2024-05-01T10:00:00Z") ≡ Some (pos 1714557600000000000)
 unfolding jiff_on_literals
-begins = refl
+begins = instant_read (codes "2024-05-01T10:00:00Z") ∙ refl
 
 finishes : instant_of (codes "2024-05-01T12:00:00+01:00") ≡ Some (pos 1714561200000000000)
 unfolding jiff_on_literals
-finishes = refl
+finishes = instant_read (codes "2024-05-01T12:00:00+01:00") ∙ refl
 
 team_says : SaysSilenceMatcher team_matcher team_condition
 team_says = record {

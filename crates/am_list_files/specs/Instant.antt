@@ -1,4 +1,5 @@
 -- Instants, and the texts that say them. (RFC 3339, and what `jiff` reads beyond it.)
+pub mod Reading
 use Rattle.std.specs.Prelude.{ℕ, ℤ, List, is_some, if◌then◌else◌, Option, Some, None}
 use Rattle.std.specs.Result.{result_ok}
 use Rattle.am_universe.specs.declared.kind.Kind.{Kind}
@@ -15,7 +16,7 @@ use Rattle.jiff.specs.Words.{parse_timestamp}
 -- has at most nine digits, and the last instant is `9999-12-30T22:00:00.999999999Z`.
 -- Example: `2024-05-01T12:00:00+02:00` and `2024-05-01T10:00:00.000Z` say the same instant.
 -- `2024-05-01` says none.
-abbrev pub instant_of : List ℕ → Option ℤ
+pub instant_of : List ℕ → Option ℤ
 instant_of text = result_ok (parse_timestamp text)
 
 -- What is wrong with the text of an instant: `bad-time` if it says none.

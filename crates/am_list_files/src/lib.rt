@@ -30,7 +30,7 @@ mod instant;
 mod silence;
 mod silences_file;
 
-pub use instant::parse_instant;
+pub use instant::{Timestamp, parse_instant};
 pub use silence::{Silence, Silences};
 pub use silences_file::read_silences;
 

@@ -3,9 +3,9 @@
 // Each `impl Model` has imports of its own. None is from a module that uses these types.
 ghost use Rattle.std.specs.Prelude.{◌≡◌, ◌<◌, ◌≤◌, ◌==◌, [], Some, length, slice_get};
 
+use crate::instant::Timestamp;
 use crate::limits::MAX_SILENCES;
 use am_labels::Matchers;
-use jiff::Timestamp;
 use std::alloc::Global;
 use std::marker::Model;
 

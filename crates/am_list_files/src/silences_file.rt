@@ -12,7 +12,7 @@ ghost use Rattle.am_list_files.specs.SilencesForm.{instant_form, required_instan
 ghost use Rattle.am_list_files.specs.SilencesForm.{silence_form, silences_form};
 ghost use Rattle.am_list_files.specs.SilencesForm.{silences_file_form};
 
-use crate::instant::parse_instant;
+use crate::instant::{Timestamp, parse_instant};
 use crate::limits::MAX_SILENCES;
 use crate::matcher::{label_name_fault, new_matcher};
 use crate::silence::{Silence, Silences};
@@ -23,7 +23,6 @@ use am_json::{
 use am_labels::limits::MAX_MATCHERS;
 use am_labels::{Matcher, Matchers, Op};
 use am_universe::{Fault, Kind, Place};
-use jiff::Timestamp;
 use serde_json::Value;
 use std::alloc::Global;
 
