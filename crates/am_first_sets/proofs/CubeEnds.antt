@@ -35,8 +35,8 @@ use Rattle.am_eval.proofs.SomeWay.{some_way-literal, some_way-front}
 use Rattle.am_first_sets.specs.declared.route_cubes.RouteCubes.{RouteCubes}
 use Rattle.am_first_sets.specs.declared.route_cubes.RouteCubes.TheViews.{out-RouteCubes}
 use Rattle.am_first_sets.specs.ChoiceEnds.{is_end_at}
-use Rattle.am_first_sets.specs.Reasons.{may_match, must_match}
-use Rattle.am_first_sets.specs.RouteCubes.{AreCubesOf, AreCubesOfEach, all_may_match, none_before}
+use Rattle.am_first_sets.specs.Reasons.{may_match, must_match, all_may_match}
+use Rattle.am_first_sets.specs.RouteCubes.{AreCubesOf, AreCubesOfEach, none_before}
 use Rattle.am_first_sets.specs.RouteCubes.{none_stops}
 use Rattle.am_first_sets.proofs.ImpossibleCubes.{certain_where}
 

@@ -1,7 +1,7 @@
 pub mod ChoiceEnds
 pub mod Reasons
+pub mod Solving
 pub mod ImpossibleCubes
 pub mod PossibleRefuter
 pub mod RouteCubes
-pub mod RouteRefuter
 pub mod RouteEnds

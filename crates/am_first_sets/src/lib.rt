@@ -1,11 +1,16 @@
-//! First label sets: the first that is possible in a space, and the first that ends at a route.
+//! First label sets: the first of a space that some cubes match and others do not, and the first
+//! that ends at a route.
 //!
-//! A search that jumps over labels that do not matter finds both. If no completion of a prefix will
-//! do, the search asks which labels are to blame. The cubes of the routes' matchers answer this,
-//! and those of the impossible lists of the space.
+//! A search by boxes finds them. It goes by the cubes, and not label by label: from a box of
+//! choices it takes those that an unwanted cube matches, and splits the box where it has to.
 #![tactic(auto)]
 
-// The first label set that is possible.
+// The search for a choice that no cube of some matches.
+mod solver;
+
+pub use solver::{first_avoiding, solve};
+
+// The first label set that is possible, and that some cubes match and others do not.
 mod possible_choices;
 
 pub use possible_choices::{PossibleRefuter, first_possible};

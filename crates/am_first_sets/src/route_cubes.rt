@@ -1,22 +1,19 @@
 //! The matchers of routes as cubes, in a tree of the same shape.
 //!
-//! The way to end at a route borrows its cubes and the groups of siblings from that tree. Two other
-//! ways made `dead` slower: numbers of routes in preorder, for which all routes below each earlier
-//! sibling are counted for each path, and a list for each way of the cubes that must not match.
+//! The way to end at a route borrows its cubes and the groups of siblings from that tree.
 
-ghost use Rattle.std.specs.Prelude.{◌≡◌, ℕ, List, map, IfOk, IfSome, IfNone, true, IsTrue};
+ghost use Rattle.std.specs.Prelude.{◌≡◌, ℕ, List, map, ◌&&◌, IfOk, OnOk, IsTrue};
 ghost use Rattle.am_universe.specs.Universe.{sizes};
 ghost use Rattle.am_universe.specs.Choice.{admits};
 ghost use Rattle.am_config.specs.RouteView.{route_view};
 ghost use Rattle.am_config.specs.ConfigFile.{routes_of};
-ghost use Rattle.am_first_sets.specs.Reasons.{IsReasonAgainst};
+ghost use Rattle.am_first_sets.specs.Reasons.{none_must_match};
 ghost use Rattle.am_first_sets.specs.RouteCubes.{AreCubesOf, AreCubesOfEach, IsWayToEnd};
-ghost use Rattle.am_first_sets.specs.RouteCubes.{all_may_match, none_stops, nothing_stops};
+ghost use Rattle.am_first_sets.specs.RouteCubes.{none_stops, nothing_stops};
 
 use am_config::{Path, Route};
 use am_judged_lists::Cube;
-use am_search::Labels;
-use am_universe::{Choice, Universe};
+use am_universe::Universe;
 use std::alloc::{AllocError, Global};
 
 /// The matchers of a route as a cube, with its receiver and its `continue`, and the same for all
@@ -37,7 +34,7 @@ pub struct RouteCubes {
 /// match. It also has the children of the last route, and none of these may match.
 #[derive(Drop)]
 pub(crate) struct RouteWay<'a> {
-    wanted: Vec<&'a Cube>,
+    pub wanted: Vec<&'a Cube>,
     before: Vec<&'a [RouteCubes]>,
     children: &'a [RouteCubes],
 }
@@ -110,49 +107,35 @@ fn cubes_of_routes(
 }
 
 impl<'a> RouteWay<'a> {
-    /// Returns why no completion of a prefix matches all routes that must match, if the cubes say
-    /// so: the reason against the first that is excluded.
-    pub(crate) fn why_not_wanted(&self, prefix: &Choice) -> Option<Labels>
-        ensures some { IfSome result (λ labels.
-            IsReasonAgainst (λ c. all_may_match c self.now.wanted.items) labels prefix.now) }
-        ensures none { IfNone result (all_may_match prefix.now self.now.wanted.items ≡ true) }
+    /// The cubes of the routes that stop an alert on the way. It must match none of them. Fails
+    /// only if memory runs out.
+    pub(crate) fn stops(&self, alloc: Global) -> Result<Vec<&'a Cube>, AllocError>
+        ensures { IfOk result (λ cubes. (choice : List ℕ)
+            → none_must_match choice cubes.items ≡ nothing_stops choice self.now) }
     {
-        for cube in self.wanted.as_slice() {
-            if let Some(labels) = cube.why_not(prefix) {
-                return Some(labels);
-            }
-        }
-        None
-    }
-
-    /// Returns why each completion of a prefix matches a route that stops it, if the cubes say so:
-    /// the reason for the first such route that is certain.
-    pub(crate) fn why_stopped(&self, prefix: &Choice) -> Option<Labels>
-        ensures some { IfSome result (λ labels.
-            IsReasonAgainst (λ c. nothing_stops c self.now) labels prefix.now) }
-        ensures none { IfNone result (nothing_stops prefix.now self.now ≡ true) }
-    {
+        let mut cubes = Vec::new(alloc);
         for siblings in self.before.as_slice() {
-            if let Some(labels) = why_one_stops(siblings, false, prefix) {
-                return Some(labels);
-            }
+            push_stops(&mut cubes, siblings, false)?;
         }
-        why_one_stops(self.children, true, prefix)
+        push_stops(&mut cubes, self.children, true)?;
+        Ok(cubes)
     }
 }
 
-/// Returns the same for some siblings. Those with `continue` count only if `all` is true.
-fn why_one_stops(siblings: &[RouteCubes], all: bool, prefix: &Choice) -> Option<Labels>
-    ensures some { IfSome result (λ labels.
-        IsReasonAgainst (λ c. none_stops all c siblings.now) labels prefix.now) }
-    ensures none { IfNone result (none_stops all prefix.now siblings.now ≡ true) }
+/// Adds the cubes of some siblings. Those with `continue` are added only if `all` is true. Fails
+/// only if memory runs out.
+fn push_stops<'a>(
+    cubes: &mut Vec<&'a Cube>,
+    siblings: &'a [RouteCubes],
+    all: bool,
+) -> Result<(), AllocError>
+    ensures { OnOk result ((choice : List ℕ) → none_must_match choice cubes.new.items
+        ≡ (none_must_match choice cubes.old.items && none_stops all choice siblings.now)) }
 {
     for sibling in siblings {
         if all || !sibling.continues {
-            if let Some(labels) = sibling.cube.why(prefix) {
-                return Some(labels);
-            }
+            cubes.push(&sibling.cube)?;
         }
     }
-    None
+    Ok(())
 }

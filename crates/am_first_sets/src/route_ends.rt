@@ -3,11 +3,6 @@
 //! An alert ends at a route if it matches each route on the way there, matches no earlier sibling
 //! of these that lacks `continue`, and matches no child of the last. `way_to_end` gives the cubes
 //! of all of these. The alert has to be possible too, so it must not match an impossible list.
-//!
-//! The search is `first_by_jumps`. Its refuter says which labels are to blame for a prefix: one
-//! label, if a route on the way forbids its position; or all labels that a sibling, a child or an
-//! impossible list asks about, if that is certain to match. The routes on the way are asked first,
-//! because one label makes longer jumps than several.
 
 ghost use Rattle.std.specs.Prelude.{◌≡◌, IfOk, IfSome};
 ghost use Rattle.std.specs.List.{find};
@@ -18,10 +13,9 @@ ghost use Rattle.am_first_sets.specs.ChoiceEnds.{is_end_at};
 ghost use Rattle.am_first_sets.specs.RouteCubes.{AreCubesOf-prop, KnowsRoutes};
 
 use crate::possible_choices::PossibleRefuter;
-use crate::route_cubes::{RouteCubes, RouteWay};
+use crate::route_cubes::RouteCubes;
 use am_config::{Config, Path};
 use am_labels::Space;
-use am_search::{Labels, Refuter, first_by_jumps};
 use am_universe::Choice;
 use std::alloc::{AllocError, Global};
 
@@ -71,48 +65,8 @@ impl<'a> RouteEnds<'a> {
         let Some(way) = self.routes.way_to_end(alloc, path)? else {
             return Ok(None);
         };
-        let refuter = RouteRefuter {
-            possible: &self.possible,
-            way,
-        };
-        Ok(first_by_jumps(&refuter))
-    }
-}
-
-/// Refutes prefixes without a completion that is possible and goes the way.
-#[derive(Drop)]
-struct RouteRefuter<'a> {
-    possible: &'a PossibleRefuter<'a>,
-    way: RouteWay<'a>,
-}
-
-impl<'a> Refuter for RouteRefuter<'a> {
-    ghost use Rattle.am_first_sets.specs.RouteRefuter.{refuter_sizes, refuter_truth};
-    ghost use Rattle.am_first_sets.specs.RouteRefuter.{refuter_are_sizes};
-
-    ghost sizes = { refuter_sizes };
-
-    ghost truth = { refuter_truth };
-
-    ghost laws = { refuter_are_sizes };
-
-    fn labels(&self) -> usize {
-        self.possible.labels()
-    }
-
-    fn size(&self, i: usize) -> usize {
-        self.possible.size(i)
-    }
-
-    // The routes that must match come first. A cube that is excluded names at most one label, so
-    // the search goes back further than if a cube that must not match is certain.
-    fn refute(&self, prefix: &Choice) -> Option<Labels> {
-        if let Some(labels) = self.way.why_not_wanted(prefix) {
-            return Some(labels);
-        }
-        if let Some(labels) = self.possible.refute(prefix) {
-            return Some(labels);
-        }
-        self.way.why_stopped(prefix)
+        let stops = way.stops(alloc)?;
+        self.possible
+            .first_meeting(alloc, way.wanted.as_slice(), stops.as_slice())
     }
 }

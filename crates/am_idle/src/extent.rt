@@ -65,24 +65,31 @@ fn extent_in(alloc: Global, space: &Space, matchers: &Matchers) -> Result<Extent
 {
     let possible = PossibleRefuter::of(alloc, space)?;
     let cube = Cube::of(alloc, matchers, space.universe())?;
-    if !has_set(&possible, &cube, true) {
+    let matches = has_set(alloc, &possible, &cube, true)?;
+    if !matches {
         return Ok(Extent::NoAlert);
     }
-    if !has_set(&possible, &cube, false) {
+    let spares = has_set(alloc, &possible, &cube, false)?;
+    if !spares {
         return Ok(Extent::EachAlert);
     }
     Ok(Extent::SomeAlerts)
 }
 
 /// Whether a space has a label set that a list matches, if `wanted`, or one that the list does not
-/// match, if not. `cube` is the cube of the list.
-fn has_set(possible: &PossibleRefuter<'_>, cube: &Cube, wanted: bool) -> bool
-    ensures some { (ms : List Condition)
+/// match, if not. `cube` is the cube of the list. Fails only if memory runs out.
+fn has_set(
+    alloc: Global,
+    possible: &PossibleRefuter<'_>,
+    cube: &Cube,
+    wanted: bool,
+) -> Result<bool, AllocError>
+    ensures some { IfOk result (λ has. (ms : List Condition)
         → IsCubeOf (possible_space possible.now).labels ms cube.now
-        → IsTrue result → HasSet (possible_space possible.now) ms wanted }
-    ensures none { (ms : List Condition)
+        → IsTrue has → HasSet (possible_space possible.now) ms wanted) }
+    ensures none { IfOk result (λ has. (ms : List Condition)
         → IsCubeOf (possible_space possible.now).labels ms cube.now
-        → result ≡ false → HasSet (possible_space possible.now) ms wanted → ⊥ }
+        → has ≡ false → HasSet (possible_space possible.now) ms wanted → ⊥) }
 {
     let literal = [Candidate {
         cube,
@@ -90,5 +97,5 @@ fn has_set(possible: &PossibleRefuter<'_>, cube: &Cube, wanted: bool) -> bool
         named: true,
         tag: 0,
     }];
-    first_meeting(possible, &literal).is_some()
+    Ok(first_meeting(alloc, possible, &literal)?.is_some())
 }

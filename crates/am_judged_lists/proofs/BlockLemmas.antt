@@ -7,8 +7,7 @@ use Rattle.am_judged_lists.specs.declared.cube.LabelMask.{LabelMask}
 use Rattle.am_judged_lists.specs.declared.certainty.Certainty.{Certainty}
 use Rattle.am_judged_lists.specs.declared.certainty.Certainty.TheVariants.{May, Must}
 use Rattle.am_judged_lists.specs.Certainty.{passes}
-use Rattle.am_judged_lists.specs.Cube.{MaskedLabels, may_at, reaches, verdict_at}
-use Rattle.am_judged_lists.specs.BlockView.{permits_position}
+use Rattle.am_judged_lists.specs.Cube.{MaskedLabels, may_at, reaches, verdict_at, permits_position}
 use Rattle.am_judged_lists.proofs.CubeLemmas.{fits, fits_at}
 use Rattle.am_judged_lists.proofs.JudgeLemmas.{may_is, must_is}
 

@@ -1,5 +1,6 @@
 pub mod ListLemmas
 pub mod BitLemmas
+pub mod WordLemmas
 pub mod Completed
 pub mod VerdictLemmas
 pub mod RowLemmas
@@ -11,3 +12,4 @@ pub mod BlockLemmas
 pub mod TableLemmas
 pub mod GroupLemmas
 pub mod ReasonLemmas
+pub mod BoxLemmas

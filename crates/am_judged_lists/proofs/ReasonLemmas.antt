@@ -92,7 +92,7 @@ certain cube labels prefix e are = record {
 -- ---- Mask by mask.
 
 -- if the verdict is `Yes`, the labels of all masks are labels of the prefix
-at_index : (P : LabelMask → Type 0) (masks : List LabelMask) (k : ℕ) (m : LabelMask)
+pub at_index : (P : LabelMask → Type 0) (masks : List LabelMask) (k : ℕ) (m : LabelMask)
     → AllByRecursion P masks → k < length masks → m ≡ get_or masks k m → P m
 at_index P [] k m all low is = absurd (omega arith)
 at_index P (n ∷ masks) zero m all low is = subst P (sym is) all.0

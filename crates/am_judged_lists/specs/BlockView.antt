@@ -1,24 +1,19 @@
 -- The sets that a block keeps of its cubes. Each set has all cubes with some feature. It does no
 -- harm if a set has more cubes, because a cube that is found is asked itself.
-use Rattle.std.specs.Prelude.{◌≡◌, ℕ, List, Bool, false, not, ◌&&◌, ◌||◌, ◌==◌, nat_lt, IsTrue}
-use Rattle.std.specs.Prelude.{slice_get, slice_index_or, Some}
+use Rattle.std.specs.Prelude.{◌≡◌, ℕ, List, Bool, not, ◌&&◌, nat_lt, IsTrue}
+use Rattle.std.specs.Prelude.{slice_get, Some}
 use Rattle.std.specs.List.{list_all}
 use Rattle.am_judged_lists.specs.declared.block.Block.{Block}
 use Rattle.am_judged_lists.specs.declared.block.Feature.{Feature}
 use Rattle.am_judged_lists.specs.declared.block.Feature.TheVariants.{Matched, Within}
 use Rattle.am_judged_lists.specs.declared.block.LabelRows.{LabelRows}
 use Rattle.am_judged_lists.specs.declared.list_set.ListSet.{ListSet}
-use Rattle.am_judged_lists.specs.Cube.{MaskedLabels}
+use Rattle.am_judged_lists.specs.Cube.{MaskedLabels, permits_position}
 use Rattle.am_judged_lists.specs.ListSetView.{has}
 
--- `is_within`: all masks of the cube are of labels below a number. `permits_position`: the masks
--- permit a position of a label. A label without a mask permits each of its positions.
+-- All masks of the cube are of labels below a number.
 abbrev pub is_within : MaskedLabels → ℕ → Bool
 is_within cube len = list_all (λ m. nat_lt m.label len) cube.masks
-
-abbrev pub permits_position : MaskedLabels → ℕ → ℕ → Bool
-permits_position cube label position =
-    list_all (λ m. not (m.label == label) || slice_index_or m.mask position false) cube.masks
 
 -- A cube has a feature.
 abbrev pub has_feature : Feature → MaskedLabels → Bool

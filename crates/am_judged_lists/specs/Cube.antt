@@ -1,6 +1,6 @@
 -- Cubes: which positions of each label a list of matchers permits, and the verdict that follows.
 use Rattle.std.specs.Prelude.{◌≡◌, ℕ, List, length, slice_index, slice_index_or, nat_lt, Bool}
-use Rattle.std.specs.Prelude.{false, not, ◌&&◌, ◌||◌, IsTrue, if◌then◌else◌}
+use Rattle.std.specs.Prelude.{false, not, ◌&&◌, ◌||◌, ◌==◌, IsTrue, if◌then◌else◌}
 use Rattle.std.specs.List.{list_all}
 use Rattle.am_search.specs.declared.verdict.Verdict.{Verdict}
 use Rattle.am_search.specs.declared.verdict.Verdict.TheVariants.{Yes, No, Open}
@@ -35,6 +35,11 @@ may_at cube prefix =
 abbrev pub reaches_all : MaskedLabels → List ℕ → Bool
 reaches_all cube prefix = list_all (reaches prefix) cube.masks
 
+-- A cube matches a choice: it has a position of each label that has a mask, and all of them are
+-- permitted.
+abbrev pub matches : MaskedLabels → List ℕ → Bool
+matches cube c = may_at cube c && reaches_all cube c
+
 -- The verdict of a cube at a prefix. It depends on the positions of the prefix alone.
 -- Source: own choice.
 -- Example: of two labels only the second has a mask, which permits only the position 0. At the
@@ -42,6 +47,11 @@ reaches_all cube prefix = list_all (reaches prefix) cube.masks
 abbrev pub verdict_at : MaskedLabels → List ℕ → Verdict
 verdict_at cube prefix =
     if not (may_at cube prefix) then No else if reaches_all cube prefix then Yes else Open
+
+-- The masks permit a position of a label. A label without a mask permits each of its positions.
+abbrev pub permits_position : MaskedLabels → ℕ → ℕ → Bool
+permits_position cube label position =
+    list_all (λ m. not (m.label == label) || slice_index_or m.mask position false) cube.masks
 
 -- A cube is that of a list of matchers: at each prefix that the universe admits, its verdict is the
 -- verdict of the list.

@@ -3,6 +3,7 @@ pub mod Rows
 pub mod MaskView
 pub mod Cube
 pub mod CubeView
+pub mod Boxes
 pub mod Certainty
 pub mod ListSetView
 pub mod BlockView

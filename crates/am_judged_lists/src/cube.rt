@@ -3,11 +3,11 @@ ghost use Rattle.std.specs.Prelude.{slice_index_or, IfSome, IfNone, IsTrue};
 ghost use Rattle.std.specs.List.{list_any, AllByRecursion};
 ghost use Rattle.am_judged_lists.specs.Rows.{is_never_true, is_any_of};
 ghost use Rattle.am_search.specs.declared.verdict.Verdict.TheVariants.{Yes, No};
-ghost use Rattle.am_judged_lists.specs.Cube.{IsCubeOf, verdict_at};
+ghost use Rattle.am_judged_lists.specs.Cube.{IsCubeOf, verdict_at, permits_position};
 ghost use Rattle.am_judged_lists.specs.Reasons.{IsReason};
 ghost use Rattle.am_search.specs.Judge.{is_yes, is_no};
-ghost use Rattle.am_judged_lists.specs.CubeView.{restricted};
-ghost use Rattle.am_judged_lists.specs.BlockView.{is_within, permits_position};
+ghost use Rattle.am_judged_lists.specs.CubeView.{restricted, AscendByLabel};
+ghost use Rattle.am_judged_lists.specs.BlockView.{is_within};
 
 use crate::JudgedList;
 use crate::mask::Mask;
@@ -21,9 +21,9 @@ use std::marker::Model;
 
 /// The permitted positions of one label.
 #[derive(Drop)]
-struct LabelMask {
-    label: usize,
-    mask: Mask,
+pub(crate) struct LabelMask {
+    pub label: usize,
+    pub mask: Mask,
 }
 
 impl LabelMask {
@@ -118,7 +118,7 @@ impl Cube {
     }
 
     /// Whether no choice is permitted.
-    pub(crate) fn is_empty(&self) -> bool
+    pub fn is_empty(&self) -> bool
         ensures { result ≡ self.now.empty }
     {
         self.empty
@@ -131,11 +131,21 @@ impl Cube {
         self.reach <= len
     }
 
-    /// The mask of a label, if it has one. It permits each position that the cube permits.
+    /// The masks, in ascending order of their labels.
+    pub(crate) fn masks(&self) -> &[LabelMask]
+        ensures masks { result.now ≡ self.now.masks }
+        ensures ascend { AscendByLabel result.now }
+    {
+        self.masks.as_slice()
+    }
+
+    /// The mask of a label, if it has one. It permits the positions that the cube permits. Without
+    /// a mask, the cube permits each position.
     pub(crate) fn mask_of(&self, label: usize) -> Option<&Mask>
-        ensures { IfSome result (λ mask. (position : ℕ)
-            → IsTrue (permits_position self.now label position)
-            → IsTrue (slice_index_or mask.now position false)) }
+        ensures some { IfSome result (λ mask. (position : ℕ)
+            → permits_position self.now label position ≡ slice_index_or mask.now position false) }
+        ensures none { IfNone result ((position : ℕ)
+            → IsTrue (permits_position self.now label position)) }
     {
         for m in &self.masks {
             if m.label == label {

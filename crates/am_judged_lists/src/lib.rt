@@ -20,6 +20,9 @@ mod mask;
 // Which positions of each label are permitted.
 mod cube;
 
+// Which choices are left in a search, and how cubes match them.
+mod position_box;
+
 // The impossible lists of a space.
 mod impossible;
 
@@ -37,6 +40,8 @@ pub use cube::Cube;
 pub use group::Group;
 pub use impossible::impossible_cubes;
 pub use judged_list::JudgedList;
+pub use mask::Part;
+pub use position_box::{Matching, PositionBox};
 pub use rows::rows_of;
 pub use table::Table;
 

@@ -1,9 +1,11 @@
 ghost use Rattle.std.specs.Prelude.{◌≡◌, ◌≢◌, ℕ, ◌+◌, ◌-◌, ◌*◌, ◌^◌, ◌<◌, ◌≤◌, ◌++◌, ◌∷◌, ◌&&◌};
 ghost use Rattle.std.specs.Prelude.{false, length, min, slice_index, slice_index_or, nat_lt, Some};
-ghost use Rattle.std.specs.Prelude.{IfOk, IfSome, IsTrue, All};
+ghost use Rattle.std.specs.Prelude.{IfOk, IfSome, IsTrue, All, ◌==◌};
 ghost use Rattle.am_labels.specs.Row.{truth_at};
 ghost use Rattle.am_judged_lists.specs.Rows.{all_allow};
 ghost use Rattle.am_judged_lists.specs.CubeView.{permits_none, permits_all};
+ghost use Rattle.am_judged_lists.specs.MaskView.{is_set};
+ghost use Rattle.am_judged_lists.specs.Boxes.{is_in_part};
 
 use am_labels::Row;
 use am_universe::Position;
@@ -12,6 +14,28 @@ use std::marker::Model;
 
 /// How many positions a word has room for.
 const WORD: usize = 64;
+
+/// One of the two parts into which a mask divides the positions of its label.
+#[derive(Clone, Copy)]
+pub enum Part {
+    /// The positions that the mask permits.
+    Within,
+    /// The positions that it does not permit.
+    Outside,
+}
+
+impl Part {
+    /// The bits of a word that are in this part. `mask` is the word of the mask at the same index.
+    fn of_word(self, word: u64, mask: u64) -> u64
+        ensures { (k : ℕ) → k < WORD
+            → is_set result k ≡ (is_set word k && is_in_part self (is_set mask k)) }
+    {
+        match self {
+            Part::Within => word & mask,
+            Part::Outside => word & !mask,
+        }
+    }
+}
 
 /// Which positions of a label are permitted. Only this file knows how they are stored.
 #[derive(Drop)]
@@ -55,7 +79,7 @@ impl Mask {
     }
 
     /// Makes the mask of all positions of a label of this size. Fails only if memory runs out.
-    fn full(alloc: Global, size: usize) -> Result<Mask, AllocError>
+    pub(crate) fn full(alloc: Global, size: usize) -> Result<Mask, AllocError>
         ensures { IfOk result (λ mask. (j : ℕ) → slice_index_or mask j false ≡ nat_lt j size) }
     {
         Ok(Mask {
@@ -105,6 +129,62 @@ impl Mask {
         }
     }
 
+    /// Takes out the positions that are not in a part, by another mask.
+    pub(crate) fn keep(&mut self, part: Part, other: &Mask)
+        ensures same { length self.new ≡ length self.old }
+        ensures kept { (j : ℕ) → slice_index_or self.new j false ≡ (slice_index_or self.old j false
+            && is_in_part part (slice_index_or other.now j false)) }
+    {
+        self.first = part.of_word(self.first, other.first);
+        for i in 0..self.more.len() {
+            self.more[i] = part.of_word(self.more[i], word_in(other.more.as_slice(), i));
+        }
+    }
+
+    /// Takes out all positions but one.
+    pub(crate) fn keep_only(&mut self, position: usize)
+        ensures same { length self.new ≡ length self.old }
+        ensures kept { (j : ℕ) → slice_index_or self.new j false
+            ≡ (slice_index_or self.old j false && j == position) }
+    {
+        self.first &= word_of_one(position, 0);
+        for i in 0..self.more.len() {
+            self.more[i] &= word_of_one(position, i + 1);
+        }
+    }
+
+    /// Whether some position is permitted and in a part, by another mask.
+    pub(crate) fn any_in(&self, part: Part, other: &Mask) -> bool
+        ensures some { IsTrue result → ((j : ℕ) → (slice_index_or self.now j false
+            && is_in_part part (slice_index_or other.now j false)) ≡ false) → ⊥ }
+        ensures none { result ≡ false → (j : ℕ) → (slice_index_or self.now j false
+            && is_in_part part (slice_index_or other.now j false)) ≡ false }
+    {
+        if part.of_word(self.first, other.first) != 0 {
+            return true;
+        }
+        for i in 0..self.more.len() {
+            if part.of_word(self.more[i], word_in(other.more.as_slice(), i)) != 0 {
+                return true;
+            }
+        }
+        false
+    }
+
+    /// Makes a copy. Fails only if memory runs out.
+    pub(crate) fn try_clone(&self, alloc: Global) -> Result<Mask, AllocError>
+        ensures same { IfOk result (λ mask. mask ≡ self.now) }
+    {
+        let mut more = Vec::with_capacity(alloc, self.more.len())?;
+        for word in self.more.as_slice() {
+            more.push(*word)?;
+        }
+        Ok(Mask {
+            first: self.first,
+            more,
+        })
+    }
+
     /// Whether a position is permitted.
     pub(crate) fn permits(&self, position: Position) -> bool
         ensures permitted { result ≡ slice_index_or self.now position false }
@@ -149,9 +229,27 @@ fn word_at(first: u64, more: &[u64], i: usize) -> u64
     if i == 0 {
         return first;
     }
-    match more.get(i - 1) {
+    word_in(more, i - 1)
+}
+
+/// The word at `i`, or 0 after the last word.
+fn word_in(words: &[u64], i: usize) -> u64
+    ensures { result ≡ slice_index words.now i }
+{
+    match words.get(i) {
         Some(word) => *word,
         None => 0,
+    }
+}
+
+/// The word at `i` of a mask that permits one position only.
+fn word_of_one(position: usize, i: usize) -> u64
+    ensures { (k : ℕ) → k < WORD → is_set result k ≡ (WORD * i + k == position) }
+{
+    if position / WORD == i {
+        1u64 << (position % WORD)
+    } else {
+        0
     }
 }
 

@@ -3,8 +3,7 @@ use Rattle.std.proofs.Common.{◌≡◌, ◌<◌, ◌≤◌, ◌+◌, ℕ, List,
 use Rattle.std.proofs.Common.{ap}
 use Rattle.std.proofs.Common.{◌∙◌, subst, arith, slice_get, Contains, IsTrue, inl, inr}
 use Rattle.std.proofs.Common.{append_assoc}
-use Rattle.std.proofs.Common.{append-nil, true, false, zero, suc, drop, take, map, Result, Ok, Err}
-use Rattle.std.proofs.Common.{IfOk}
+use Rattle.std.proofs.Common.{append-nil, true, false, zero, suc, drop, take, map}
 use Rattle.std.specs.List.{AllByRecursion, filter}
 use Rattle.std.proofs.lemmas.List.{map-append}
 use Rattle.std.proofs.lemmas.List.Elements.{filter-append}
@@ -22,12 +21,6 @@ use Rattle.am_lint.specs.declared.literals.Part.{Part}
 use Rattle.am_lint.specs.declared.table.TableRoute.{TableRoute}
 use Rattle.am_lint.specs.Literals.{is_wanted, has_route, IsAbout, HasEach, AddsPart, AreLiterals}
 use Rattle.am_lint.specs.Literals.{AreTagged, path_of, named_paths}
-
--- a property of what a call returns follows from a stronger one
-pub if_ok_more : {A E : Type 0} (r : Result A E) (P Q : A → Type 0) → ((a : A) → P a → Q a)
-    → IfOk r P → IfOk r Q
-if_ok_more (Ok a) P Q more h = more a h
-if_ok_more (Err e) P Q more h = tt
 
 -- what is added for the first routes of a table
 pub record AddsSoFar (routes : List TableRoute) (part : Part) (path : List ℕ) (n : ℕ)

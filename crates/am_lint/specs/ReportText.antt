@@ -1,6 +1,6 @@
 -- What `lint` says of routes and receivers, and its last line. (This project's own.)
 use Rattle.std.specs.Prelude.{ℕ, ◌+◌, List, [], ◌∷◌, ◌++◌, Bool, Option, Some, None, codes, decimal}
-use Rattle.std.specs.Prelude.{slice_get, unwrap_or, ◌==◌, if◌then◌else◌, true, false, count_by}
+use Rattle.std.specs.Prelude.{slice_get, unwrap_or, ◌==◌, true, false, count_by}
 use Rattle.std.specs.List.{flat_map, filter, enumerate_from}
 use Rattle.am_universe.specs.Universe.{Label}
 use Rattle.am_universe.specs.Text.{quoted_text}

@@ -95,7 +95,7 @@ fn first_ending(alloc: Global, table: &Table<'_>, path: &Path) -> Result<Option<
 {
     let mut literals = literals_to_enter(alloc, table, path)?;
     add_part(table, Part::Children, path, &mut literals)?;
-    Ok(first_meeting(&table.possible, literals.as_slice()))
+    first_meeting(alloc, &table.possible, literals.as_slice())
 }
 
 /// Returns a choice whose label set enters the route at a path, if there is one.
@@ -112,7 +112,7 @@ fn first_entering(
         (NoneIs (IsSetOf (table_space table.now)) (Enters (table_config table.now) path.now))) }
 {
     let literals = literals_to_enter(alloc, table, path)?;
-    Ok(first_meeting(&table.possible, literals.as_slice()))
+    first_meeting(alloc, &table.possible, literals.as_slice())
 }
 
 /// Returns a choice whose label set matches the way to the route at a path, if there is one.
@@ -125,7 +125,7 @@ fn first_on_way(alloc: Global, table: &Table<'_>, path: &Path) -> Result<Option<
         (MatchesWay (table_config table.now) path.now))) }
 {
     let literals = literals_of_way(alloc, table, path)?;
-    Ok(first_meeting(&table.possible, literals.as_slice()))
+    first_meeting(alloc, &table.possible, literals.as_slice())
 }
 
 /// Finds which children take all label sets that enter the route at a path. There must be no label
@@ -233,7 +233,7 @@ fn named_by_reason(
         × AreSameLiterals literals.old ks × IsReason (table_space table.now) fixed ks
         × (routes.items ≡ named_paths table.now.routes.items (drop fixed ks))) }
 {
-    find_reason(&table.possible, literals, fixed);
+    find_reason(alloc, &table.possible, literals, fixed)?;
     named_routes(alloc, table, &literals[fixed..])
 }
 

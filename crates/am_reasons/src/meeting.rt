@@ -1,6 +1,6 @@
 //! The first label set that meets the literals that are named.
 
-ghost use Rattle.std.specs.Prelude.{◌≡◌, true, IfSome, IfNone};
+ghost use Rattle.std.specs.Prelude.{◌≡◌, true, IfOk, IfSome, IfNone};
 ghost use Rattle.std.specs.List.{find};
 ghost use Rattle.am_labels.specs.Space.{all_choices, IsChoiceOf};
 ghost use Rattle.am_first_sets.specs.PossibleRefuter.{possible_space};
@@ -9,56 +9,34 @@ ghost use Rattle.am_reasons.specs.Meeting.{meets};
 
 use crate::Candidate;
 use am_first_sets::PossibleRefuter;
-use am_search::{Labels, Refuter, first_by_jumps};
+use am_search::Labels;
 use am_universe::Choice;
+use std::alloc::{AllocError, Global};
 
 /// Returns the first choice of a space, in declared order, that meets the named literals, if there
-/// is one.
-///
-/// Takes no memory.
-pub fn first_meeting(possible: &PossibleRefuter<'_>, candidates: &[Candidate<'_>]) -> Option<Choice>
-    ensures first { result ≡ find (λ c. meets c candidates.now)
-        (all_choices (possible_space possible.now)) }
-    ensures possible { IfSome result (IsChoiceOf (possible_space possible.now)) }
+/// is one. Fails only if memory runs out.
+pub fn first_meeting(
+    alloc: Global,
+    possible: &PossibleRefuter<'_>,
+    candidates: &[Candidate<'_>],
+) -> Result<Option<Choice>, AllocError>
+    ensures first { IfOk result (λ found. found ≡ find (λ c. meets c candidates.now)
+        (all_choices (possible_space possible.now))) }
+    ensures possible { IfOk result (λ found.
+        IfSome found (IsChoiceOf (possible_space possible.now))) }
 {
-    let refuter = MeetingRefuter {
-        possible,
-        candidates,
-    };
-    first_by_jumps(&refuter)
-}
-
-/// Refutes prefixes without a completion that is possible and meets the named literals.
-#[derive(Drop)]
-struct MeetingRefuter<'a> {
-    possible: &'a PossibleRefuter<'a>,
-    candidates: &'a [Candidate<'a>],
-}
-
-impl<'a> Refuter for MeetingRefuter<'a> {
-    ghost use Rattle.am_reasons.specs.MeetingRefuter.{meeting_sizes, meeting_truth};
-    ghost use Rattle.am_reasons.specs.MeetingRefuter.{meeting_are_sizes};
-
-    ghost sizes = { meeting_sizes };
-
-    ghost truth = { meeting_truth };
-
-    ghost laws = { meeting_are_sizes };
-
-    fn labels(&self) -> usize {
-        self.possible.labels()
-    }
-
-    fn size(&self, i: usize) -> usize {
-        self.possible.size(i)
-    }
-
-    fn refute(&self, prefix: &Choice) -> Option<Labels> {
-        if let Some(labels) = self.possible.refute(prefix) {
-            return Some(labels);
+    let mut wanted = Vec::new(alloc);
+    let mut unwanted = Vec::new(alloc);
+    for candidate in candidates {
+        if candidate.named {
+            if candidate.wanted {
+                wanted.push(candidate.cube)?;
+            } else {
+                unwanted.push(candidate.cube)?;
+            }
         }
-        why_unmet(self.candidates, prefix)
     }
+    possible.first_meeting(alloc, wanted.as_slice(), unwanted.as_slice())
 }
 
 /// Returns why no completion of a prefix meets the named literals, if their cubes say so: the

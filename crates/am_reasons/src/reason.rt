@@ -4,7 +4,7 @@
 //! number of literals that are named, and not with the number of all.
 
 ghost use Rattle.std.specs.Prelude.{◌≡◌, ◌⊎◌, ◌<◌, ℕ, true, false, length, slice_get, Some, IsTrue};
-ghost use Rattle.std.specs.Prelude.{IfSome, IfNone};
+ghost use Rattle.std.specs.Prelude.{IfSome, IfNone, OnOk};
 ghost use Rattle.am_first_sets.specs.PossibleRefuter.{possible_space};
 ghost use Rattle.am_reasons.specs.declared.candidate.Candidate.{Candidate};
 ghost use Rattle.am_reasons.specs.Meeting.{holds_at, hold_all, IsMet, IsUnmet, IsAnyMet};
@@ -15,24 +15,30 @@ use crate::Candidate;
 use crate::meeting::first_meeting;
 use am_first_sets::PossibleRefuter;
 use am_universe::Choice;
+use std::alloc::{AllocError, Global};
 
 /// Finds which literals are to blame if no label set of a space meets all of them, and names those.
 ///
 /// There must be no label set that meets all. The first `fixed` are named, and of the others enough
 /// that no label set meets those that are named. Each of these others is needed: without it, some
-/// label set meets the rest. Takes no memory.
+/// label set meets the rest. Fails only if memory runs out; then any of the literals may be named.
 ///
 /// The search begins with the first `fixed` alone. It looks for a label set that meets what is
 /// named, and then names the first other literal that this label set does not meet. Once there is
 /// no such label set, it leaves out what is not needed, one literal after the other.
-pub fn find_reason(possible: &PossibleRefuter<'_>, candidates: &mut [Candidate<'_>], fixed: usize)
+pub fn find_reason(
+    alloc: Global,
+    possible: &PossibleRefuter<'_>,
+    candidates: &mut [Candidate<'_>],
+    fixed: usize,
+) -> Result<(), AllocError>
     requires none { IsAnyMet (possible_space possible.now) candidates.old → ⊥ }
     ensures same { AreSameLiterals candidates.old candidates.new }
-    ensures reason { IsReason (possible_space possible.now) fixed candidates.new }
+    ensures reason { OnOk result (IsReason (possible_space possible.now) fixed candidates.new) }
 {
     name_first(candidates, fixed);
-    name_enough(possible, candidates);
-    leave_out(possible, candidates, fixed);
+    name_enough(alloc, possible, candidates)?;
+    leave_out(alloc, possible, candidates, fixed)
 }
 
 /// Names the first `count` literals, and no others.
@@ -45,21 +51,27 @@ fn name_first(candidates: &mut [Candidate<'_>], count: usize)
     }
 }
 
-/// Names further literals until no label set of a space meets those that are named.
-fn name_enough(possible: &PossibleRefuter<'_>, candidates: &mut [Candidate<'_>])
+/// Names further literals until no label set of a space meets those that are named. Fails only if
+/// memory runs out.
+fn name_enough(
+    alloc: Global,
+    possible: &PossibleRefuter<'_>,
+    candidates: &mut [Candidate<'_>],
+) -> Result<(), AllocError>
     requires none { IsAnyMet (possible_space possible.now) candidates.old → ⊥ }
     ensures same { AreSameLiterals candidates.old candidates.new }
     ensures named { (n : ℕ) → AreNamedBefore n candidates.old
         → AreNamedBefore n candidates.new }
-    ensures enough { IsUnmet (possible_space possible.now) candidates.new }
+    ensures enough { OnOk result (IsUnmet (possible_space possible.now) candidates.new) }
 {
-    while let Some(choice) = first_meeting(possible, candidates) {
+    while let Some(choice) = first_meeting(alloc, possible, candidates)? {
         match first_false(candidates, &choice) {
             Some(i) => set_named(candidates, i, true),
             // No label set meets all literals.
             None => unreachable!(),
         }
     }
+    Ok(())
 }
 
 /// Returns the position of the first literal that is false at a choice, if there is one.
@@ -78,35 +90,49 @@ fn first_false(candidates: &[Candidate<'_>], choice: &Choice) -> Option<usize>
 }
 
 /// Takes the names off literals that are not needed, from a position on. Without any one of those
-/// that are left named there, some label set of a space meets the other named literals.
-fn leave_out(possible: &PossibleRefuter<'_>, candidates: &mut [Candidate<'_>], from: usize)
+/// that are left named there, some label set of a space meets the other named literals. Fails only
+/// if memory runs out.
+fn leave_out(
+    alloc: Global,
+    possible: &PossibleRefuter<'_>,
+    candidates: &mut [Candidate<'_>],
+    from: usize,
+) -> Result<(), AllocError>
     requires first { AreNamedBefore from candidates.old }
     requires enough { IsUnmet (possible_space possible.now) candidates.old }
     ensures same { AreSameLiterals candidates.old candidates.new }
-    ensures reason { IsReason (possible_space possible.now) from candidates.new }
+    ensures reason { OnOk result (IsReason (possible_space possible.now) from candidates.new) }
 {
     for i in from..candidates.len() {
-        leave_out_at(possible, candidates, i);
+        leave_out_at(alloc, possible, candidates, i)?;
     }
+    Ok(())
 }
 
-/// Takes the name off the literal at a position, if it is not needed.
-fn leave_out_at(possible: &PossibleRefuter<'_>, candidates: &mut [Candidate<'_>], i: usize)
+/// Takes the name off the literal at a position, if it is not needed. Fails only if memory runs
+/// out.
+fn leave_out_at(
+    alloc: Global,
+    possible: &PossibleRefuter<'_>,
+    candidates: &mut [Candidate<'_>],
+    i: usize,
+) -> Result<(), AllocError>
     requires there { i < length candidates.old }
     requires enough { IsUnmet (possible_space possible.now) candidates.old }
     ensures either { (candidates.new ≡ candidates.old)
         ⊎ (candidates.new ≡ without i candidates.old) }
-    ensures enough { IsUnmet (possible_space possible.now) candidates.new }
-    ensures needed { (k : Candidate) → slice_get candidates.new i ≡ Some k → IsTrue k.named
-        → IsMet (possible_space possible.now) (without i candidates.new) }
+    ensures enough { OnOk result (IsUnmet (possible_space possible.now) candidates.new) }
+    ensures needed { OnOk result ((k : Candidate) → slice_get candidates.new i ≡ Some k
+        → IsTrue k.named → IsMet (possible_space possible.now) (without i candidates.new)) }
 {
     if !candidates[i].named {
-        return;
+        return Ok(());
     }
     set_named(candidates, i, false);
-    if first_meeting(possible, candidates).is_some() {
+    if first_meeting(alloc, possible, candidates)?.is_some() {
         set_named(candidates, i, true);
     }
+    Ok(())
 }
 
 /// Names the literal at a position, or takes its name off.

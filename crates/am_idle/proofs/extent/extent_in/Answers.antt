@@ -7,17 +7,17 @@ use Rattle.am_idle.specs.Extent.{HasSet}
 use Rattle.am_idle.proofs.FoundSets.{one_matched, one_spared, each_matched}
 use Rattle.am_idle.proofs.extent.extent_in.Goals as goal
 
-pub returns-then-not-has_set-2 : goal.returns-then-not-has_set-2
-returns-then-not-has_set-2 c =
+pub returns-then-not-spares : goal.returns-then-not-spares
+returns-then-not-spares c =
     let s = c.args.space.now in
     let ms = c.args.matchers.now in
     let same : possible_space c.in_ok-possible.possible ≡ s = c.in_ok-possible.ensures.space in
     let exact : IsCubeOf s.labels ms c.in_ok-cube.cube =
     rw c.universe.ensures.labels at c.in_ok-cube.ensures.exact in
     let cube = subst (λ (t : Space). IsCubeOf t.labels ms c.in_ok-cube.cube) (sym same) exact in
-    let has = c.has_set.ensures.some ms cube c.if-not-has_set.false in (
+    let has = c.in_ok-matches.ensures.some ms cube c.if-not-matches.false in (
       one_matched s ms (subst (λ (t : Space). HasSet t ms true) same has),
-      each_matched s ms (λ other. c.has_set-2.ensures.none ms cube c.if-not-has_set-2.true
+      each_matched s ms (λ other. c.in_ok-spares.ensures.none ms cube c.if-not-spares.true
           (subst (λ (t : Space). HasSet t ms false) (sym same) other)),
     )
 
@@ -29,8 +29,8 @@ returns c =
     let exact : IsCubeOf s.labels ms c.in_ok-cube.cube =
     rw c.universe.ensures.labels at c.in_ok-cube.ensures.exact in
     let cube = subst (λ (t : Space). IsCubeOf t.labels ms c.in_ok-cube.cube) (sym same) exact in
-    let has = c.has_set.ensures.some ms cube c.if-not-has_set.false in
-    let other = c.has_set-2.ensures.some ms cube c.if-not-has_set-2.false in (
+    let has = c.in_ok-matches.ensures.some ms cube c.if-not-matches.false in
+    let other = c.in_ok-spares.ensures.some ms cube c.if-not-spares.false in (
       one_matched s ms (subst (λ (t : Space). HasSet t ms true) same has),
       one_spared s ms (subst (λ (t : Space). HasSet t ms false) same other),
     )

@@ -10,8 +10,8 @@ returns-clause-some c = λ ms is some.
     let s = possible_space c.args.possible.now in
     let k : Candidate =
     record { cube = c.args.cube; wanted = c.args.wanted; named = true; tag = 0 } in
-    has_if_found s ms k refl is c.first_meeting.result c.first_meeting.ensures.first
-    c.first_meeting.result refl c.first_meeting.ensures.possible
+    has_if_found s ms k refl is c.in_ok-first_meeting.field-0 c.in_ok-first_meeting.ensures.first
+    c.in_ok-first_meeting.field-0 refl c.in_ok-first_meeting.ensures.possible
     (sym c.is_some.ensures ∙ some)
 
 pub returns-clause-none : goal.returns-clause-none
@@ -19,5 +19,5 @@ returns-clause-none c = λ ms is none.
     let s = possible_space c.args.possible.now in
     let k : Candidate =
     record { cube = c.args.cube; wanted = c.args.wanted; named = true; tag = 0 } in
-    none_if_unfound s ms k refl is c.first_meeting.result c.first_meeting.ensures.first
-    c.first_meeting.result refl (sym c.is_some.ensures ∙ none)
+    none_if_unfound s ms k refl is c.in_ok-first_meeting.field-0 c.in_ok-first_meeting.ensures.first
+    c.in_ok-first_meeting.field-0 refl (sym c.is_some.ensures ∙ none)

@@ -1,4 +1,7 @@
 -- The label set that is found does what the parts want, and so it matches the way.
+use Rattle.am_first_sets.proofs.FirstPossible.{found_of_space}
+use Rattle.am_first_sets.proofs.MeetingLemmas.{if_ok_more}
+use Rattle.am_reasons.specs.Meeting.{meets}
 use Rattle.am_lint.specs.Table.{table_space, table_config}
 use Rattle.am_lint.proofs.PartsEntering.{way_alone, meets_way}
 use Rattle.am_lint.proofs.PartsMet.{shown_if_found, none_if_unfound}
@@ -15,9 +18,10 @@ returns c =
     let first = rw c.as_slice.ensures.value at c.first_meeting.ensures.first in
     let means = meets_way config path c.requires.there in
     record {
-      some = shown_if_found s config routes c.requires.knows way_alone path ks are
-          c.first_meeting.result
-          _ first c.first_meeting.ensures.possible (λ set. (means set).0);
-      none = none_if_unfound s config routes c.requires.knows way_alone path ks are
-          c.first_meeting.result _ first (λ set. (means set).1);
+      some = if_ok_more c.first_meeting.result _ _ (λ found so.
+          shown_if_found s config routes c.requires.knows way_alone path ks are found _ so
+          (found_of_space s (λ d. meets d ks) found so) (λ set. (means set).0)) first;
+      none = if_ok_more c.first_meeting.result _ _ (λ found so.
+          none_if_unfound s config routes c.requires.knows way_alone path ks are found _ so
+          (λ set. (means set).1)) first;
     }

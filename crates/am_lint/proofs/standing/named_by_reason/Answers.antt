@@ -2,9 +2,10 @@
 use Rattle.std.proofs.Common.{◌≡◌, ◌-◌, ℕ, length, take, drop, List, subst, sym, ap, ◌∙◌, arith}
 use Rattle.std.proofs.Common.{length-drop}
 use Rattle.std.proofs.lemmas.List.{take_all}
+use Rattle.am_first_sets.proofs.MeetingLemmas.{if_ok_more}
 use Rattle.am_reasons.specs.declared.candidate.Candidate.{Candidate}
 use Rattle.am_lint.specs.Literals.{AreTagged, named_paths}
-use Rattle.am_lint.proofs.LiteralLemmas.{tagged_alike, tagged_behind, if_ok_more}
+use Rattle.am_lint.proofs.LiteralLemmas.{tagged_alike, tagged_behind}
 use Rattle.am_lint.proofs.standing.named_by_reason.Goals as goal
 
 left : (n : ℕ) (ks : List Candidate) → take (length ks - n) (drop n ks) ≡ drop n ks
@@ -29,7 +30,7 @@ returns c =
       reason = if_ok_more c.named_routes.result _ _ (λ found is. (
         ks,
         c.find_reason.ensures.same,
-        c.find_reason.ensures.reason,
+        c.in_ok-find_reason.ensures.reason,
         is ∙ ap (named_paths routes) (left n ks),
       )) c.named_routes.ensures;
     }

@@ -1,11 +1,12 @@
 -- The literals are those of one more part, and the named ones are a reason.
 use Rattle.std.proofs.Common.{◌≡◌, ◌+◌, ◌∷◌, ◌++◌, [], List, length, ap, ◌∙◌, subst, arith, drop}
 use Rattle.std.proofs.Common.{length-append}
+use Rattle.am_first_sets.proofs.MeetingLemmas.{if_ok_more}
 use Rattle.am_reasons.specs.declared.candidate.Candidate.{Candidate}
 use Rattle.am_reasons.specs.Reason.{AreSameLiterals, IsReason}
 use Rattle.am_lint.specs.Literals.{named_paths}
 use Rattle.am_lint.specs.Table.{table_space, table_config}
-use Rattle.am_lint.proofs.LiteralLemmas.{more_literals, all_tagged, if_ok_more}
+use Rattle.am_lint.proofs.LiteralLemmas.{more_literals, all_tagged}
 use Rattle.am_lint.proofs.PartsMet.{none_meets_all}
 use Rattle.am_lint.proofs.ReasonOfParts.{AreNamedFrom, reason_found}
 use Rattle.am_lint.proofs.standing.reason_of.Goals as goal

@@ -1,10 +1,11 @@
 -- Routes on the way are a reason by themselves.
 use Rattle.std.proofs.Common.{[], List, subst, sym}
+use Rattle.am_first_sets.proofs.MeetingLemmas.{if_ok_more}
 use Rattle.am_reasons.specs.declared.candidate.Candidate.{Candidate}
 use Rattle.am_lint.specs.Literals.{AreLiterals}
 use Rattle.am_lint.specs.Reaching.{IsSetOf}
 use Rattle.am_lint.specs.Table.{table_space, table_config}
-use Rattle.am_lint.proofs.LiteralLemmas.{no_literals, if_ok_more}
+use Rattle.am_lint.proofs.LiteralLemmas.{no_literals}
 use Rattle.am_lint.proofs.PartsEntering.{meets_way, excluded_by_parts}
 use Rattle.am_lint.proofs.standing.why_excluded.Goals as goal
 

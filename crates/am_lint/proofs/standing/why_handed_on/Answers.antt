@@ -1,7 +1,7 @@
 -- The children are a reason, together with what a label set that enters the route meets.
+use Rattle.am_first_sets.proofs.MeetingLemmas.{if_ok_more}
 use Rattle.am_lint.specs.Reaching.{IsSetOf}
 use Rattle.am_lint.specs.Table.{table_space, table_config}
-use Rattle.am_lint.proofs.LiteralLemmas.{if_ok_more}
 use Rattle.am_lint.proofs.PartsEntering.{to_enter, meets_end, handed_by_parts}
 use Rattle.am_lint.proofs.standing.why_handed_on.Goals as goal
 

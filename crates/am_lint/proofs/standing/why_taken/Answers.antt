@@ -1,7 +1,7 @@
 -- The siblings are a reason, together with the way.
+use Rattle.am_first_sets.proofs.MeetingLemmas.{if_ok_more}
 use Rattle.am_lint.specs.Reaching.{IsSetOf}
 use Rattle.am_lint.specs.Table.{table_space, table_config}
-use Rattle.am_lint.proofs.LiteralLemmas.{if_ok_more}
 use Rattle.am_lint.proofs.PartsEntering.{way_alone, meets_enter, taken_by_parts}
 use Rattle.am_lint.proofs.standing.why_taken.Goals as goal
 

@@ -22,3 +22,8 @@ returns-clause-same c =
     (same_through c.args.candidates.now c.name_first.new.candidates c.name_enough.new.candidates
     c.name_first.ensures.same c.name_enough.ensures.same)
     c.leave_out.ensures.same
+
+pub returns-in_err-name_enough-clause-same : goal.returns-in_err-name_enough-clause-same
+returns-in_err-name_enough-clause-same c =
+    same_through c.args.candidates.now c.name_first.new.candidates c.name_enough.new.candidates
+    c.name_first.ensures.same c.name_enough.ensures.same

@@ -19,7 +19,7 @@ loop-i-preserved c =
     let before = c.loop-i.candidates in
     let after = c.leave_out_at.new.candidates in
     let i = c.loop-i.i in
-    let told = c.leave_out_at.ensures in
+    let told = c.in_ok-leave_out_at.ensures in
     let so = c.loop-i.invariant in (
       same_either c.args.candidates.now before after i told.either so.0,
       named_either c.args.from i before after c.loop-i.auto.i told.either so.1,
@@ -27,3 +27,8 @@ loop-i-preserved c =
       needed_more (IsMet s) (λ j ks met. (met.0, met.1, fewer_met met.0 j ks met.2)) c.args.from i
           before after told.either told.needed so.3,
     )
+
+pub returns-in_err-leave_out_at-clause-same : goal.returns-in_err-leave_out_at-clause-same
+returns-in_err-leave_out_at-clause-same c =
+    same_either c.args.candidates.now c.loop-i.candidates c.leave_out_at.new.candidates c.loop-i.i
+    c.leave_out_at.ensures.either c.loop-i.invariant.0

@@ -35,8 +35,9 @@ returns-then-is_some-clause-needed c = λ k at named.
     let back = put_back (goal.at.returns-then-is_some-clause-needed c).After-set_named-then-is_some in
     subst (IsMet s)
     (c.set_named.ensures ∙ ap (without c.args.i) (sym back))
-    (met_if s c.set_named.new.candidates c.first_meeting.result c.first_meeting.ensures.first
-    c.first_meeting.ensures.possible (sym c.is_some.ensures ∙ c.if-is_some.true))
+    (met_if s c.set_named.new.candidates c.in_ok-first_meeting.field-0
+    c.in_ok-first_meeting.ensures.first c.in_ok-first_meeting.ensures.possible
+    (sym c.is_some.ensures ∙ c.if-is_some.true))
 
 pub returns-else-is_some-clause-needed : goal.returns-else-is_some-clause-needed
 returns-else-is_some-clause-needed c = λ k at named.

@@ -23,16 +23,16 @@ pub loop-choice-smaller : goal.loop-choice-smaller
 loop-choice-smaller c =
     subst (λ (ks : List Candidate). count_unnamed ks < count_unnamed c.loop-choice.candidates)
     (sym c.set_named.ensures)
-    (one_more (possible_space c.args.possible.now) c.loop-choice.candidates
-    c.first_meeting.result c.in-Some.choice c.in-Some-first_false.i c.first_meeting.ensures.first
-    c.in-Some.is c.in-Some-first_false.ensures.within c.in-Some-first_false.ensures.some)
+    (one_more (possible_space c.args.possible.now) c.loop-choice.candidates c.in_ok-choice.field-0
+    c.in-Some.choice c.in-Some-first_false.i c.in_ok-choice.ensures.first c.in-Some.is
+    c.in-Some-first_false.ensures.within c.in-Some-first_false.ensures.some)
 
 pub unreachable-requires : goal.unreachable-requires
 unreachable-requires c =
     let choice = c.in-Some.choice in
     c.requires.none (
       choice,
-      c.in-Some.ensures.possible,
+      rw c.in-Some.is at c.in_ok-choice.ensures.possible,
       hold_alike choice c.args.candidates.now c.loop-choice.candidates
           c.loop-choice.invariant.0 c.in-None.ensures.none,
     )

@@ -1,6 +1,6 @@
 use Rattle.std.proofs.Common.{◌≡◌, length, get_or, sym, ◌∙◌, subst, IsTrue, arith}
 use Rattle.std.proofs.lemmas.Option.{slice_get_read}
-use Rattle.am_judged_lists.specs.BlockView.{permits_position}
+use Rattle.am_judged_lists.specs.Cube.{permits_position}
 use Rattle.am_judged_lists.proofs.BlockLemmas.{permits_prefix}
 use Rattle.am_judged_lists.proofs.block.LabelRows.narrow.Goals as goal
 

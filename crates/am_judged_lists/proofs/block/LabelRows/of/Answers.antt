@@ -1,7 +1,7 @@
 use Rattle.std.proofs.Common.{◌≡◌, ◌<◌, get_or, sym, ap, subst, ◌∙◌, IsTrue, arith}
 use Rattle.std.proofs.lemmas.Option.{slice_get_within, get_or_from_slice_get}
 use Rattle.am_judged_lists.specs.declared.list_set.TheConstants.{ROOM}
-use Rattle.am_judged_lists.specs.BlockView.{permits_position}
+use Rattle.am_judged_lists.specs.Cube.{permits_position}
 use Rattle.am_judged_lists.proofs.block.LabelRows.of.Goals as goal
 use Rattle.am_judged_lists.proofs.block.LabelRows.of.Goals.{in-Some, in_default}
 
@@ -16,7 +16,7 @@ loop-k-preserved c = λ i cube at position permits.
           (w.take_out.ensures position i room
           (λ same.
           let is : here ≡ cube = c.index-cubes-k.is ∙ ap (λ n. get_or cubes n here) (sym same) ∙ get_or_from_slice_get cubes i cube here at in
-          w.in-Some.ensures position (subst (λ x. IsTrue (permits_position x c.args.label position)) (sym is) permits))
+          sym (w.in-Some.ensures.some position) ∙ subst (λ x. IsTrue (permits_position x c.args.label position)) (sym is) permits)
           so_far)
       | in_default w ↦ rw w.rows-is so_far
     ]

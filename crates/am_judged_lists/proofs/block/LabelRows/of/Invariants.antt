@@ -1,6 +1,6 @@
 use Rattle.std.proofs.Common.{◌≡◌, ℕ, slice_get, Some, IsTrue}
-use Rattle.am_judged_lists.specs.Cube.{MaskedLabels}
-use Rattle.am_judged_lists.specs.BlockView.{permits_position, IsInRow}
+use Rattle.am_judged_lists.specs.Cube.{MaskedLabels, permits_position}
+use Rattle.am_judged_lists.specs.BlockView.{IsInRow}
 use Rattle.am_judged_lists.proofs.block.LabelRows.of.Given as goal
 
 -- each cube is in the rows of the positions that it permits

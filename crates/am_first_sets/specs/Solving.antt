@@ -1,0 +1,54 @@
+-- The search for choices of a box that no cube of some matches.
+use Rattle.std.specs.Prelude.{◌≡◌, ◌↔◌, ℕ, ◌<◌, List, length, slice_get, slice_index, Some, Bool}
+use Rattle.std.specs.Prelude.{false, not, IsTrue}
+use Rattle.std.specs.Borrow.{Bor}
+use Rattle.std.specs.List.{list_all}
+use Rattle.am_universe.specs.Choice.{IsWhole}
+use Rattle.am_first_sets.specs.declared.solver.Step.{Step}
+use Rattle.am_first_sets.specs.declared.solver.Step.TheVariants.{Done, Refuted, Narrow, Split}
+use Rattle.am_judged_lists.specs.Cube.{MaskedLabels, matches, permits_position}
+use Rattle.am_judged_lists.specs.Boxes.{IsInBox, HasChoice, IsOpen}
+
+-- No cube of some matches a choice.
+abbrev pub avoids : List (Bor MaskedLabels) → List ℕ → Bool
+avoids cubes c = list_all (λ cube. not (matches cube.now c)) cubes
+
+-- A box is an answer: it has a choice, and all its choices are in the box where the search starts,
+-- and avoid the cubes.
+pub record IsAnswer (start : List (List Bool)) (cubes : List (Bor MaskedLabels))
+    (b : List (List Bool)) : Type 0 where
+  pub some : HasChoice b
+  pub inside : (c : List ℕ) → IsInBox b c → IsInBox start c
+  pub avoided : (c : List ℕ) → IsInBox b c → IsTrue (avoids cubes c)
+
+-- There is no answer: each choice of a box is matched by one of the cubes.
+abbrev pub NoneAvoids : List (List Bool) → List (Bor MaskedLabels) → Type 0
+NoneAvoids start cubes = (c : List ℕ) → IsInBox start c → avoids cubes c ≡ false
+
+-- The next step for a box. `Done`: all its choices avoid the cubes. `Refuted`: none does. `Split`:
+-- the label is open for the cube at an index. `Narrow`: it is, and the cube matches exactly the
+-- choices whose position of this label it permits.
+abbrev pub IsStep : List (List Bool) → List (Bor MaskedLabels) → Step → Type 0
+IsStep b cubes Done = (c : List ℕ) → IsInBox b c → IsTrue (avoids cubes c)
+IsStep b cubes Refuted = NoneAvoids b cubes
+IsStep b cubes (Split k label) =
+    (k < length cubes)
+    × ((cube : Bor MaskedLabels) → slice_get cubes k ≡ Some cube → IsOpen b cube.now label)
+IsStep b cubes (Narrow k label) =
+    (k < length cubes)
+    × ((cube : Bor MaskedLabels) → slice_get cubes k ≡ Some cube → IsOpen b cube.now label
+    × ((c : List ℕ) → IsInBox b c
+    → matches cube.now c ≡ permits_position cube.now label (slice_index c label)))
+
+-- A test is true of exactly the choices of a box that avoid the cubes, among the whole choices over
+-- labels of some sizes.
+abbrev pub IsTestOf : List ℕ → (List ℕ → Bool) → List (List Bool) → List (Bor MaskedLabels)
+    → Type 0
+IsTestOf ns test start cubes =
+    (c : List ℕ) → IsWhole ns c
+    → IsTrue (test c) ↔ IsInBox start c × IsTrue (avoids cubes c)
+
+-- A position is the least of a label that a choice of a box has which avoids the cubes.
+abbrev pub IsLeast : List (List Bool) → List (Bor MaskedLabels) → ℕ → ℕ → Type 0
+IsLeast b cubes label position =
+    (c : List ℕ) → IsInBox b c → IsTrue (avoids cubes c) → slice_index c label < position → ⊥

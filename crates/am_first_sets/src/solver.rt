@@ -1,0 +1,196 @@
+//! The search for a choice that no cube of some matches.
+//!
+//! A cube that misses a box matches none of its choices, and is done with. Of the others, one that
+//! covers the box leaves no choice; from one with a single open label, its positions are taken out
+//! of the box there; and if each has more, the box is split at an open label of a cube that has the
+//! fewest. When no cube is left, every choice of the box is an answer. (Davis, Putnam, Logemann and
+//! Loveland, 1962: unit propagation and splitting.)
+
+ghost use Rattle.std.specs.Prelude.{◌≡◌, ℕ, ◌<◌, List, length, slice_index, Bool, IfOk, IfSome};
+ghost use Rattle.std.specs.Prelude.{◌↔◌, IfNone, OnOk, IsTrue};
+ghost use Rattle.std.specs.List.{find};
+ghost use Rattle.am_universe.specs.Universe.{sizes};
+ghost use Rattle.am_universe.specs.Choice.{IsWhole, choices};
+ghost use Rattle.am_judged_lists.specs.Boxes.{IsInBox};
+ghost use Rattle.am_first_sets.specs.Solving.{IsAnswer, NoneAvoids, IsStep, IsTestOf, IsLeast};
+ghost use Rattle.am_first_sets.specs.Solving.{avoids};
+
+use am_judged_lists::{Cube, Matching, Part, PositionBox};
+use am_universe::{Choice, Position, Universe};
+use std::alloc::{AllocError, Global};
+
+/// What to do next with a box.
+#[derive(Clone, Copy)]
+enum Step {
+    /// No cube matches a choice of it.
+    Done,
+    /// A cube matches all its choices.
+    Refuted,
+    /// The cube at an index has only one open label, this one.
+    Narrow(usize, usize),
+    /// The cube at an index has the fewest open labels of all, and this is one of them.
+    Split(usize, usize),
+}
+
+/// An open label of the cube at an index, and how many open labels it has.
+#[derive(Clone, Copy)]
+struct Open {
+    index: usize,
+    label: usize,
+    labels: usize,
+}
+
+/// Finds choices of a box that none of some cubes matches.
+///
+/// Returns a box with some choice, all of whose choices are in the given box and matched by no
+/// cube, or `None` if there is no such choice. Fails only if memory runs out.
+pub fn solve(
+    alloc: Global,
+    start: PositionBox,
+    unwanted: &[&Cube],
+) -> Result<Option<PositionBox>, AllocError>
+    ensures found { IfOk result (λ found. IfSome found (IsAnswer start unwanted.now)) }
+    ensures none { IfOk result (λ found. IfNone found (NoneAvoids start unwanted.now)) }
+{
+    let mut stack = Vec::new(alloc);
+    if start.has_choice() {
+        stack.push(start)?;
+    }
+    while let Some(mut positions) = stack.pop() {
+        match next_step(&positions, unwanted) {
+            Step::Done => return Ok(Some(positions)),
+            Step::Refuted => {}
+            Step::Narrow(index, label) => {
+                positions.keep(unwanted[index], label, Part::Outside);
+                stack.push(positions)?;
+            }
+            Step::Split(index, label) => {
+                let mut within = positions.try_clone(alloc)?;
+                within.keep(unwanted[index], label, Part::Within);
+                positions.keep(unwanted[index], label, Part::Outside);
+                stack.push(within)?;
+                stack.push(positions)?;
+            }
+        }
+    }
+    Ok(None)
+}
+
+/// Returns the next step for a box. Takes no memory.
+fn next_step(positions: &PositionBox, unwanted: &[&Cube]) -> Step
+    ensures { IsStep positions.now unwanted.now result }
+{
+    let mut fewest: Option<Open> = None;
+    for index in 0..unwanted.len() {
+        match positions.matching(unwanted[index]) {
+            Matching::Misses => {}
+            Matching::Covers => return Step::Refuted,
+            Matching::Opens(label, 1) => return Step::Narrow(index, label),
+            Matching::Opens(label, labels) => {
+                let is_fewer = match fewest {
+                    Some(open) => labels < open.labels,
+                    None => true,
+                };
+                if is_fewer {
+                    fewest = Some(Open {
+                        index,
+                        label,
+                        labels,
+                    });
+                }
+            }
+        }
+    }
+    match fewest {
+        Some(open) => Step::Split(open.index, open.label),
+        None => Step::Done,
+    }
+}
+
+/// Returns the first choice of a box, in declared order, that none of some cubes matches.
+///
+/// The choices of the box must be choices of the universe. Returns `None` if there is no such
+/// choice. Fails only if memory runs out.
+pub fn first_avoiding(
+    alloc: Global,
+    universe: &Universe,
+    start: PositionBox,
+    unwanted: &[&Cube],
+) -> Result<Option<Choice>, AllocError>
+    requires { (c : List ℕ) → IsInBox start c → IsWhole (sizes universe.now) c }
+    ensures first { IfOk result (λ found. (test : List ℕ → Bool)
+        → IsTestOf (sizes universe.now) test start unwanted.now
+        → found ≡ find test (choices (sizes universe.now))) }
+{
+    let cubes = meeting_cubes(alloc, &start, unwanted)?;
+    let Some(mut found) = solve(alloc, start.try_clone(alloc)?, cubes.as_slice())? else {
+        return Ok(None);
+    };
+    let mut left = start;
+    let mut choice = Choice::empty();
+    for label in 0..universe.len() {
+        let size = universe.size(label);
+        let position = fix_least(alloc, &mut left, &mut found, label, size, cubes.as_slice())?;
+        choice.push(position as Position);
+    }
+    Ok(Some(choice))
+}
+
+/// The cubes that match some choice of a box, perhaps. The others never matter. Fails only if
+/// memory runs out.
+fn meeting_cubes<'a>(
+    alloc: Global,
+    start: &PositionBox,
+    unwanted: &[&'a Cube],
+) -> Result<Vec<&'a Cube>, AllocError>
+    ensures same { IfOk result (λ cubes. (c : List ℕ) → IsInBox start.now c
+        → avoids cubes.items c ≡ avoids unwanted.now c) }
+{
+    let mut cubes = Vec::new(alloc);
+    for cube in unwanted {
+        match start.matching(cube) {
+            Matching::Misses => {}
+            _ => cubes.push(*cube)?,
+        }
+    }
+    Ok(cubes)
+}
+
+/// Takes out all positions of a label but the least that some choice of `left` has which no cube
+/// matches, and returns it. `found` is a box of such choices, before and after.
+fn fix_least(
+    alloc: Global,
+    left: &mut PositionBox,
+    found: &mut PositionBox,
+    label: usize,
+    size: usize,
+    unwanted: &[&Cube],
+) -> Result<usize, AllocError>
+    requires label { label < length left.old }
+    requires below { (c : List ℕ) → IsInBox left.old c → slice_index c label < size }
+    requires found { IsAnswer left.old unwanted.now found.old }
+    ensures least { IfOk result (IsLeast left.old unwanted.now label) }
+    ensures position { IfOk result (λ position. position < size) }
+    ensures fixed { IfOk result (λ position. (c : List ℕ) → IsInBox left.new c
+        ↔ IsInBox left.old c × (slice_index c label ≡ position)) }
+    ensures found { OnOk result (IsAnswer left.new unwanted.now found.new) }
+{
+    for position in 0..size {
+        if found.permits(label, position) {
+            left.keep_only(label, position);
+            found.keep_only(label, position);
+            return Ok(position);
+        }
+        if left.permits(label, position) {
+            let mut fixed = left.try_clone(alloc)?;
+            fixed.keep_only(label, position);
+            if let Some(answer) = solve(alloc, fixed, unwanted)? {
+                left.keep_only(label, position);
+                *found = answer;
+                return Ok(position);
+            }
+        }
+    }
+    // Some position is that of a choice in `found`.
+    unreachable!()
+}
