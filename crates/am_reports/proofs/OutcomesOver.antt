@@ -1,5 +1,6 @@
 -- The outcomes of a space that stands for the alerts that count are those of these alerts.
 use Rattle.std.proofs.Common.{◌≡◌, Bool, ℕ, List, [], ◌∷◌, map, Contains, refl, sym, subst, ◌∙◌}
+use Rattle.std.proofs.Common.{Result, Ok, Err, IfErr, OnOk}
 use Rattle.std.specs.Cmp.Lexicographic.{bytes_decides}
 use lib.Pointwise.{pointwise_decides}
 use Rattle.am_universe.specs.declared.kind.Kind.TheVariants as kinds
@@ -157,3 +158,14 @@ too_many a k s o t u r first second labels stands many refusal = record {
       (second ∙ first) many;
   refusal = refusal;
 }
+
+-- ---- What follows of a result.
+
+pub on_ok : {A E : Type 0} (r : Result A E) {P : Type 0} → P → OnOk r P
+on_ok (Ok a) is = is
+on_ok (Err e) is = tt
+
+pub if_err_more : {A E : Type 0} (r : Result A E) (P Q : E → Type 0) → ((e : E) → P e → Q e)
+    → IfErr r P → IfErr r Q
+if_err_more (Ok a) P Q more is = tt
+if_err_more (Err e) P Q more is = more e is

@@ -6,7 +6,7 @@
 //! choice is an alert. The labels are in the order in which the files first ask about them, the
 //! old configuration before the new one.
 
-ghost use Rattle.std.specs.Prelude.{◌≡◌, ◌≢◌, IfOk, IfErr, option_copied};
+ghost use Rattle.std.specs.Prelude.{◌≡◌, ◌≢◌, IfOk, IfErr, OnOk, option_copied};
 ghost use Rattle.am_universe.specs.declared.kind.Kind.TheVariants as kinds;
 ghost use Rattle.am_universe.specs.declared.place.Place.TheVariants as places;
 ghost use Rattle.am_json.specs.Pointer.{refusal_here};
@@ -27,15 +27,9 @@ use am_outcomes::{Outcomes, find_outcomes};
 use am_universe::{Fault, Kind, Place, Universe};
 use std::alloc::Global;
 
-/// Outcomes, and the space whose choices have them.
-#[derive(Drop)]
-pub(crate) struct AllOutcomes {
-    pub space: Space,
-    pub outcomes: Outcomes,
-}
-
 /// Finds the outcomes of every alert that counts, under each of the configurations. The labels that
-/// the universe file declares are checked first.
+/// the universe file declares are checked first. Then the space gets the universe whose choices
+/// have the outcomes.
 ///
 /// Fails as [`check_declared`] and [`universe_for_routes`] do; then with `Limit`, at `Universe`, if
 /// more states have to be told apart than there is room for; and with `Memory`.
@@ -43,35 +37,30 @@ pub(crate) fn all_outcomes(
     alloc: Global,
     ascii: bool,
     file: Option<&[u8]>,
-    space: Space,
+    space: &mut Space,
     configs: Configs<'_>,
-) -> Result<AllOutcomes, Fault>
-    ensures whole { IfOk result (λ all. SaysUniverseIfAny (option_copied file.entry) space
-        → AreDeclaredWhole (alphabet_of ascii) space (configurations_of configs.entry)
-        space.labels) }
-    ensures stands { IfOk result (λ all. StandsForAll (alphabet_of ascii) space
-        (configurations_of configs.entry) all.space.labels) }
-    ensures impossible { IfOk result (λ all. all.space.impossible ≡ space.impossible) }
-    ensures outcomes { IfOk result (λ all.
-        all.outcomes ≡ outcomes_of all.space (each_of (configurations_of configs.entry))) }
+) -> Result<Outcomes, Fault>
+    ensures whole { OnOk result (SaysUniverseIfAny (option_copied file.entry) space.old
+        → AreDeclaredWhole (alphabet_of ascii) space.old (configurations_of configs.entry)
+        space.old.labels) }
+    ensures stands { OnOk result (StandsForAll (alphabet_of ascii) space.old
+        (configurations_of configs.entry) space.new.labels) }
+    ensures impossible { OnOk result (space.new.impossible ≡ space.old.impossible) }
+    ensures outcomes { IfOk result (λ outcomes.
+        outcomes ≡ outcomes_of space.new (each_of (configurations_of configs.entry))) }
     ensures refused { IfErr result (λ fault. fault.kind ≢ kinds.Memory
-        → SaysUniverseIfAny (option_copied file.entry) space
-        → IsOutcomesRefusal (alphabet_of ascii) space (configurations_of configs.entry)
+        → SaysUniverseIfAny (option_copied file.entry) space.old
+        → IsOutcomesRefusal (alphabet_of ascii) space.old (configurations_of configs.entry)
         fault.place (refusal_of fault)) }
 {
     let alphabet = alphabet_of(ascii);
-    let mut made = space;
     if file.is_some() {
-        check_declared(alloc, alphabet, &made, configs)?;
+        check_declared(alloc, alphabet, space, configs)?;
     }
-    made.declare(Universe::empty(alloc));
-    let universe = universe_for_routes(alloc, alphabet, &made, configs)?;
-    made.declare(universe);
-    let outcomes = outcomes_told_apart(alloc, &made, configs)?;
-    Ok(AllOutcomes {
-        space: made,
-        outcomes,
-    })
+    space.declare(Universe::empty(alloc));
+    let universe = universe_for_routes(alloc, alphabet, space, configs)?;
+    space.declare(universe);
+    outcomes_told_apart(alloc, space, configs)
 }
 
 /// Finds the outcomes of the choices of a space.

@@ -1,6 +1,6 @@
 //! The command `compare`.
 
-ghost use Rattle.std.specs.Prelude.{◌≡◌, IfOk, IfErr, string_bytes};
+ghost use Rattle.std.specs.Prelude.{◌≡◌, IfOk, IfErr, OnOk, string_bytes};
 ghost use Rattle.am_config.specs.ConfigView.{config_view};
 ghost use Rattle.am_eval.specs.Faults.{IsFirstFault};
 ghost use Rattle.am_eval.specs.Promise.{IsKept};
@@ -14,8 +14,10 @@ ghost use Rattle.am_reports.specs.Comparing.{compare_promise, IsComparison};
 
 use crate::CompareInputs;
 use crate::all_outcomes::all_outcomes;
-use crate::compare_inputs::{Compared, read_compared};
+use crate::compare_inputs::read_compared;
 use crate::configs::Configs;
+use am_config::Config;
+use am_labels::Space;
 use am_outcomes::{Changes, changes_text};
 use am_universe::{Fault, Sink, answer_of_write, put_str};
 use std::alloc::Global;
@@ -49,8 +51,8 @@ pub fn compare<W: Sink>(
     // and each line shows an alert.
     ensures kept { IsKept (compare_promise inputs.now) W.taken W.failures out.old out.new result }
 {
-    let read = read_compared(alloc, inputs)?;
-    let changes = changes_of_inputs(alloc, inputs, read)?;
+    let mut read = read_compared(alloc, inputs)?;
+    let changes = changes_of_inputs(alloc, inputs, &mut read.space, &read.old, &read.new)?;
     answer_of_write(
         alloc,
         put_str(out, changes.text.as_str()).and(Ok(changes.count)),
@@ -61,24 +63,25 @@ pub fn compare<W: Sink>(
 fn changes_of_inputs(
     alloc: Global,
     inputs: &CompareInputs<'_>,
-    read: Compared,
+    space: &mut Space,
+    old: &Config,
+    new: &Config,
 ) -> Result<Changes, Fault>
-    ensures whole { IfOk result (λ changes. AcceptsCompareInputs inputs.now read.space
-        (config_view read.old) (config_view read.new)
-        → AreDeclaredWhole (alphabet_of inputs.now.ascii) read.space
-        (Pair (config_view read.old) (config_view read.new)) read.space.labels) }
-    ensures compares { IfOk result (λ changes. IsComparison inputs.now.ascii read.space
-        (config_view read.old) (config_view read.new) changes.count
+    ensures whole { OnOk result (AcceptsCompareInputs inputs.now space.old
+        (config_view old.now) (config_view new.now)
+        → AreDeclaredWhole (alphabet_of inputs.now.ascii) space.old
+        (Pair (config_view old.now) (config_view new.now)) space.old.labels) }
+    ensures compares { IfOk result (λ changes. IsComparison inputs.now.ascii space.old
+        (config_view old.now) (config_view new.now) changes.count
         (string_bytes changes.text)) }
-    ensures first { IfErr result (λ fault. AcceptsCompareInputs inputs.now read.space
-        (config_view read.old) (config_view read.new)
+    ensures first { IfErr result (λ fault. AcceptsCompareInputs inputs.now space.old
+        (config_view old.now) (config_view new.now)
         → IsFirstFault (outcome_stages (AcceptsCompare inputs.now) compare_places
         (alphabet_of inputs.now.ascii)) fault) }
 {
-    let (space, old, new) = (read.space, read.old, read.new);
-    let configs = Configs::Pair(&old, &new);
-    let all = all_outcomes(alloc, inputs.ascii, inputs.universe, space, configs)?;
-    match changes_text(alloc, all.space.universe(), &old, &new, &all.outcomes) {
+    let configs = Configs::Pair(old, new);
+    let outcomes = all_outcomes(alloc, inputs.ascii, inputs.universe, space, configs)?;
+    match changes_text(alloc, space.universe(), old, new, &outcomes) {
         Ok(changes) => Ok(changes),
         Err(_) => Err(Fault::memory(alloc)),
     }

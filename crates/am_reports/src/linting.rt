@@ -9,10 +9,12 @@ ghost use Rattle.am_reports.specs.Linting.{lint_promise, IsLinted, later_stages}
 use crate::LintInputs;
 use crate::configs::Configs;
 use crate::finding_sections::{rule_section, silence_section, value_section};
-use crate::lint_inputs::{ReadWorld, read_lint_inputs};
+use crate::lint_inputs::read_lint_inputs;
 use crate::made::{alphabet_of, check_declared};
 use crate::route_section::route_section;
 use crate::section::{LintReport, report_of};
+use am_eval::World;
+use am_labels::Space;
 use am_universe::{Fault, Sink, Universe, answer_of_write, put_str};
 use std::alloc::Global;
 
@@ -47,32 +49,36 @@ pub fn lint<W: Sink>(alloc: Global, inputs: &LintInputs<'_>, out: &mut W) -> Res
     // What the report says about each route, receiver, rule, silence and value is true.
     ensures kept { IsKept (lint_promise inputs.now) W.taken W.failures out.old out.new result }
 {
-    let read = read_lint_inputs(alloc, inputs)?;
-    let lint = lint_report(alloc, inputs, read)?;
+    let mut read = read_lint_inputs(alloc, inputs)?;
+    let lint = lint_report(alloc, inputs, &mut read.space, &read.world)?;
     answer_of_write(
         alloc,
         put_str(out, lint.text.as_str()).and(Ok(lint.findings > 0)),
     )
 }
 
-/// Makes the report on the inputs that were read.
-fn lint_report(alloc: Global, inputs: &LintInputs<'_>, read: ReadWorld) -> Result<LintReport, Fault>
-    ensures reports { IfOk result (λ report. AcceptsLintInputs inputs.now read.space read.world
-        → IsLinted inputs.now read.space read.world report.findings (string_bytes report.text)) }
-    ensures first { IfErr result (λ fault. AcceptsLintInputs inputs.now read.space read.world
+/// Makes the report on the inputs that were read. At the end the space has no labels.
+fn lint_report(
+    alloc: Global,
+    inputs: &LintInputs<'_>,
+    space: &mut Space,
+    world: &World,
+) -> Result<LintReport, Fault>
+    ensures reports { IfOk result (λ report. AcceptsLintInputs inputs.now space.old world.now
+        → IsLinted inputs.now space.old world.now report.findings (string_bytes report.text)) }
+    ensures first { IfErr result (λ fault. AcceptsLintInputs inputs.now space.old world.now
         → IsFirstFault (later_stages inputs.now) fault) }
 {
-    let (mut space, world) = (read.space, read.world);
     let alphabet = alphabet_of(inputs.is_ascii());
     if inputs.has_universe() {
-        check_declared(alloc, alphabet, &space, Configs::One(world.config()))?;
+        check_declared(alloc, alphabet, space, Configs::One(world.config()))?;
     }
     space.declare(Universe::empty(alloc));
-    let routes = route_section(alloc, inputs.is_ascii(), &mut space, world.config())?;
-    let rules = rule_section(alloc, alphabet, &mut space, world.config().rules())?;
+    let routes = route_section(alloc, inputs.is_ascii(), space, world.config())?;
+    let rules = rule_section(alloc, alphabet, space, world.config().rules())?;
     let given = inputs.has_alerts();
-    let silences = silence_section(alloc, alphabet, &mut space, &world, given)?;
-    let Ok(values) = value_section(alloc, &world, given) else {
+    let silences = silence_section(alloc, alphabet, space, world, given)?;
+    let Ok(values) = value_section(alloc, world, given) else {
         return Err(Fault::memory(alloc));
     };
     match report_of(alloc, &routes, &rules, &silences, &values) {

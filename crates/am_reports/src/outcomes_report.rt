@@ -1,6 +1,6 @@
 //! The command `outcomes`.
 
-ghost use Rattle.std.specs.Prelude.{◌≡◌, IfOk, IfErr, string_bytes};
+ghost use Rattle.std.specs.Prelude.{◌≡◌, IfOk, IfErr, OnOk, string_bytes};
 ghost use Rattle.am_config.specs.ConfigView.{config_view};
 ghost use Rattle.am_eval.specs.Faults.{IsFirstFault};
 ghost use Rattle.am_eval.specs.Promise.{IsKept};
@@ -14,7 +14,9 @@ ghost use Rattle.am_reports.specs.OutcomesReport.{outcomes_promise, IsOutcomesRe
 use crate::ReportInputs;
 use crate::all_outcomes::all_outcomes;
 use crate::configs::Configs;
-use crate::report_inputs::{ReadInputs, read_inputs};
+use crate::report_inputs::read_inputs;
+use am_config::Config;
+use am_labels::Space;
 use am_outcomes::outcomes_text;
 use am_universe::{Fault, Sink, answer_of_write, put_str};
 use std::alloc::Global;
@@ -49,8 +51,8 @@ pub fn outcomes<W: Sink>(alloc: Global, inputs: &ReportInputs<'_>, out: &mut W) 
     // Each alert goes to the receivers of one of the lines, and each line shows an alert.
     ensures kept { IsKept (outcomes_promise inputs.now) W.taken W.failures out.old out.new result }
 {
-    let read = read_inputs(alloc, inputs)?;
-    let text = outcomes_of_inputs(alloc, inputs, read)?;
+    let mut read = read_inputs(alloc, inputs)?;
+    let text = outcomes_of_inputs(alloc, inputs, &mut read.space, &read.config)?;
     answer_of_write(alloc, put_str(out, text.as_str()))
 }
 
@@ -58,21 +60,21 @@ pub fn outcomes<W: Sink>(alloc: Global, inputs: &ReportInputs<'_>, out: &mut W) 
 fn outcomes_of_inputs(
     alloc: Global,
     inputs: &ReportInputs<'_>,
-    read: ReadInputs,
+    space: &mut Space,
+    config: &Config,
 ) -> Result<String, Fault>
-    ensures whole { IfOk result (λ text. AcceptsReportInputs inputs.now read.space
-        (config_view read.config) → AreDeclaredWhole (alphabet_of inputs.now.ascii) read.space
-        (One (config_view read.config)) read.space.labels) }
-    ensures reports { IfOk result (λ text. IsOutcomesReport inputs.now.ascii read.space
-        (config_view read.config) (string_bytes text)) }
-    ensures first { IfErr result (λ fault. AcceptsReportInputs inputs.now read.space
-        (config_view read.config) → IsFirstFault (outcome_stages (AcceptsReport inputs.now)
+    ensures whole { OnOk result (AcceptsReportInputs inputs.now space.old
+        (config_view config.now) → AreDeclaredWhole (alphabet_of inputs.now.ascii) space.old
+        (One (config_view config.now)) space.old.labels) }
+    ensures reports { IfOk result (λ text. IsOutcomesReport inputs.now.ascii space.old
+        (config_view config.now) (string_bytes text)) }
+    ensures first { IfErr result (λ fault. AcceptsReportInputs inputs.now space.old
+        (config_view config.now) → IsFirstFault (outcome_stages (AcceptsReport inputs.now)
         report_places (alphabet_of inputs.now.ascii)) fault) }
 {
-    let (space, config) = (read.space, read.config);
-    let configs = Configs::One(&config);
-    let all = all_outcomes(alloc, inputs.ascii, inputs.universe, space, configs)?;
-    match outcomes_text(alloc, all.space.universe(), &config, &all.outcomes) {
+    let configs = Configs::One(config);
+    let outcomes = all_outcomes(alloc, inputs.ascii, inputs.universe, space, configs)?;
+    match outcomes_text(alloc, space.universe(), config, &outcomes) {
         Ok(text) => Ok(text),
         Err(_) => Err(Fault::memory(alloc)),
     }

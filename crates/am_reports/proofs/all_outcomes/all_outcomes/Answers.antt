@@ -12,7 +12,7 @@ use Rattle.am_reports.specs.LaterStages.{IsOutcomesRefusal}
 use Rattle.am_reports.specs.Made.{StandsForAll, AreDeclaredWhole}
 use Rattle.am_reports.proofs.InputStages.{no_label}
 use Rattle.am_reports.proofs.RoutesAsked.{refused_as, stands_as}
-use Rattle.am_reports.proofs.OutcomesOver.{too_many}
+use Rattle.am_reports.proofs.OutcomesOver.{too_many, on_ok, if_err_more}
 use Rattle.am_reports.proofs.all_outcomes.all_outcomes.Goals as goal
 use Rattle.am_reports.proofs.all_outcomes.all_outcomes.Goals.{After-alphabet_of-alphabet, After-declare}
 use Rattle.am_reports.proofs.all_outcomes.all_outcomes.Goals.{else-is_some}
@@ -21,16 +21,16 @@ use Rattle.am_reports.proofs.all_outcomes.all_outcomes.Goals.{then-is_some+in_ok
 -- a fault is one that the contract allows
 abbrev IsRefused : (c : After-alphabet_of-alphabet) → Fault → Type 0
 IsRefused c f =
-    f.kind ≢ kinds.Memory → SaysUniverseIfAny (option_copied c.args.file) c.args.space
-    → IsOutcomesRefusal (alphabet_of c.args.ascii) c.args.space (configurations_of c.args.configs)
+    f.kind ≢ kinds.Memory → SaysUniverseIfAny (option_copied c.args.file) c.args.space.now
+    → IsOutcomesRefusal (alphabet_of c.args.ascii) c.args.space.now (configurations_of c.args.configs)
     f.place (refusal_of f)
 
 -- if there is a universe file, the labels that it declares were checked
-whole : (c : After-declare) → SaysUniverseIfAny (option_copied c.args.file) c.args.space
-    → AreDeclaredWhole (alphabet_of c.args.ascii) c.args.space (configurations_of c.args.configs)
-    c.args.space.labels
+whole : (c : After-declare) → SaysUniverseIfAny (option_copied c.args.file) c.args.space.now
+    → AreDeclaredWhole (alphabet_of c.args.ascii) c.args.space.now (configurations_of c.args.configs)
+    c.args.space.now.labels
 whole c says =
-    let s = c.args.space in
+    let s = c.args.space.now in
     let k = configurations_of c.args.configs in
     elim c.if-is_some.branch [
       | then-is_some+in_ok-check_declared w ↦
@@ -59,40 +59,39 @@ returns-in_err-universe-clause-refused c =
     (λ remembered says. inr (
       whole (goal.at.returns-in_err-universe-clause-refused c).After-declare says,
       inl (refused_as (alphabet_of c.args.ascii) (configurations_of c.args.configs)
-          c.declare.new.self c.args.space fault.place (refusal_of fault)
+          c.declare.new.self c.args.space.now fault.place (refusal_of fault)
           c.declare.ensures.impossible
           (rw c.alphabet_of-alphabet.ensures at (c.in_err-universe.ensures.refused remembered))),
     ))
 
-pub returns-in_err-outcomes-clause-refused : goal.returns-in_err-outcomes-clause-refused
-returns-in_err-outcomes-clause-refused c =
-    let at = (goal.at.returns-in_err-outcomes-clause-refused c).After-alphabet_of-alphabet in
-    let fault = c.in_err-outcomes.field-0.0 in
-    handed_on (IsRefused at) fault c.from_residual-in_err-outcomes.result
-    c.from_residual-in_err-outcomes.ensures.1
-    (λ remembered says.
-    let refused = c.in_err-outcomes.ensures.refused remembered in
+pub returns-clause-refused : goal.returns-clause-refused
+returns-clause-refused c =
+    if_err_more c.outcomes_told_apart.result _ _
+    (λ fault told remembered says.
+    let refused = told remembered in
     inr (
-      whole (goal.at.returns-in_err-outcomes-clause-refused c).After-declare says,
+      whole (goal.at.returns-clause-refused c).After-declare says,
       inr (
         refused.0,
-        too_many (alphabet_of c.args.ascii) (configurations_of c.args.configs) c.args.space
+        too_many (alphabet_of c.args.ascii) (configurations_of c.args.configs) c.args.space.now
             c.declare.new.self c.declare-2.new.self c.in_ok-universe.universe
             (refusal_of fault) c.declare.ensures.impossible c.declare-2.ensures.impossible
             c.declare-2.ensures.labels
             (rw c.alphabet_of-alphabet.ensures at c.in_ok-universe.ensures.stands) refused.1
             refused.2,
       ),
-    ))
+    )) c.outcomes_told_apart.ensures.refused
 
 pub returns-clause-whole : goal.returns-clause-whole
-returns-clause-whole c says = whole (goal.at.returns-clause-whole c).After-declare says
+returns-clause-whole c =
+    on_ok c.outcomes_told_apart.result (λ says. whole (goal.at.returns-clause-whole c).After-declare says)
 
 pub returns-clause-stands : goal.returns-clause-stands
 returns-clause-stands c =
     let a = alphabet_of c.args.ascii in
-    let s = c.args.space in
+    let s = c.args.space.now in
     let k = configurations_of c.args.configs in
-    subst (StandsForAll a s k) (sym c.declare-2.ensures.labels)
+    on_ok c.outcomes_told_apart.result
+    (subst (StandsForAll a s k) (sym c.declare-2.ensures.labels)
     (stands_as a k c.declare.new.self s c.in_ok-universe.universe c.declare.ensures.impossible
-    (rw c.alphabet_of-alphabet.ensures at c.in_ok-universe.ensures.stands))
+    (rw c.alphabet_of-alphabet.ensures at c.in_ok-universe.ensures.stands)))

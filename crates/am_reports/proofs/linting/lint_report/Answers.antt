@@ -31,17 +31,17 @@ counted c = c.alphabet_of-alphabet.ensures ∙ ap alphabet_of c.is_ascii.ensures
 -- a fault is the first one after those of the inputs
 abbrev IsFirst : (c : After-alphabet_of-alphabet) → Fault → Type 0
 IsFirst c f =
-    AcceptsLintInputs c.args.inputs.now c.args.read.space c.args.read.world
+    AcceptsLintInputs c.args.inputs.now c.args.space.now c.args.world.now
     → IsFirstFault (later_stages c.args.inputs.now) f
 
 -- the space after the section on routes, and after that on rules
-routes_cleared : (c : In_ok-routes) → c.route_section.new.space ≡ undeclared c.args.read.space
+routes_cleared : (c : In_ok-routes) → c.route_section.new.space ≡ undeclared c.args.space.now
 routes_cleared c = λ i. record {
   labels = c.in_ok-routes.ensures.labels i;
   impossible = (c.in_ok-routes.ensures.impossible ∙ c.declare.ensures.impossible) i;
 }
 
-rules_cleared : (c : In_ok-rules) → c.rule_section.new.space ≡ undeclared c.args.read.space
+rules_cleared : (c : In_ok-rules) → c.rule_section.new.space ≡ undeclared c.args.space.now
 rules_cleared c = λ i. record {
   labels = c.in_ok-rules.ensures.labels i;
   impossible = (c.in_ok-rules.ensures.impossible ∙ c.in_ok-routes.ensures.impossible
@@ -53,18 +53,18 @@ returns-in_err-check_declared-clause-first c =
     let at = (goal.at.returns-in_err-check_declared-clause-first c).After-alphabet_of-alphabet in
     let fault = c.in_err-check_declared.field-0.0 in
     handed_on (IsFirst at) fault c.from_residual.result c.from_residual.ensures.1
-    (λ accepts remembered. declared_refused c.args.inputs.now c.args.read.space c.args.read.world
+    (λ accepts remembered. declared_refused c.args.inputs.now c.args.space.now c.args.world.now
     fault.place (refusal_of fault) accepts
     (rw (counted at, c.config.ensures.config) at (c.in_err-check_declared.ensures.refused remembered)))
 
 -- no label that the universe file declares lacks a value
 declared_whole : (c : After-declare)
-    → AcceptsLintInputs c.args.inputs.now c.args.read.space c.args.read.world
-    → AreDeclaredWhole (alphabet_of c.args.inputs.now.ascii) c.args.read.space
-    (One c.args.read.world.config) c.args.read.space.labels
+    → AcceptsLintInputs c.args.inputs.now c.args.space.now c.args.world.now
+    → AreDeclaredWhole (alphabet_of c.args.inputs.now.ascii) c.args.space.now
+    (One c.args.world.now.config) c.args.space.now.labels
 declared_whole c accepts =
     let inputs = c.args.inputs.now in
-    let s = c.args.read.space in
+    let s = c.args.space.now in
     elim c.if-has_universe.branch [
       | then-has_universe+in_ok-check_declared w ↦
           rw (c.alphabet_of-alphabet.ensures, c.is_ascii.ensures, w.config.ensures.config)
@@ -72,7 +72,7 @@ declared_whole c accepts =
       | else-has_universe w ↦
           let none : is_some inputs.universe ≡ false =
           sym c.has_universe.ensures ∙ w.if-has_universe.false in
-          subst (AreDeclaredWhole (alphabet_of inputs.ascii) s (One c.args.read.world.config))
+          subst (AreDeclaredWhole (alphabet_of inputs.ascii) s (One c.args.world.now.config))
           (sym (no_label inputs.universe s none accepts.says_universe)) tt
     ]
 
@@ -80,8 +80,8 @@ pub returns-in_err-routes-clause-first : goal.returns-in_err-routes-clause-first
 returns-in_err-routes-clause-first c =
     let at = goal.at.returns-in_err-routes-clause-first c in
     let inputs = c.args.inputs.now in
-    let s = c.args.read.space in
-    let w = c.args.read.world in
+    let s = c.args.space.now in
+    let w = c.args.world.now in
     let fault = c.in_err-routes.field-0.0 in
     handed_on (IsFirst at.After-alphabet_of-alphabet) fault c.from_residual-in_err-routes.result
     c.from_residual-in_err-routes.ensures.1
@@ -97,13 +97,13 @@ returns-in_err-routes-clause-first c =
 pub returns-in_err-rules-clause-first : goal.returns-in_err-rules-clause-first
 returns-in_err-rules-clause-first c =
     let at = goal.at.returns-in_err-rules-clause-first c in
-    let w = c.args.read.world in
+    let w = c.args.world.now in
     let fault = c.in_err-rules.field-0.0 in
     let rules : c.rules.result.now ≡ w.config.rules =
     c.rules.ensures.rules ∙ ap (λ (x : Configuration). x.rules) c.config-3.ensures.config in
     handed_on (IsFirst at.After-alphabet_of-alphabet) fault c.from_residual-in_err-rules.result
     c.from_residual-in_err-rules.ensures.1
-    (λ accepts remembered. rules_refused c.args.inputs.now c.args.read.space w fault.place
+    (λ accepts remembered. rules_refused c.args.inputs.now c.args.space.now w fault.place
     (refusal_of fault) accepts (declared_whole at.After-declare accepts)
     (rw (counted at.After-alphabet_of-alphabet, routes_cleared at.In_ok-routes, rules)
     at (c.in_err-rules.ensures.refused remembered)))
@@ -114,7 +114,7 @@ returns-in_err-silences-clause-first c =
     let fault = c.in_err-silences.field-0.0 in
     handed_on (IsFirst at.After-alphabet_of-alphabet) fault c.from_residual-in_err-silences.result
     c.from_residual-in_err-silences.ensures.1
-    (λ accepts remembered. silences_refused c.args.inputs.now c.args.read.space c.args.read.world
+    (λ accepts remembered. silences_refused c.args.inputs.now c.args.space.now c.args.world.now
     fault.place (refusal_of fault) accepts (declared_whole at.After-declare accepts)
     (rw (counted at.After-alphabet_of-alphabet, rules_cleared at.In_ok-rules)
     at (c.in_err-silences.ensures.refused remembered)))
@@ -122,7 +122,7 @@ returns-in_err-silences-clause-first c =
 pub returns-in-Ok-report_of-clause-reports : goal.returns-in-Ok-report_of-clause-reports
 returns-in-Ok-report_of-clause-reports c = λ accepts.
     let at = goal.at.returns-in-Ok-report_of-clause-reports c in
-    let w = c.args.read.world in
+    let w = c.args.world.now in
     let routes = c.in_ok-routes.routes in
     let rules = c.in_ok-rules.rules in
     let silences = c.in_ok-silences.silences in
@@ -135,7 +135,7 @@ returns-in-Ok-report_of-clause-reports c = λ accepts.
       reports = record {
         routes = routes;
         says_of_routes = said_as c.args.inputs.now.ascii w.config c.declare.new.self
-            c.args.read.space routes.findings routes.notes routes.lines c.declare.ensures.impossible
+            c.args.space.now routes.findings routes.notes routes.lines c.declare.ensures.impossible
             (rw (c.is_ascii-2.ensures, c.config-2.ensures.config) at c.in_ok-routes.ensures.says);
         rules = rules;
         says_of_rules = rw (counts, routes_cleared at.In_ok-routes, listed)
