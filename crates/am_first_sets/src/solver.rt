@@ -3,7 +3,7 @@
 //! A cube that misses a box matches none of its choices, and is done with. Of the others, one that
 //! covers the box leaves no choice; from one with a single open label, its positions are taken out
 //! of the box there; and if each has more, the box is split at an open label of a cube that has the
-//! fewest. When no cube is left, every choice of the box is an answer. (Davis, Putnam, Logemann and
+//! fewest. When no cube is left, every choice of the box is an answer. (Davis, Logemann and
 //! Loveland, 1962: unit propagation and splitting.)
 
 ghost use Rattle.std.specs.Prelude.{◌≡◌, ℕ, ◌<◌, List, length, slice_index, Bool, IfOk, IfSome};
