@@ -1,22 +1,23 @@
--- A pattern as it is kept in memory, and as contracts see it.
-use Rattle.std.specs.Prelude.{◌≡◌, ℕ, ◌<◌, ◌-◌, List, length, take, drop, get_or, is_some}
-use Rattle.regex.specs.Patterns.{Re, find_str, default_config}
-use Rattle.regex.specs.Strings.{regex_source, regex_config, IsReadFromSource}
-use Rattle.regex.specs.declared.string.regex.Regex.{Regex}
-use Rattle.am_labels.specs.Pattern.{anchored_pattern, finds}
+-- A compiled pattern, and what it searches for.
+use Rattle.std.specs.Prelude.{◌≡◌, ℕ, ◌<◌, List, length, All, None, is_some, if◌then◌else◌}
+use Rattle.regex_hir.specs.Re.{Rest}
+use Rattle.regex_hir.specs.Find.{first_between}
+use Rattle.regex_hir.specs.Text.{is_boundary}
+use Rattle.regex_nfa.specs.Run.{run}
+use Rattle.regex_nfa.specs.declared.nfa.Nfa.{Nfa}
+use Rattle.am_labels.specs.Pattern.{finds}
 
--- The pattern between the anchors.
-abbrev pub pattern_text : Regex → List ℕ
-pattern_text r = take (length (regex_source r) - 6) (drop 4 (regex_source r))
+-- The first match of the compiled pattern, from its start state, at a position where a character
+-- begins.
+-- Source: own choice.
+-- Example: inside a character of several bytes there is no match.
+abbrev pub start_at : Nfa → List ℕ → Rest
+start_at nfa hay i = if is_boundary hay i then run nfa hay (length hay) nfa.start i else None
 
--- The engine read that pattern, anchored, with the default options.
-pub record IsAnchored (r : Regex) : Type 0 where
-  pub source : regex_source r ≡ anchored_pattern (pattern_text r)
-  pub config : regex_config r ≡ default_config
-  pub read : IsReadFromSource r
-
--- A search for `re` finds something in a text exactly if the pattern finds the text.
-abbrev pub SearchesFor : Re → List ℕ → Type 0
-SearchesFor re p =
-    (text : List ℕ) → ((k : ℕ) → get_or text k 0 < 256)
-    → is_some (find_str re text 0) ≡ finds p text
+-- The compiled pattern matches somewhere in a text exactly if the pattern finds the text.
+-- Source: own choice.
+-- Example: what is compiled from `^(?:db)$` does so for the pattern `db`.
+abbrev pub IsSearchFor : Nfa → List ℕ → Type 0
+IsSearchFor nfa p =
+    (text : List ℕ) → All (λ b. b < 256) text
+    → is_some (first_between (start_at nfa text) 0 (length text)) ≡ finds p text

@@ -25,6 +25,7 @@ mod pattern;
 mod pattern_profile;
 
 pub use op::{Comparison, Op};
+pub use pattern::compile_pattern;
 
 // A matcher, a list of them, and the test of one label set after another.
 mod matcher;

@@ -1,36 +1,55 @@
-ghost use Rattle.std.specs.Prelude.{◌≡◌, ◌≢◌, true, false, IfOk, IfErr, OnOk, string_bytes};
+//! Patterns, compiled so that they have to match a whole text.
+//!
+//! The crates below `regex` do this: `regex_syntax` reads the text, `regex_compile` makes an
+//! automaton of what was read, and `regex_vm` follows it. `regex` itself has other engines too, and
+//! each check of a crate that knows matchers would load all of them.
+
+ghost use Rattle.std.specs.Prelude.{◌≡◌, ◌≢◌, ◌≤◌, true, false, IfOk, IfErr};
+ghost use Rattle.std.specs.Prelude.{OnOk, IfSome, string_bytes, map, option_map, length, vec_len};
+ghost use Rattle.std.specs.Prelude.{is_some};
+ghost use Rattle.regex_hir.specs.Text.{is_boundary};
+ghost use Rattle.regex_nfa.specs.declared.nfa.Nfa.{Nfa};
+ghost use Rattle.regex_syntax.specs.Verdict.{Reads, default_config};
 ghost use Rattle.am_labels.specs.Pattern.{anchored_pattern, finds, is_pattern};
 ghost use Rattle.am_labels.specs.PatternCut.{in_profile};
+ghost use Rattle.am_labels.specs.PatternView.{IsSearchFor, start_at};
 ghost use Rattle.am_universe.specs.declared.kind.Kind.TheVariants as kinds;
 
 use crate::pattern_profile::is_in_profile;
 use am_universe::Kind;
-use regex::{Error, Regex};
+use regex_nfa::Nfa;
+use regex_syntax::{Config, ErrorKind, Parsed};
+use regex_vm::PikeVm;
 use std::alloc::{AllocError, Global};
 use std::marker::Model;
+
+/// The most bytes that the tables of a compiled pattern may have. The crate `regex` has the same
+/// limit, unless it is told another.
+const MAX_PATTERN_BYTES: usize = 10 << 20;
 
 /// A pattern, compiled so that it has to match a whole text. The compiled form is large, so it is
 /// boxed: a matcher without a pattern then keeps no room for one.
 #[derive(Drop)]
 pub(crate) struct Pattern {
-    regex: Box<Regex>,
+    text: String,
+    nfa: Box<Nfa>,
 }
 
 impl Model for Pattern {
-    ghost use Rattle.std.specs.Prelude.{ℕ, List};
-    ghost use Rattle.am_labels.specs.PatternView.{pattern_text, IsAnchored};
+    ghost use Rattle.std.specs.Prelude.{ℕ, List, string_bytes};
+    ghost use Rattle.am_labels.specs.PatternView.{IsSearchFor};
 
     ghost Value = { List ℕ };
 
-    ghost view = { λ p. pattern_text p.regex.value };
+    ghost view = { λ p. string_bytes p.text };
 
-    ghost invariant = { λ p. IsAnchored p.regex.value };
+    ghost invariant = { λ p. IsSearchFor p.nfa.value (string_bytes p.text) };
 }
 
 impl Pattern {
     /// Compiles a pattern. Fails with `PatternProfile` exactly if it is outside the profile; with
-    /// `Pattern` if the engine refuses it, as it always does if its grammar does not read the
-    /// anchored text; and with `Memory` if memory runs out.
+    /// `Pattern` if its grammar does not read the anchored text, or if what is compiled is too
+    /// large; and with `Memory` if memory runs out.
     pub(crate) fn new(alloc: Global, value: &str) -> Result<Pattern, Kind>
         ensures value { IfOk result (λ p. p ≡ value.now) }
         ensures profile { OnOk result (in_profile value.now ≡ true) }
@@ -42,59 +61,65 @@ impl Pattern {
         if !is_in_profile(value) {
             return Err(Kind::PatternProfile);
         }
-        let Ok(source) = anchored_pattern(alloc, value) else {
-            return Err(Kind::Memory);
+        let Some(nfa) = compile_pattern(alloc, value, MAX_PATTERN_BYTES)? else {
+            return Err(Kind::Pattern);
         };
-        let regex = match Regex::new(alloc, source.as_str()) {
-            Ok(regex) => regex,
-            Err(Error::OutOfMemory) => return Err(Kind::Memory),
-            Err(_) => return Err(Kind::Pattern),
-        };
-        match Box::new(alloc, regex) {
-            Ok(regex) => Ok(Pattern { regex }),
-            Err(_) => Err(Kind::Memory),
-        }
+        Ok(Pattern {
+            text: String::from_str(alloc, value)?,
+            nfa: Box::new(alloc, nfa)?,
+        })
     }
 
     /// Prepares a search for this pattern in one text after another.
     pub(crate) fn matcher(&self, alloc: Global) -> Result<PatternMatcher<'_>, AllocError>
         ensures { IfOk result (λ m. m ≡ self.now) }
     {
-        let search = Box::new(alloc, self.regex.matcher(alloc)?)?;
+        let search = Box::new(alloc, PikeVm::new(alloc, &self.nfa)?)?;
         Ok(PatternMatcher {
-            pattern: self,
+            text: self.text.as_str(),
+            nfa: &self.nfa,
             search,
         })
     }
 }
 
-/// Searches for a pattern in one text after another. The engine keeps its caches from one text to
-/// the next, and a search cannot fail. The state of the engine is large, so it is boxed.
-#[derive(Drop)]
-pub(crate) struct PatternMatcher<'p> {
-    pattern: &'p Pattern,
-    search: Box<regex::Matcher<'p>>,
+/// Compiles a pattern, anchored at both ends. Returns `None` if the grammar does not read it, or if
+/// the tables of what is compiled would have more than so many bytes. Fails only if memory runs
+/// out.
+pub fn compile_pattern(
+    alloc: Global,
+    pattern: &str,
+    most_bytes: usize,
+) -> Result<Option<Nfa>, AllocError>
+    ensures search { IfOk result (λ found. IfSome found (λ nfa. IsSearchFor nfa pattern.now)) }
+    ensures read { IfOk result (λ found. IfSome found (λ _. is_pattern pattern.now ≡ true)) }
+{
+    let source = anchored_pattern(alloc, pattern)?;
+    let Some(parsed) = read_pattern(alloc, source.as_str())? else {
+        return Ok(None);
+    };
+    let Ok(groups) = u32::try_from(parsed.names.len()) else {
+        return Ok(None);
+    };
+    match regex_compile::compile(alloc, &parsed.hir, groups, most_bytes) {
+        Ok(nfa) => Ok(Some(nfa)),
+        Err(regex_compile::Error::OutOfMemory) => Err(AllocError),
+        Err(_) => Ok(None),
+    }
 }
 
-impl<'p> Model for PatternMatcher<'p> {
-    ghost use Rattle.std.specs.Prelude.{ℕ, List};
-    ghost use Rattle.regex.specs.Strings.{matcher_pattern};
-    ghost use Rattle.am_labels.specs.PatternView.{SearchesFor};
-
-    ghost Value = { List ℕ };
-
-    ghost view = { λ m. m.pattern.now };
-
-    ghost invariant = { λ m. SearchesFor (matcher_pattern m.search.value) m.pattern.now };
-}
-
-impl<'p> PatternMatcher<'p> {
-    /// Whether the pattern matches the whole text.
-    pub(crate) fn is_match(&mut self, text: &str) -> bool
-        ensures found { result ≡ finds self.old text.now }
-        ensures same { self.new ≡ self.old }
-    {
-        self.search.is_match(text)
+/// Reads a text by the grammar of patterns. Returns `None` if the grammar does not read it. Fails
+/// only if memory runs out.
+fn read_pattern(alloc: Global, source: &str) -> Result<Option<Parsed>, AllocError>
+    ensures { IfOk result (λ found. IfSome found (λ parsed. Reads default_config source.now
+        parsed.hir (map (option_map string_bytes) parsed.names.items))) }
+{
+    match regex_syntax::parse(alloc, source, &Config::default()) {
+        Ok(parsed) => Ok(Some(parsed)),
+        Err(error) => match error.kind {
+            ErrorKind::OutOfMemory => Err(AllocError),
+            _ => Ok(None),
+        },
     }
 }
 
@@ -107,4 +132,61 @@ fn anchored_pattern(alloc: Global, value: &str) -> Result<String, AllocError>
     source.push_str(value)?;
     source.push_str(")$")?;
     Ok(source)
+}
+
+/// Searches for a pattern in one text after another. The room that a search needs is taken once,
+/// and a search cannot fail. It is large, so it is boxed.
+#[derive(Drop)]
+pub(crate) struct PatternMatcher<'p> {
+    text: &'p str,
+    nfa: &'p Nfa,
+    search: Box<PikeVm>,
+}
+
+impl<'p> Model for PatternMatcher<'p> {
+    ghost use Rattle.std.specs.Prelude.{◌≡◌, ℕ, List, vec_len};
+    ghost use Rattle.am_labels.specs.PatternView.{IsSearchFor};
+
+    ghost Value = { List ℕ };
+
+    ghost view = { λ m. m.text.now };
+
+    ghost invariant = { λ m. IsSearchFor m.nfa.now m.text.now
+        × (m.search.value.states ≡ vec_len m.nfa.now.states) };
+}
+
+impl<'p> PatternMatcher<'p> {
+    /// Whether the pattern matches the whole text. A match begins where a character does.
+    pub(crate) fn is_match(&mut self, text: &str) -> bool
+        ensures found { result ≡ finds self.old text.now }
+        ensures same { self.new ≡ self.old }
+    {
+        let bytes = text.as_bytes();
+        for start in 0..bytes.len() + 1 {
+            if starts_match(&mut self.search, self.nfa, bytes, start) {
+                return true;
+            }
+        }
+        false
+    }
+}
+
+/// Whether a match starts at a position of a text, and a character begins there.
+fn starts_match(search: &mut PikeVm, nfa: &Nfa, bytes: &[u8], start: usize) -> bool
+    requires room { search.old.states ≡ vec_len nfa.now.states }
+    requires within { start ≤ length bytes.now }
+    ensures match_there { result ≡ is_some (start_at nfa.now bytes.now start) }
+    ensures same { search.new ≡ search.old }
+{
+    is_boundary(bytes, start) && search.is_match(nfa, bytes, start, start, bytes.len())
+}
+
+/// Whether a character begins at a position of a text, or the text ends there.
+fn is_boundary(bytes: &[u8], at: usize) -> bool
+    ensures { result ≡ is_boundary bytes.now at }
+{
+    if at >= bytes.len() {
+        return true;
+    }
+    (bytes[at] < 0x80) | (bytes[at] > 0xBF)
 }

@@ -16,7 +16,8 @@ use Rattle.regex_nfa.proofs.RunLemmas.{byte_below-length, next_on_within}
 use Rattle.am_labels.specs.Pattern.{finds}
 use Rattle.am_scan.specs.declared.sight.Sight.{Sight}
 use Rattle.am_scan.specs.Sight.{kind_of, kind_beside, is_scanned, IsScanned}
-use Rattle.am_scan.specs.Closure.{start_at, IsSearchFor, leads, IsClosed, goes_on}
+use Rattle.am_labels.specs.PatternView.{start_at, IsSearchFor}
+use Rattle.am_scan.specs.Closure.{leads, IsClosed, goes_on}
 use Rattle.am_scan.specs.Scan.{FollowsText}
 use Rattle.am_scan.proofs.SightLemmas.{IsSeen}
 use Rattle.am_scan.proofs.ClosureLemmas.{is_some-cond, leads_where_accepted}

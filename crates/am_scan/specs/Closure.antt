@@ -1,33 +1,15 @@
 -- Which states of a compiled pattern lead to a match from a position of a text.
-use Rattle.std.specs.Prelude.{◌≡◌, ℕ, ◌<◌, Bool, true, false, ◌&&◌, ◌||◌, List, length, All, Option}
+use Rattle.std.specs.Prelude.{◌≡◌, ℕ, ◌<◌, Bool, true, false, ◌&&◌, ◌||◌, List, length, Option}
 use Rattle.std.specs.Prelude.{None, is_some, vec_len, slice_index_or, if◌then◌else◌, ◌==◌}
 use Rattle.std.specs.List.{list_any}
-use Rattle.regex_hir.specs.Re.{Rest}
-use Rattle.regex_hir.specs.Find.{first_between}
 use Rattle.regex_hir.specs.Looks.{holds_between}
-use Rattle.regex_hir.specs.Text.{is_boundary, is_some_and}
+use Rattle.regex_hir.specs.Text.{is_some_and}
 use Rattle.regex_nfa.specs.Run.{run, state_of}
 use Rattle.regex_nfa.specs.States.{next_on, read}
 use Rattle.regex_nfa.specs.declared.nfa.Nfa.{Nfa}
 use Rattle.regex_nfa.specs.declared.state.State.{State}
 use Rattle.regex_nfa.specs.declared.state.State.TheVariants.{ByteRange, Sparse, Split, Save, Look}
 use Rattle.regex_nfa.specs.declared.state.State.TheVariants.{Match, Fail}
-use Rattle.am_labels.specs.Pattern.{finds}
-
--- The first match of the compiled pattern, from its start state, at a position where a character
--- begins.
--- Source: own choice.
--- Example: inside a character of several bytes there is no match.
-abbrev pub start_at : Nfa → List ℕ → Rest
-start_at nfa hay i = if is_boundary hay i then run nfa hay (length hay) nfa.start i else None
-
--- The compiled pattern matches somewhere in a text exactly if the pattern finds the text.
--- Source: own choice.
--- Example: what is compiled from `^(?:db)$` does so for the pattern `db`.
-abbrev pub IsSearchFor : Nfa → List ℕ → Type 0
-IsSearchFor nfa p =
-    (text : List ℕ) → All (λ b. b < 256) text
-    → is_some (first_between (start_at nfa text) 0 (length text)) ≡ finds p text
 
 -- A state leads to a match from a position.
 -- Source: own choice.

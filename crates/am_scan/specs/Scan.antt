@@ -5,7 +5,8 @@ use Rattle.regex_hir.specs.Find.{first_from}
 use Rattle.regex_hir.specs.Text.{is_boundary}
 use Rattle.regex_nfa.specs.declared.nfa.Nfa.{Nfa}
 use Rattle.am_scan.specs.Sight.{kind_beside, IsScanned}
-use Rattle.am_scan.specs.Closure.{start_at, leads_on, contains}
+use Rattle.am_labels.specs.PatternView.{start_at}
+use Rattle.am_scan.specs.Closure.{leads_on, contains}
 use Rattle.am_scan.specs.declared.sight.Sight.{Sight}
 use Rattle.am_scan.specs.declared.pattern_scan.PatternScan.{PatternScan}
 use Rattle.am_scan.specs.declared.pattern_state.PatternState.{PatternState}

@@ -9,9 +9,6 @@
 // The limits of patterns.
 pub mod limits;
 
-// Compiling the text of a pattern.
-mod compile;
-
 // What the assertions of a pattern see of bytes, and how the whole pattern treats them.
 mod column;
 mod columns;

@@ -5,16 +5,17 @@ ghost use Rattle.std.specs.List.{list_all};
 ghost use Rattle.regex_nfa.specs.Run.{state_of};
 ghost use Rattle.am_labels.specs.Pattern.{finds};
 ghost use Rattle.am_scan.specs.Sight.{sees_state, IsScanned};
-ghost use Rattle.am_scan.specs.Closure.{IsSearchFor, IsClosed, AcceptsReads, accepts, contains};
+ghost use Rattle.am_labels.specs.PatternView.{IsSearchFor};
+ghost use Rattle.am_scan.specs.Closure.{IsClosed, AcceptsReads, accepts, contains};
 ghost use Rattle.am_scan.specs.Closure.{reads_byte};
 ghost use Rattle.am_scan.specs.Column.{IsColumn, sources};
 
 use crate::closure::Closure;
 use crate::column::{Column, Edge};
-use crate::compile::compile_anchored;
-use crate::limits::MAX_STATES;
+use crate::limits::{MAX_STATES, MAX_TABLE_BYTES};
 use crate::pattern_state::PatternState;
 use crate::sight::{Sight, holds};
+use am_labels::compile_pattern;
 use regex_nfa::{Nfa, State, StateId};
 use std::alloc::{AllocError, Global};
 
@@ -56,7 +57,7 @@ impl PatternScan {
             (λ scan. string_bytes scan.pattern ≡ pattern.now)) }
         ensures ascii { IfOk result (λ found. IfSome found (λ scan. scan.ascii ≡ ascii)) }
     {
-        let Some(nfa) = compile_anchored(alloc, pattern)? else {
+        let Some(nfa) = compile_pattern(alloc, pattern, MAX_TABLE_BYTES)? else {
             return Ok(None);
         };
         let sight = Sight::of(nfa.states.as_slice());
