@@ -1,5 +1,5 @@
 -- The cubes of routes, at a whole choice, and the way to a route, step by step.
-use Rattle.std.proofs.Common.{◌≡◌, ℕ, zero, suc, Bool, true, false, not, ◌&&◌, ◌||◌, cond, List, []}
+use Rattle.std.proofs.Common.{◌≡◌, ℕ, zero, suc, Bool, true, false, not, ◌&&◌, ◌||◌, List, []}
 use Rattle.std.proofs.Common.{◌∷◌, ◌+◌, ◌<◌, drop, drop-cons, add-one, get_or, ◌++◌, ◌≤◌, map, take}
 use Rattle.std.proofs.Common.{length, Bor, Option, Some, None, refl, sym, ap, ◌∙◌, subst, arith}
 use Rattle.std.specs.Prelude.{slice_get}
@@ -18,12 +18,9 @@ use Rattle.am_config.specs.Path.{list_of}
 use Rattle.am_config.specs.RouteView.{route_view}
 use Rattle.am_config.specs.declared.route.Route.{Route}
 use Rattle.std.proofs.lemmas.List.{map_more}
-use Rattle.am_search.specs.declared.verdict.Verdict.TheVariants.{Yes, No}
-use Rattle.am_judged_lists.specs.Cube.{MaskedLabels, verdict_at}
-use Rattle.am_judged_lists.specs.Verdicts.{verdict_of_list, matches_at}
-use Rattle.am_search.specs.Judge.{is_yes, is_no}
+use Rattle.am_judged_lists.specs.Cube.{MaskedLabels, verdict_at, matches}
+use Rattle.am_judged_lists.specs.Verdicts.{verdict_of_list}
 use Rattle.am_judged_lists.proofs.ListLemmas.{and_true}
-use Rattle.am_judged_lists.proofs.VerdictLemmas.{list_says}
 use Rattle.am_eval.specs.declared.reach.Reach.TheVariants.{Ends}
 use Rattle.am_eval.specs.Question as question
 use Rattle.am_eval.specs.World.{World}
@@ -35,10 +32,10 @@ use Rattle.am_eval.proofs.SomeWay.{some_way-literal, some_way-front}
 use Rattle.am_first_sets.specs.declared.route_cubes.RouteCubes.{RouteCubes}
 use Rattle.am_first_sets.specs.declared.route_cubes.RouteCubes.TheViews.{out-RouteCubes}
 use Rattle.am_first_sets.specs.ChoiceEnds.{is_end_at}
-use Rattle.am_first_sets.specs.Reasons.{may_match, must_match, all_may_match}
+use Rattle.am_first_sets.specs.Meeting.{all_match}
 use Rattle.am_first_sets.specs.RouteCubes.{AreCubesOf, AreCubesOfEach, none_before}
 use Rattle.am_first_sets.specs.RouteCubes.{none_stops}
-use Rattle.am_first_sets.proofs.ImpossibleCubes.{certain_where}
+use Rattle.am_first_sets.proofs.CubeTruth.{matches_where}
 
 -- ---- One more route.
 
@@ -83,10 +80,6 @@ left_of_path path i p within is = rw (is, add-one, drop-cons path i 0 within) re
 
 -- ---- Truth, in other orders.
 
-allowed_where : (b : Bool) → not (is_no (cond b Yes No)) ≡ b
-allowed_where true = refl
-allowed_where false = refl
-
 or_false : (b : Bool) → (b || false) ≡ b
 or_false true = refl
 or_false false = refl
@@ -112,7 +105,7 @@ pub record IsOnWay (u : List Label) (choice : List ℕ) (end : Bool) (r : RouteC
     : Type 0 where
   pub tree : RouteTree
   pub cubes : AreCubesOf u choice tree r
-  pub ends : ((all_may_match choice wanted && none_before choice before)
+  pub ends : ((all_match wanted choice && none_before choice before)
       && some_way_holds (literal_holds (label_set_of u choice)) (ways_below Ends tree left))
       ≡ end
 
@@ -120,23 +113,15 @@ module _ (u : List Label) (choice : List ℕ) (whole : IsWhole (sizes u) choice)
   abbrev holds : Literal → Bool
   holds l = literal_holds (label_set_of u choice) l
 
-  is_matched : (cube : MaskedLabels) (ms : List Condition)
-      → verdict_at cube choice ≡ verdict_of_list u ms choice
-      → may_match choice cube ≡ holds (matching ms)
-  is_matched cube ms same =
-      ap (λ v. not (is_no v)) (same ∙ list_says u ms choice whole)
-      ∙ allowed_where (matches_at u ms choice)
+  its_cube : (t : RouteTree) (r : RouteCubes) → AreCubesOf u choice t r
+      → matches (out-RouteCubes r).cube choice ≡ holds (matching (matchers_of t))
+  its_cube (route settings children) r are =
+      matches_where u choice whole settings.matchers (out-RouteCubes r).cube are.0
 
   is_unmatched : (cube : MaskedLabels) (ms : List Condition)
       → verdict_at cube choice ≡ verdict_of_list u ms choice
-      → not (must_match choice cube) ≡ holds (not_matching ms)
-  is_unmatched cube ms same =
-      ap (λ v. not (is_yes v)) same ∙ ap not (certain_where u choice whole ms)
-
-  its_cube : (t : RouteTree) (r : RouteCubes) → AreCubesOf u choice t r
-      → may_match choice (out-RouteCubes r).cube ≡ holds (matching (matchers_of t))
-  its_cube (route settings children) r are =
-      is_matched (out-RouteCubes r).cube settings.matchers are.0
+      → not (matches cube choice) ≡ holds (not_matching ms)
+  is_unmatched cube ms same = ap not (matches_where u choice whole ms cube same)
 
   below : (t : RouteTree) (r : RouteCubes) → AreCubesOf u choice t r
       → AreCubesOfEach u choice (children_of t) (out-RouteCubes r).routes.items
@@ -168,7 +153,7 @@ module _ (u : List Label) (choice : List ℕ) (whole : IsWhole (sizes u) choice)
   none_stopped (next_route t ts) (r ∷ rs) zero are = refl
   none_stopped (next_route (route settings children) ts) (r ∷ rs) (suc p) are =
       one_counted (route settings children) (take p (list_of ts)) (out-RouteCubes r).continues
-      (not (must_match choice (out-RouteCubes r).cube)) (none_stops false choice (take p rs))
+      (not (matches (out-RouteCubes r).cube choice)) (none_stops false choice (take p rs))
       (sym are.0.1) (is_unmatched (out-RouteCubes r).cube settings.matchers are.0.0)
       (none_stopped ts rs p are.1)
   none_stopped ts rs p are = absurd are
@@ -196,14 +181,14 @@ module _ (u : List Label) (choice : List ℕ) (whole : IsWhole (sizes u) choice)
       → IsOnWay u choice (is_end_at u c path choice) r wanted before path
   begun c path r none wanted before ref are is empty adds no_more =
       let ways = ways_below Ends c.root path in
-      let top = may_match choice ref.now in
+      let top = matches ref.now choice in
       let first = adds ∙ ap (λ refs. refs ++ ref ∷ []) empty in
       record {
         tree = c.root;
         cubes = are;
         ends = ap (λ b. b && some_way_holds holds ways)
-            ((λ i. all_may_match choice (first i) && none_before choice (no_more i))
-            ∙ and_true (top && true) ∙ and_true top ∙ ap (may_match choice) is
+            ((λ i. all_match (first i) choice && none_before choice (no_more i))
+            ∙ and_true (top && true) ∙ and_true top ∙ ap (λ (cube : MaskedLabels). matches cube choice) is
             ∙ its_cube c.root r are)
             ∙ sym (ends_by_ways u c path choice
             ∙ some_way-literal holds (matching (matchers_of c.root)) ways);
@@ -217,7 +202,7 @@ module _ (u : List Label) (choice : List ℕ) (whole : IsWhole (sizes u) choice)
     children = children_of on.tree
 
     abbrev first : Bool
-    first = all_may_match choice wanted
+    first = all_match wanted choice
 
     abbrev others : Bool
     others = none_before choice before
@@ -253,10 +238,10 @@ module _ (u : List Label) (choice : List ℕ) (whole : IsWhole (sizes u) choice)
         let found = child_at children rs p child are there in
         let matched = holds (matching (matchers_of found.0)) in
         let ways = ways_below Ends found.0 rest in
-        let also : all_may_match choice longer ≡ (first && matched) =
-        ap (all_may_match choice) adds
-        ∙ list_all-append (λ (cube : Bor MaskedLabels). may_match choice cube.now) wanted (ref ∷ [])
-        ∙ ap (λ b. first && b) (and_true (may_match choice ref.now) ∙ ap (may_match choice) is
+        let also : all_match longer choice ≡ (first && matched) =
+        ap (λ (cubes : List (Bor MaskedLabels)). all_match cubes choice) adds
+        ∙ list_all-append (λ (cube : Bor MaskedLabels). matches cube.now choice) wanted (ref ∷ [])
+        ∙ ap (λ b. first && b) (and_true (matches ref.now choice) ∙ ap (λ (cube : MaskedLabels). matches cube choice) is
         ∙ its_cube found.0 child found.2) in
         let none : none_before choice more ≡ (others && closed p) =
         ap (none_before choice) adds_them

@@ -1,9 +1,9 @@
 -- The first choice of a space, and the first that passes a test.
 use Rattle.std.proofs.Common.{◌≡◌, ◌↔◌, ℕ, List, [], ◌∷◌, Bool, true, false, ◌&&◌, Option, Some}
-use Rattle.std.proofs.Common.{None, IfSome, slice_get, refl, sym, ap, ◌∙◌, inl, inr}
+use Rattle.std.proofs.Common.{cond, None, IfSome, slice_get, refl, sym, ap, ◌∙◌, inl, inr}
 use Rattle.std.specs.List.{find, filter}
 use Rattle.std.proofs.lemmas.Bool.{cases_Bool}
-use Rattle.am_universe.proofs.ListLemmas.{IsIn, Contains-from_IsIn}
+use Rattle.am_universe.proofs.ListLemmas.{IsIn, IsIn-from_Contains, Contains-from_IsIn}
 use Rattle.am_labels.specs.Space.{Space, all_choices, IsChoiceOf}
 use Rattle.am_labels.proofs.SpaceLaws.{space_choices}
 
@@ -18,6 +18,20 @@ find_kept test keep (x ∷ xs) = step (test x) (keep x) refl refl (find_kept tes
     step false true e f later = rw (e, f) (rw e later)
     step true false e f later = rw (e, f) later
     step false false e f later = rw (e, f) later
+
+-- two tests that agree on all items of a list find the same
+find_alike : {X : Type 0} (f g : X → Bool) (xs : List X) → ((x : X) → IsIn xs x → f x ≡ g x)
+    → find f xs ≡ find g xs
+find_alike f g [] same = refl
+find_alike f g (x ∷ xs) same =
+    λ i. cond (same x (inl refl) i) (Some x) (find_alike f g xs (λ y there. same y (inr there)) i)
+
+-- and so do two that agree on all choices of a space
+pub found_alike : (s : Space) (f g : List ℕ → Bool) → ((c : List ℕ) → IsChoiceOf s c → f c ≡ g c)
+    → find f (all_choices s) ≡ find g (all_choices s)
+found_alike s f g same =
+    find_alike f g (all_choices s)
+    (λ c there. same c ((space_choices s c).0 (Contains-from_IsIn (all_choices s) c there)))
 
 pub find_none : {X : Type 0} (xs : List X) → None ≡ find (λ (x : X). false) xs
 find_none [] = refl
@@ -41,6 +55,27 @@ found_of_space s test (Some c) e =
     let all = all_choices s in
     (space_choices s c).0 (Contains-from_IsIn all c (is_found test all c (sym e)).0)
 
+pub found_passes : (s : Space) (test : List ℕ → Bool) (found : Option (List ℕ)) (c : List ℕ)
+    → found ≡ find test (all_choices s) → found ≡ Some c → test c ≡ true
+found_passes s test found c e is = (is_found test (all_choices s) c (sym e ∙ is)).1
+
+-- if nothing is found, no choice of the space passes the test
+pub none_passes : (s : Space) (test : List ℕ → Bool) → None ≡ find test (all_choices s)
+    → (c : List ℕ) → IsChoiceOf s c → test c ≡ false
+none_passes s test none c is =
+    fails (all_choices s) (sym none)
+    (IsIn-from_Contains (all_choices s) c ((space_choices s c).1 is))
+  where
+    fails : (xs : List (List ℕ)) → find test xs ≡ None → IsIn xs c → test c ≡ false
+    fails [] e there = absurd there
+    fails (x ∷ xs) e there = elim (cases_Bool (test x)) [
+      | inl passes ↦ let found : Some x ≡ None = rw passes at e in cc
+      | inr misses ↦ elim there [
+        | inl same ↦ ap test (sym same) ∙ misses
+        | inr later ↦ fails xs (rw misses at e) later
+      ]
+    ]
+
 -- ---- Without a test.
 
 -- the first that passes a test is the first of those that a filter by the test keeps
@@ -57,11 +92,3 @@ pub no_first : {X : Type 0} (xs : List X) (first : Option X) → first ≡ slice
     → first ≡ None ↔ xs ≡ []
 no_first [] first e = (λ none. refl, λ empty. e)
 no_first (x ∷ xs) first e = (λ none. cc, λ empty. cc)
-
-pub first_of_space : (s : Space) (first : Option (List ℕ)) → first ≡ slice_get (all_choices s) 0
-    → IfSome first (IsChoiceOf s)
-first_of_space s first e = found_of_space s (λ c. true) first (e ∙ any (all_choices s))
-  where
-    any : (xs : List (List ℕ)) → slice_get xs 0 ≡ find (λ c. true) xs
-    any [] = refl
-    any (c ∷ cs) = refl

@@ -1,7 +1,9 @@
-pub mod ReasonLemmas
-pub mod ImpossibleCubes
+pub mod CubeTruth
 pub mod FirstPossible
 pub mod CubeEnds
 pub mod FirstLemmas
 pub mod SolverLemmas
 pub mod MeetingLemmas
+pub mod LiteralLemmas
+pub mod ReasonLemmas
+pub mod PairLemmas

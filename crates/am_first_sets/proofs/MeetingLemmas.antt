@@ -1,97 +1,157 @@
 -- Choices that wanted cubes match and unwanted ones do not.
-use Rattle.std.proofs.Common.{◌≡◌, ◌↔◌, ℕ, ◌+◌, ◌<◌, Bool, true, false, not, ◌&&◌, List, [], ◌∷◌}
-use Rattle.std.proofs.Common.{Bor, None, Result, Ok, Err, IfOk, length, take, get_or, slice_get}
-use Rattle.std.proofs.Common.{refl, ap, sym, ◌∙◌}
-use Rattle.std.specs.Prelude.{IsTrue, if◌then◌else◌}
-use Rattle.std.specs.List.{list_all, find}
-use Rattle.std.proofs.lemmas.Bool.{and_parts, and_from}
-use Rattle.std.proofs.lemmas.List.Folds.{list_all_more}
-use Rattle.am_labels.specs.Space.{Space, is_possible_choice}
+use Rattle.std.proofs.Common.{◌≡◌, ◌↔◌, ℕ, ◌+◌, ◌<◌, Bool, true, false, ◌&&◌, List, [], ◌∷◌}
+use Rattle.std.proofs.Common.{zero, suc, Option, Some, Bor, None, Result, Ok, Err, IfOk, IfSome, IfNone, length, take, get_or, slice_get}
+use Rattle.std.proofs.Common.{refl, ap, sym, ◌∙◌, inl, inr}
+use Rattle.std.specs.Prelude.{IsTrue}
+use Rattle.std.specs.List.{find}
+use Rattle.std.proofs.lemmas.Bool.{and_parts, and_from, cases_Bool}
+use Rattle.std.proofs.lemmas.List.Folds.{list_all_more, list_all_at}
+use Rattle.am_labels.specs.Space.{Space, all_choices, is_possible_choice, IsChoiceOf}
 use Rattle.am_universe.specs.Universe.{sizes}
-use Rattle.am_universe.specs.Choice.{IsWhole}
-use Rattle.am_search.specs.declared.verdict.Verdict.TheVariants.{Yes, No, Open}
-use Rattle.am_search.specs.Judge.{is_yes, is_no}
-use Rattle.am_judged_lists.specs.Cube.{MaskedLabels, may_at, reaches_all, matches}
+use Rattle.am_judged_lists.specs.Cube.{MaskedLabels, matches}
 use Rattle.am_judged_lists.specs.Boxes.{IsInBox}
-use Rattle.am_first_sets.specs.Reasons.{may_match, must_match, all_may_match, none_must_match}
-use Rattle.am_first_sets.specs.Reasons.{meets_cubes}
-use Rattle.am_first_sets.specs.ImpossibleCubes.{is_possible_by, KnowsPossible}
-use Rattle.am_first_sets.specs.Solving.{avoids, IsTestOf}
-use Rattle.am_first_sets.proofs.FirstPossible.{find_none}
+use Rattle.am_first_sets.specs.declared.possible_choices.PossibleChoices.{PossibleChoices}
+use Rattle.am_first_sets.specs.Meeting.{all_match, meets_cubes, is_possible_by}
+use Rattle.am_first_sets.specs.PossibleChoices.{IsPossible, AreFound, AreChoicesOf}
+use Rattle.am_first_sets.specs.Solving.{avoids, IsAnswer, NoneAvoids, IsTestOf}
+use Rattle.am_first_sets.proofs.FirstPossible.{find_none, found_alike}
 
--- a cube may match exactly where its masks permit, and must match where they are also reached
-pub may_is : (c : List ℕ) (cube : MaskedLabels) → may_match c cube ≡ may_at cube c
-may_is c cube = step (may_at cube c) (reaches_all cube c)
-  where
-    step : (may all : Bool) → not (is_no (if not may then No else if all then Yes else Open)) ≡ may
-    step true true = refl
-    step true false = refl
-    step false all = refl
+-- ---- One wanted cube more.
 
-pub must_is : (c : List ℕ) (cube : MaskedLabels) → must_match c cube ≡ matches cube c
-must_is c cube = step (may_at cube c) (reaches_all cube c)
-  where
-    step : (may all : Bool) → is_yes (if not may then No else if all then Yes else Open) ≡ (may && all)
-    step true true = refl
-    step true false = refl
-    step false all = refl
+module _ (Start : Type 0) (old : List (List Bool)) (wanted : List (Bor MaskedLabels)) (i : ℕ)
+    (cube : Bor MaskedLabels) (c : List ℕ) (low : i < length wanted) (read : cube ≡ get_or wanted i cube)
+    (before : IsInBox old c ↔ Start × IsTrue (all_match (take i wanted) c)) where
+  abbrev first : Bool
+  first = all_match (take i wanted) c
 
--- all are avoided exactly if none must match
-pub none_is : (c : List ℕ) (cubes : List (Bor MaskedLabels)) → none_must_match c cubes ≡ avoids cubes c
-none_is c cubes i = list_all (λ cube. not (must_is c cube.now i)) cubes
+  more : all_match (take (i + 1) wanted) c ≡ (first && matches cube.now c)
+  more =
+      list_all_more (λ (x : Bor MaskedLabels). matches x.now c) wanted i cube low
+      ∙ ap (λ (x : Bor MaskedLabels). first && matches x.now c) (sym read)
 
--- one wanted cube more
-pub wanted_more : (Whole : Type 0) (old new : List (List Bool)) (wanted : List (Bor MaskedLabels)) (i : ℕ) (cube : Bor MaskedLabels) (c : List ℕ)
-    → i < length wanted → cube ≡ get_or wanted i cube
-    → (IsInBox old c ↔ Whole × IsTrue (all_may_match c (take i wanted)))
-    → (IsInBox new c ↔ IsInBox old c × IsTrue (may_at cube.now c))
-    → IsInBox new c ↔ Whole × IsTrue (all_may_match c (take (i + 1) wanted))
-wanted_more Whole old new wanted i cube c low read before kept =
-    let first = all_may_match c (take i wanted) in
-    let more : all_may_match c (take (i + 1) wanted) ≡ (first && may_match c cube.now) =
-    list_all_more (λ (x : Bor MaskedLabels). may_match c x.now) wanted i cube low
-    ∙ ap (λ (x : Bor MaskedLabels). first && may_match c x.now) (sym read) in (
-      λ h.
-          let o = kept.0 h in
-          let w = before.0 o.0 in
-          (w.0, more ∙ and_from first (may_match c cube.now) w.1 (may_is c cube.now ∙ o.1)),
-      λ h.
-          let parts = and_parts first (may_match c cube.now) (sym more ∙ h.1) in
-          kept.1 (before.1 (h.0, parts.0), sym (may_is c cube.now) ∙ parts.1),
-    )
+  pub wanted_more : (new : List (List Bool))
+      → (IsInBox new c ↔ IsInBox old c × IsTrue (matches cube.now c))
+      → IsInBox new c ↔ Start × IsTrue (all_match (take (i + 1) wanted) c)
+  wanted_more new kept = (
+    λ h.
+        let o = kept.0 h in
+        let w = before.0 o.0 in
+        (w.0, more ∙ and_from first (matches cube.now c) w.1 o.1),
+    λ h.
+        let parts = and_parts first (matches cube.now c) (sym more ∙ h.1) in
+        kept.1 (before.1 (h.0, parts.0), parts.1),
+  )
 
--- what is asked of a choice is that it is in the box of the wanted cubes and avoids the others
-pub is_test : (s : Space) (impossible : List MaskedLabels) (wanted unwanted cubes : List (Bor MaskedLabels)) (b : List (List Bool))
-    → KnowsPossible s impossible
-    → ((c : List ℕ) → IsInBox b c ↔ IsWhole (sizes s.labels) c × IsTrue (all_may_match c wanted))
-    → ((c : List ℕ) → none_must_match c cubes ≡ (none_must_match c unwanted && is_possible_by impossible c))
-    → IsTestOf (sizes s.labels) (λ c. meets_cubes wanted unwanted c && is_possible_choice s c) b cubes
-is_test s impossible wanted unwanted cubes b knows box against c whole =
-    let all = all_may_match c wanted in
-    let none = none_must_match c unwanted in
-    let possible = is_possible_choice s c in
-    let same : avoids cubes c ≡ (none && possible) =
-    sym (none_is c cubes) ∙ against c ∙ ap (λ x. none && x) (knows c whole) in (
-      λ h.
-          let parts = and_parts (all && none) possible h in
-          let asked = and_parts all none parts.0 in
-          ((box c).1 (whole, asked.0), same ∙ and_from none possible asked.1 parts.1),
-      λ h.
-          let inside = (box c).0 h.0 in
-          let parts = and_parts none possible (sym same ∙ h.1) in
-          and_from (all && none) possible (and_from all none inside.1 parts.0) parts.1,
-    )
+  -- if it matches no choice that is left, there is no choice that all match
+  pub wanted_none : ((d : List ℕ) → IsInBox old d → matches cube.now d ≡ false) → Start
+      → all_match wanted c ≡ false
+  wanted_none misses start = elim (cases_Bool first) [
+    | inl all ↦
+        list_all_at (λ (x : Bor MaskedLabels). matches x.now c) wanted i cube low
+        (ap (λ (x : Bor MaskedLabels). matches x.now c) (sym read) ∙ misses c (before.1 (start, all)))
+    | inr fails ↦ none_of wanted i fails
+  ]
+    where
+      none_of : (cubes : List (Bor MaskedLabels)) (n : ℕ) → all_match (take n cubes) c ≡ false
+          → all_match cubes c ≡ false
+      none_of [] zero e = e
+      none_of [] (suc n) e = e
+      none_of (x ∷ cubes) zero e = let apart : true ≡ false = e in cc
+      none_of (x ∷ cubes) (suc n) e = elim (cases_Bool (matches x.now c)) [
+        | inl m ↦
+            ap (λ b. b && all_match cubes c) m
+            ∙ none_of cubes n (sym (ap (λ b. b && all_match (take n cubes) c) m) ∙ e)
+        | inr f ↦ ap (λ b. b && all_match cubes c) f
+      ]
+
+-- ---- What the search finds.
+
+module _ (p : PossibleChoices) (wanted unwanted cubes : List (Bor MaskedLabels))
+    (b : List (List Bool)) (box : (c : List ℕ) → IsInBox b c ↔ IsInBox p.all c × IsTrue (all_match wanted c))
+    (against : (c : List ℕ) → avoids cubes c ≡ (avoids unwanted c && is_possible_by p.impossible.items c)) where
+  -- a choice is possible and meets the cubes exactly if it is in the box and avoids all cubes
+  pub asked_is : (c : List ℕ) → IsPossible p c × IsTrue (meets_cubes wanted unwanted c)
+      ↔ IsInBox b c × IsTrue (avoids cubes c)
+  asked_is c =
+      let all = all_match wanted c in
+      let none = avoids unwanted c in
+      let possible = is_possible_by p.impossible.items c in (
+        λ h.
+            let asked = and_parts all none h.1 in
+            ((box c).1 (h.0.0, asked.0), against c ∙ and_from none possible asked.1 h.0.1),
+        λ h.
+            let inside = (box c).0 h.0 in
+            let parts = and_parts none possible (sym (against c) ∙ h.1) in
+            ((inside.0, parts.1), and_from all none inside.1 parts.0),
+      )
+
+  pub answer_meets : (found : List (List Bool)) → IsAnswer b cubes found
+      → AreFound (IsPossible p) (meets_cubes wanted unwanted) found
+  answer_meets found answer = record {
+    some = answer.some;
+    each = λ c i. (asked_is c).1 (answer.inside c i, answer.avoided c i);
+  }
+
+  pub none_meets : NoneAvoids b cubes → (c : List ℕ) → IsPossible p c
+      → meets_cubes wanted unwanted c ≡ false
+  none_meets none c possible = elim (cases_Bool (meets_cubes wanted unwanted c)) [
+    | inl met ↦
+        let r = (asked_is c).0 (possible, met) in
+        let apart : true ≡ false = sym r.1 ∙ none c r.0 in cc
+    | inr fails ↦ fails
+  ]
+
+  -- so this is what is asked of a choice of a space
+  pub is_test : (s : Space) → AreChoicesOf s p
+      → IsTestOf (sizes s.labels) (λ c. meets_cubes wanted unwanted c && is_possible_choice s c) b cubes
+  is_test s are c whole =
+      let met = meets_cubes wanted unwanted c in
+      let possible = is_possible_choice s c in (
+        λ h.
+            let parts = and_parts met possible h in
+            (asked_is c).0 (((are.whole c).1 whole, are.possible c whole ∙ parts.1), parts.0),
+        λ h.
+            let r = (asked_is c).1 h in
+            and_from met possible r.1 (sym (are.possible c whole) ∙ r.0.1),
+      )
+
+-- the possible choices are those of the space
+pub choices_of : (s : Space) (p : PossibleChoices) → AreChoicesOf s p → (c : List ℕ)
+    → IsPossible p c ↔ IsChoiceOf s c
+choices_of s p are c = (
+  λ h. let whole = (are.whole c).0 h.0 in (whole, sym (are.possible c whole) ∙ h.1),
+  λ h. ((are.whole c).1 h.0, are.possible c h.0 ∙ h.1),
+)
+
+-- ---- Results.
 
 -- what passes no test is not found
-pub found_none : (test : List ℕ → Bool) (cs : List (List ℕ)) → ((c : List ℕ) → test c ≡ false)
-    → None ≡ find test cs
-found_none test cs fails = find_none cs ∙ (λ i. find (λ c. sym (fails c) i) cs)
+pub found_none : (s : Space) (p : PossibleChoices) (wanted unwanted : List (Bor MaskedLabels))
+    → AreChoicesOf s p → ((c : List ℕ) → IsInBox p.all c → all_match wanted c ≡ false)
+    → None ≡ find (meets_cubes wanted unwanted) (all_choices s)
+found_none s p wanted unwanted are none =
+    find_none (all_choices s)
+    ∙ found_alike s (λ c. false) (meets_cubes wanted unwanted)
+    (λ c is. sym (ap (λ b. b && avoids unwanted c) (none c ((are.whole c).1 is.0))))
 
 -- what follows of a result, if it is one
 pub if_ok_more : {A E : Type 0} (r : Result A E) (P Q : A → Type 0) → ((a : A) → P a → Q a)
     → IfOk r P → IfOk r Q
-if_ok_more (Ok a) P Q more is = more a is
-if_ok_more (Err e) P Q more is = tt
+if_ok_more (Ok a) P Q so is = so a is
+if_ok_more (Err e) P Q so is = tt
+
+-- what follows if something is found, and if nothing is
+pub if_some_more : {A E : Type 0} (r : Result (Option A) E) (P Q : A → Type 0)
+    → ((a : A) → P a → Q a) → IfOk r (λ found. IfSome found P) → IfOk r (λ found. IfSome found Q)
+if_some_more (Err e) P Q so h = tt
+if_some_more (Ok None) P Q so h = tt
+if_some_more (Ok (Some a)) P Q so h = so a h
+
+pub if_none_more : {A E : Type 0} (r : Result (Option A) E) (P Q : Type 0) → (P → Q)
+    → IfOk r (λ found. IfNone found P) → IfOk r (λ found. IfNone found Q)
+if_none_more (Err e) P Q so h = tt
+if_none_more (Ok None) P Q so h = so h
+if_none_more (Ok (Some a)) P Q so h = tt
 
 -- each choice is one that no cube is asked of
 pub any_first : (cs : List (List ℕ)) → find (meets_cubes [] []) cs ≡ slice_get cs 0

@@ -1,7 +1,10 @@
 pub mod ChoiceEnds
-pub mod Reasons
 pub mod Solving
-pub mod ImpossibleCubes
-pub mod PossibleRefuter
+pub mod Meeting
+pub mod PossibleChoices
+pub mod PossibleSets
+pub mod Literals
+pub mod Reason
+pub mod Pairs
 pub mod RouteCubes
 pub mod RouteEnds

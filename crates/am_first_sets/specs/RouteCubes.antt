@@ -8,13 +8,13 @@ use Rattle.am_universe.specs.Universe.{Label, sizes}
 use Rattle.am_universe.specs.Choice.{IsWhole}
 use Rattle.am_config.specs.ConfigFile.{Configuration, RouteTree, Routes, route, no_routes}
 use Rattle.am_config.specs.ConfigFile.{next_route}
-use Rattle.am_judged_lists.specs.Cube.{verdict_at}
+use Rattle.am_judged_lists.specs.Cube.{verdict_at, matches}
 use Rattle.am_judged_lists.specs.Verdicts.{verdict_of_list}
 use Rattle.am_first_sets.specs.declared.route_cubes.RouteCubes.{RouteCubes}
 use Rattle.am_first_sets.specs.declared.route_cubes.RouteCubes.TheViews.{out-RouteCubes}
 use Rattle.am_first_sets.specs.declared.route_cubes.RouteWay.{RouteWay}
 use Rattle.am_first_sets.specs.ChoiceEnds.{is_end_at}
-use Rattle.am_first_sets.specs.Reasons.{must_match, all_may_match}
+use Rattle.am_first_sets.specs.Meeting.{all_match}
 
 -- The cubes are those of a route and of all routes below it, or those of the children of a route.
 -- At a choice, each cube says what the matchers of its route say; `continue` and the receiver are
@@ -54,12 +54,12 @@ abbrev pub KnowsRoutes : List Label → Configuration → RouteCubes → Type 0
 KnowsRoutes u c routes =
     (choice : List ℕ) → IsWhole (sizes u) choice → AreCubesOf u choice c.root routes
 
--- What cubes say at a choice. None of some siblings is certain; those with `continue` are ignored
--- unless all count. No route is certain that stops an alert on a way.
+-- What cubes say at a choice. None of some siblings matches; those with `continue` are ignored
+-- unless all count. No route matches that stops an alert on a way.
 abbrev pub none_stops : Bool → List ℕ → List RouteCubes → Bool
 none_stops all choice siblings =
     list_all (λ r. (not all && (out-RouteCubes r).continues)
-    || not (must_match choice (out-RouteCubes r).cube)) siblings
+    || not (matches (out-RouteCubes r).cube choice)) siblings
 
 abbrev pub none_before : List ℕ → List (Bor (List RouteCubes)) → Bool
 none_before choice before = list_all (λ siblings. none_stops false choice siblings.now) before
@@ -70,7 +70,7 @@ nothing_stops choice way =
 
 -- A choice goes a way, by the cubes of the way. Or there is a way, and the choice goes this way.
 abbrev pub goes : List ℕ → RouteWay → Bool
-goes choice way = all_may_match choice way.wanted.items && nothing_stops choice way
+goes choice way = all_match way.wanted.items choice && nothing_stops choice way
 
 abbrev pub is_gone : List ℕ → Option RouteWay → Bool
 is_gone choice None = false

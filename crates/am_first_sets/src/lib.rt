@@ -1,8 +1,13 @@
-//! First label sets: the first of a space that some cubes match and others do not, and the first
-//! that ends at a route.
+//! Label sets of a space that some cubes match and others do not, and why there are none.
 //!
 //! A search by boxes finds them. It goes by the cubes, and not label by label: from a box of
 //! choices it takes those that an unwanted cube matches, and splits the box where it has to.
+//!
+//! A [`Candidate`] is a literal, a cube that a label set has to match or must not match. If no
+//! label set meets all of some literals, [`find_reason`] names enough of them that no label set
+//! meets those either. Beside those that the caller fixes, it names only what is needed. [`Pairs`]
+//! is for the same questions about two label sets that share the values of some labels: a pair of
+//! choices is one choice over twice as many labels.
 #![tactic(auto)]
 
 // The search for a choice that no cube of some matches.
@@ -10,10 +15,29 @@ mod solver;
 
 pub use solver::{first_avoiding, solve};
 
-// The first label set that is possible, and that some cubes match and others do not.
+// The choices among which a search looks, and those of a space.
 mod possible_choices;
+mod possible_sets;
 
-pub use possible_choices::{PossibleRefuter, first_possible};
+pub use possible_choices::PossibleChoices;
+pub use possible_sets::{PossibleSets, first_possible};
+
+// Literals, and the choices that meet those that are named.
+mod candidate;
+mod meeting;
+
+pub use candidate::Candidate;
+pub use meeting::{first_meeting, some_meeting};
+
+// The search for the literals that are to blame.
+mod reason;
+
+pub use reason::{find_reason, leave_out};
+
+// Pairs of label sets that share values.
+mod pairs;
+
+pub use pairs::{Pairs, Side};
 
 // The routes of a configuration as cubes.
 mod route_cubes;

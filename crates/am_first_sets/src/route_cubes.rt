@@ -7,7 +7,7 @@ ghost use Rattle.am_universe.specs.Universe.{sizes};
 ghost use Rattle.am_universe.specs.Choice.{admits};
 ghost use Rattle.am_config.specs.RouteView.{route_view};
 ghost use Rattle.am_config.specs.ConfigFile.{routes_of};
-ghost use Rattle.am_first_sets.specs.Reasons.{none_must_match};
+ghost use Rattle.am_first_sets.specs.Solving.{avoids};
 ghost use Rattle.am_first_sets.specs.RouteCubes.{AreCubesOf, AreCubesOfEach, IsWayToEnd};
 ghost use Rattle.am_first_sets.specs.RouteCubes.{none_stops, nothing_stops};
 
@@ -111,7 +111,7 @@ impl<'a> RouteWay<'a> {
     /// only if memory runs out.
     pub(crate) fn stops(&self, alloc: Global) -> Result<Vec<&'a Cube>, AllocError>
         ensures { IfOk result (λ cubes. (choice : List ℕ)
-            → none_must_match choice cubes.items ≡ nothing_stops choice self.now) }
+            → avoids cubes.items choice ≡ nothing_stops choice self.now) }
     {
         let mut cubes = Vec::new(alloc);
         for siblings in self.before.as_slice() {
@@ -129,8 +129,8 @@ fn push_stops<'a>(
     siblings: &'a [RouteCubes],
     all: bool,
 ) -> Result<(), AllocError>
-    ensures { OnOk result ((choice : List ℕ) → none_must_match choice cubes.new.items
-        ≡ (none_must_match choice cubes.old.items && none_stops all choice siblings.now)) }
+    ensures { OnOk result ((choice : List ℕ) → avoids cubes.new.items choice
+        ≡ (avoids cubes.old.items choice && none_stops all choice siblings.now)) }
 {
     for sibling in siblings {
         if all || !sibling.continues {

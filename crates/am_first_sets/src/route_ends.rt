@@ -12,7 +12,7 @@ ghost use Rattle.am_config.specs.ConfigView.{config_view};
 ghost use Rattle.am_first_sets.specs.ChoiceEnds.{is_end_at};
 ghost use Rattle.am_first_sets.specs.RouteCubes.{AreCubesOf-prop, KnowsRoutes};
 
-use crate::possible_choices::PossibleRefuter;
+use crate::possible_sets::PossibleSets;
 use crate::route_cubes::RouteCubes;
 use am_config::{Config, Path};
 use am_labels::Space;
@@ -22,7 +22,7 @@ use std::alloc::{AllocError, Global};
 /// Finds the first label set of a space that ends at a route of a configuration.
 #[derive(Drop)]
 pub struct RouteEnds<'a> {
-    possible: PossibleRefuter<'a>,
+    possible: PossibleSets<'a>,
     config: &'a Config,
     routes: RouteCubes,
     ghost knows_routes: { KnowsRoutes possible.space.now.labels
@@ -44,7 +44,7 @@ impl<'a> RouteEnds<'a> {
         ensures space { IfOk result (λ routes. ends_space routes ≡ space.now) }
         ensures config { IfOk result (λ routes. ends_config routes ≡ config_view config.now) }
     {
-        let possible = PossibleRefuter::of(alloc, space)?;
+        let possible = PossibleSets::of(alloc, space)?;
         let routes = RouteCubes::of(alloc, space.universe(), config.root())?;
         Ok(RouteEnds {
             possible,

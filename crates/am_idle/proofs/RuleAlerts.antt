@@ -2,14 +2,13 @@
 -- same of its matchers. The label sets of two such choices are alerts that may meet. So what is
 -- found of a rule among the choices of a universe that stands for every alert is true of every
 -- alert.
-use Rattle.std.proofs.Common.{◌≡◌, ◌<◌, ℕ, zero, suc, List, [], ◌∷◌, length, Bool, true, false, not}
+use Rattle.std.proofs.Common.{◌≡◌, ℕ, zero, suc, List, [], ◌∷◌, length, Bool, true, false, not}
 use Rattle.std.proofs.Common.{cond, Option, Some, None, refl, sym, ap, ◌∙◌, subst, inl, inr, arith}
 use Rattle.std.specs.Prelude.{◌&&◌, ◌||◌, ◌==◌, IsTrue, IfSome, slice_get}
 use Rattle.std.specs.Prelude.{slice_index, unwrap_or, nat_lt}
-use Rattle.std.specs.List.{AllByRecursion, cons_option}
+use Rattle.std.specs.List.{cons_option}
 use Rattle.std.specs.Cmp.Lexicographic.{bytes_decides}
 use Rattle.std.proofs.lemmas.Bool.{cases_Bool, and_parts, and_from, both_ways, eqb-true, eq-eqb}
-use Rattle.std.proofs.lemmas.List.{length-map}
 use Rattle.std.proofs.lemmas.List.Quantifiers.{position-Some}
 use Rattle.am_universe.specs.Text.{same_text}
 use Rattle.am_universe.specs.Universe.{Label, IsUniverse, sizes, label_position}
@@ -26,8 +25,8 @@ use Rattle.am_labels.proofs.RowLawLemmas.{row_decides}
 use Rattle.am_config.specs.ConfigFile.{Rule}
 use Rattle.am_search.proofs.ChoiceOrder.{got_at}
 use Rattle.am_eval.specs.Inhibition.{have_equal, is_two_sided, inhibits}
-use Rattle.am_reasons.specs.Pairs.{is_shared, are_same_at}
-use Rattle.am_reasons.proofs.PairLemmas.{same_beside}
+use Rattle.am_judged_lists.specs.Pairs.{is_shared, are_same_at}
+use Rattle.am_judged_lists.proofs.ListLemmas.{all_pass, some_passes}
 use Rattle.am_classes.specs.declared.alphabet.Alphabet.{Alphabet}
 use Rattle.am_complete.specs.Complete.{impossible_conditions}
 use Rattle.am_every_alert.specs.EveryAlert.{IsAlertOf, MeetsTheSame}
@@ -48,19 +47,10 @@ use Rattle.am_idle.specs.Rules.{IsWhyNone, IsIdle, IsRuleFinding}
 cons_shared : (o : Option ℕ) (rest : List ℕ) (i : ℕ) → is_shared (cons_option o rest) i ≡ true
     → (is_shared rest i ≡ true → ⊥) → o ≡ Some i
 cons_shared None rest i is not_there = absurd (not_there is)
-cons_shared (Some j) rest i is not_there = elim (cases_Bool (i == j)) [
-  | inl same ↦ ap Some (sym (eqb-true i j same))
+cons_shared (Some j) rest i is not_there = elim (cases_Bool (j == i)) [
+  | inl same ↦ ap Some (eqb-true j i same)
   | inr other ↦ absurd (not_there (ap (λ b. b || is_shared rest i) (sym other) ∙ is))
 ]
-
-shared_later : (o : Option ℕ) (rest : List ℕ) (i : ℕ) → is_shared rest i ≡ true
-    → is_shared (cons_option o rest) i ≡ true
-shared_later None rest i is = is
-shared_later (Some j) rest i is = rw is (or_true (i == j))
-  where
-    or_true : (b : Bool) → (b || true) ≡ true
-    or_true true = refl
-    or_true false = refl
 
 -- each of the labels has one of the names
 name_of_shared : (u : List Label) (names : List (List ℕ)) (i : ℕ)
@@ -84,26 +74,6 @@ same_name u name other i is also =
     let first = position-Some (λ l. same_text l.name name) u i no_label is in
     let second = position-Some (λ l. same_text l.name other) u i no_label also in
     sym ((bytes_decides _ name).0 first.1) ∙ (bytes_decides _ other).0 second.1
-
-cons_within : (n : ℕ) (o : Option ℕ) (rest : List ℕ) → IfSome o (λ i. i < n)
-    → AllByRecursion (λ i. i < n) rest → AllByRecursion (λ i. i < n) (cons_option o rest)
-cons_within n None rest low later = later
-cons_within n (Some i) rest low later = (low, later)
-
-position_within : (u : List Label) (name : List ℕ) (o : Option ℕ) → label_position u name ≡ o
-    → IfSome o (λ i. i < length (sizes u))
-position_within u name None is = tt
-position_within u name (Some i) is =
-    let found = position-Some (λ l. same_text l.name name) u i no_label is in
-    let long = length-map u (λ (l : Label). length l.values) in
-    omega (arith, found.0, long)
-
-pub named_within : (u : List Label) (names : List (List ℕ))
-    → AllByRecursion (λ i. i < length (sizes u)) (labels_named u names)
-named_within u [] = tt
-named_within u (name ∷ names) =
-    cons_within (length (sizes u)) (label_position u name) (labels_named u names)
-    (position_within u name (label_position u name) refl) (named_within u names)
 
 -- ---- Choices with the same position at the label of a matcher.
 
@@ -213,12 +183,6 @@ mixed_at takes (p ∷ c) (q ∷ d) zero same = refl
 mixed_at takes (p ∷ c) (q ∷ d) (suc i) same =
     mixed_at (λ j. takes (suc j)) c d i (omega (arith, same))
 
-same_itself_at : (shared c : List ℕ) → are_same_at shared c c ≡ true
-same_itself_at [] c = refl
-same_itself_at (i ∷ shared) c =
-    and_from (slice_index c i == slice_index c i) (are_same_at shared c c)
-    (eq-eqb (slice_index c i) (slice_index c i) refl) (same_itself_at shared c)
-
 module _ (u : List Label) (h : IsUniverse u) (names : List (List ℕ)) (c d : List ℕ)
     (first : IsWhole (sizes u) c) (second : IsWhole (sizes u) d) where
   abbrev long : length c ≡ length d
@@ -240,9 +204,12 @@ module _ (u : List Label) (h : IsUniverse u) (names : List (List ℕ)) (c d : Li
 
   partner_same : are_same_at (labels_named u names) c partner ≡ true
   partner_same =
-      same_beside (labels_named u names) partner c partner
-      (λ i is. sym (partner_at i ∙ ap (λ b. cond b (slice_index c i) (slice_index d i)) is))
-      ∙ same_itself_at (labels_named u names) partner
+      let shared = labels_named u names in
+      all_pass (λ i. slice_index c i == slice_index partner i) shared
+      (AllByRecursion-each (λ i. (slice_index c i == slice_index partner i) ≡ true) shared
+      (λ i among. eq-eqb (slice_index c i) (slice_index partner i)
+      (sym (partner_at i ∙ ap (λ b. cond b (slice_index c i) (slice_index d i))
+      (some_passes (λ j. j == i) shared i among (eq-eqb i i refl))))))
 
   module _ (x y : LabelMap) (equal : have_equal names x y ≡ true) where
     -- the partner meets each matcher exactly if the second alert does
@@ -324,10 +291,6 @@ meets_all : (ms : List Condition) (positions : List ℕ) (set : LabelMap) → Ma
 meets_all ms positions set all i m there at = matched_at ms set i m all at
 
 module _ (rule : Rule) where
-  some_of_inhibiting : (Meet : LabelMap → LabelMap → Type 0) → SomeInhibit Meet rule
-      → SomeMeet Meet (Matches rule.source) (Matches rule.target)
-  some_of_inhibiting Meet two = (two.0, two.1, two.2, two.3, two.4)
-
   -- ---- What inhibits.
 
   inhibits_where : (x y : LabelMap) → have_equal rule.equal x y ≡ true

@@ -1,17 +1,18 @@
--- The literals of the sides of a rule, and what they say of the label sets of choices.
+-- The literals of the sides of a rule, and what they say of the label sets of pairs.
 use Rattle.std.proofs.Common.{◌≡◌, ◌≢◌, ◌<◌, ◌+◌, ℕ, zero, suc, List, [], ◌∷◌, length, Bool, true}
 use Rattle.std.proofs.Common.{false, not, cond, Option, Some, None, refl, sym, ap, ◌∙◌, subst, inl}
-use Rattle.std.proofs.Common.{inr, arith, Contains, ◌++◌, take, add-one, Result, Ok, Err, IfOk}
+use Rattle.std.proofs.Common.{inr, arith, Contains, ◌++◌, take, drop, length-append, ◌≤◌}
 use Rattle.std.proofs.Common.{IfSome, IfNone, get_or, String, Global, string_bytes}
 use Rattle.std.specs.Prelude.{◌&&◌, ◌||◌, slice_get, is_some}
 use Rattle.std.specs.List.{AllByRecursion, AllZip, cons_option}
 use Rattle.std.proofs.lemmas.List.{take_more, map-append}
 use Rattle.std.proofs.lemmas.List.Elements.{filter_map-append}
+use Rattle.std.proofs.lemmas.List.Folds.{list_all-append}
 use Rattle.std.specs.List.Sorted.{IsStrictlySortedBy}
 use Rattle.std.specs.Ordering.{nat_cmp}
 use Rattle.std.specs.Cmp.{nat_cmp_is}
 use Rattle.std.specs.declared.cmp.Ordering.TheVariants.{Less}
-use Rattle.std.proofs.lemmas.Bool.{cases_Bool, and_parts, and_from, and_right}
+use Rattle.std.proofs.lemmas.Bool.{and_parts, and_from, both_ways}
 use Rattle.std.proofs.lemmas.Option.{same_Some, slice_get_within}
 use Rattle.am_universe.specs.Universe.{Label, sizes, label_position}
 use Rattle.am_universe.specs.Choice.{IsWhole}
@@ -22,20 +23,27 @@ use Rattle.am_labels.specs.Matcher.{Condition, condition_holds, all_hold}
 use Rattle.am_labels.specs.Space.{Space}
 use Rattle.am_config.specs.ConfigFile.{Rule}
 use Rattle.am_config.specs.RouteView.{names_of}
-use Rattle.am_judged_lists.specs.Cube.{IsCubeOf, MaskedLabels}
+use Rattle.am_judged_lists.specs.Cube.{IsCubeOf, MaskedLabels, matches}
 use Rattle.am_eval.specs.Silencing.{positions_where}
 use Rattle.am_eval.specs.Inhibition.{is_two_sided}
-use Rattle.am_reasons.specs.declared.candidate.Candidate.{Candidate}
-use Rattle.am_reasons.specs.Meeting.{holds_at, meets}
-use Rattle.am_reasons.specs.Reason.{AreSameLiterals, without}
-use Rattle.am_reasons.specs.Pairs.{are_same_at, IsPair, ArePaired, AreUnpaired, IsPairReason}
-use Rattle.am_idle.specs.RuleChoices.{labels_named, AreMeeting, AreLiteralsOf, AreAllNamed}
-use Rattle.am_idle.specs.RuleChoices.{AreCubesOfMatchers, AreWantedFor, IsFoundOf, IsLiteralOf}
+use Rattle.am_first_sets.specs.declared.candidate.Candidate.{Candidate}
+use Rattle.am_first_sets.specs.declared.pairs.Pairs.{Pairs}
+use Rattle.am_first_sets.specs.declared.possible_choices.PossibleChoices.{PossibleChoices}
+use Rattle.am_first_sets.specs.declared.pairs.Side.{Side}
+use Rattle.am_first_sets.specs.declared.pairs.Side.TheVariants.{First, Second}
+use Rattle.am_first_sets.specs.Literals.{holds_at, meets, IsMet}
+use Rattle.am_first_sets.specs.Pairs.{ArePairsOf, pair_choices, side_of}
+use Rattle.am_first_sets.specs.PossibleChoices.{IsPossible, AreFound}
+use Rattle.am_first_sets.specs.Reason.{AreSameLiterals, without, IsReason}
+use Rattle.am_first_sets.proofs.CubeTruth.{matches_where}
+use Rattle.am_first_sets.proofs.ReasonLemmas.{met_at}
+use Rattle.am_first_sets.proofs.SolverLemmas.{some_choice}
+use Rattle.am_idle.specs.RuleChoices.{labels_named, AreMeeting, AreAllNamed, AreNamedIn}
+use Rattle.am_idle.specs.RuleChoices.{AreCubesOfMatchers, AreWantedFor, IsFoundOf}
 use Rattle.am_idle.specs.declared.rules.IdleReason.{IdleReason}
+use Rattle.am_idle.specs.declared.rules.IdleReason.TheVariants as reason_is
 use Rattle.am_idle.specs.Rules.{SomeMeet, SomeInhibit, Matches, MeetsAt, MeetsAtBut, AreWithin}
 use Rattle.am_idle.specs.Rules.{Contradict, IsWhyNone}
-use Rattle.am_reasons.proofs.PairLemmas.{turned_round}
-use Rattle.am_idle.proofs.FoundSets.{by_kind, says_wanted, wanted_says}
 
 -- ---- Positions of the items that pass a test.
 
@@ -111,20 +119,6 @@ positions_ascend test from (x ∷ xs) =
 
 -- ---- One more item.
 
-pub zip_more : {X Y : Type 0} (R : X → Y → Type 0) (xs : List X) (ys : List Y) (i : ℕ) (x : X)
-    (y : Y) → slice_get xs i ≡ Some x → AllZip R (take i xs) ys → R x y
-    → AllZip R (take (i + 1) xs) (ys ++ y ∷ [])
-zip_more R xs ys i x y at so_far new =
-    subst (λ n. AllZip R (take n xs) (ys ++ y ∷ [])) (sym (add-one i)) (go xs ys i at so_far)
-  where
-    go : (xs : List _) (ys : List _) (i : ℕ) → slice_get xs i ≡ Some x → AllZip R (take i xs) ys
-        → AllZip R (take (suc i) xs) (ys ++ y ∷ [])
-    go [] ys i at so_far = absurd (cc)
-    go (z ∷ xs) [] zero at so_far = (subst (λ w. R w y) (sym (same_Some z x at)) new, tt)
-    go (z ∷ xs) (w ∷ ys) zero at so_far = absurd so_far
-    go (z ∷ xs) [] (suc i) at so_far = absurd so_far
-    go (z ∷ xs) (w ∷ ys) (suc i) at so_far = (so_far.0, go xs ys i at so_far.1)
-
 pub all_pushed : {X : Type 0} (P : X → Type 0) (xs : List X) (x : X) → AllByRecursion P xs → P x
     → AllByRecursion P (xs ++ x ∷ [])
 all_pushed P [] x all new = (new, tt)
@@ -140,440 +134,468 @@ unchanged_at zero (suc i) (k ∷ ks) other = refl
 unchanged_at (suc n) zero (k ∷ ks) other = refl
 unchanged_at (suc n) (suc i) (k ∷ ks) other = unchanged_at n i ks (λ e. other (ap suc e))
 
-met_at : (c : List ℕ) (ks : List Candidate) (i : ℕ) (k : Candidate) → meets c ks ≡ true
-    → slice_get ks i ≡ Some k → k.named ≡ true → holds_at c k ≡ true
-met_at c [] i k met at named = absurd (cc)
-met_at c (l ∷ ks) zero k met at named =
-    let is : l ≡ k = cc in
-    let here = subst (λ (x : Candidate). (not x.named || holds_at c x) ≡ true) is
-    (and_parts (not l.named || holds_at c l) (meets c ks) met).0 in
-    sym (ap (λ b. not b || holds_at c k) named) ∙ here
-met_at c (l ∷ ks) (suc i) k met at named =
-    met_at c ks i k (and_parts (not l.named || holds_at c l) (meets c ks) met).1 at named
-
-each_met : (c : List ℕ) (ks : List Candidate)
-    → ((i : ℕ) (k : Candidate) → slice_get ks i ≡ Some k → k.named ≡ true → holds_at c k ≡ true)
-    → meets c ks ≡ true
-each_met c [] each = refl
-each_met c (k ∷ ks) each =
-    and_from (not k.named || holds_at c k) (meets c ks) (one k.named refl)
-    (each_met c ks (λ i l at named. each (suc i) l at named))
+each_met : (e : List ℕ) (ks : List Candidate)
+    → ((i : ℕ) (k : Candidate) → slice_get ks i ≡ Some k → k.named ≡ true → holds_at e k ≡ true)
+    → meets e ks ≡ true
+each_met e [] each = refl
+each_met e (k ∷ ks) each =
+    and_from (not k.named || holds_at e k) (meets e ks) (one k.named refl)
+    (each_met e ks (λ i l at named. each (suc i) l at named))
   where
-    one : (b : Bool) → k.named ≡ b → (not b || holds_at c k) ≡ true
+    one : (b : Bool) → k.named ≡ b → (not b || holds_at e k) ≡ true
     one true named = each 0 k refl named
     one false named = refl
 
--- ---- What literals say.
+abbrev named_of : List Candidate → List ℕ
+named_of ks = positions_where (λ k. k.named) 0 ks
 
-module _ (s : Space) where
-  abbrev u : List Label
-  u = s.labels
+-- at each position in `named_of` there is a literal, and it is named
+named_at : (ks : List Candidate) (i : ℕ) → Contains (named_of ks) i
+    → (k : Candidate) × (slice_get ks i ≡ Some k) × (k.named ≡ true)
+named_at ks i there =
+    let r = positions_out (λ (k : Candidate). k.named) 0 ks i
+    (IsIn-from_Contains (named_of ks) i there) in
+    let same : r.0 ≡ i = omega (arith, r.2) in
+    (r.1, ap (slice_get ks) (sym same) ∙ r.3, r.4)
 
-  -- a literal is true at a choice exactly if its list matches, or does not match, as is wanted
-  says_list : (ms : List Condition) (k : Candidate) (wanted : Bool) (c : List ℕ)
-      → k.wanted ≡ wanted → IsCubeOf u ms k.cube.now → IsWhole (sizes u) c → holds_at c k ≡ true
-      → all_hold (label_set_of u c) ms ≡ wanted
-  says_list ms k wanted c wants is whole met =
-      says_wanted wanted (all_hold (label_set_of u c) ms)
-      (sym (by_kind s ms wanted k wants is c whole) ∙ met)
+-- the named literals of two lists, one behind the other
+meets_both : (e : List ℕ) (ks ls : List Candidate) → meets e (ks ++ ls) ≡ (meets e ks && meets e ls)
+meets_both e ks ls = list_all-append (λ (k : Candidate). not k.named || holds_at e k) ks ls
 
-  list_says_so : (ms : List Condition) (k : Candidate) (wanted : Bool) (c : List ℕ)
-      → k.wanted ≡ wanted → IsCubeOf u ms k.cube.now → IsWhole (sizes u) c
-      → all_hold (label_set_of u c) ms ≡ wanted → holds_at c k ≡ true
-  list_says_so ms k wanted c wants is whole matched =
-      by_kind s ms wanted k wants is c whole
-      ∙ wanted_says wanted (all_hold (label_set_of u c) ms) matched
+without_front : (i : ℕ) (ks ls : List Candidate) (k : Candidate) → slice_get ks i ≡ Some k
+    → (slice_get (ks ++ ls) i ≡ Some k) × (without i (ks ++ ls) ≡ without i ks ++ ls)
+without_front i [] ls k at = absurd (cc)
+without_front zero (l ∷ ks) ls k at = (at, refl)
+without_front (suc i) (l ∷ ks) ls k at =
+    let r = without_front i ks ls k at in (r.0, ap (λ rest. l ∷ rest) r.1)
 
-  and_true : (b : Bool) → (b && true) ≡ b
-  and_true true = refl
-  and_true false = refl
+without_rest : (i : ℕ) (ks ls : List Candidate) (k : Candidate) → slice_get ls i ≡ Some k
+    → (slice_get (ks ++ ls) (length ks + i) ≡ Some k)
+    × (without (length ks + i) (ks ++ ls) ≡ ks ++ without i ls)
+without_rest i [] ls k at =
+    let same : 0 + i ≡ i = omega arith in
+    (ap (slice_get ls) same ∙ at, ap (λ n. without n ls) same)
+without_rest i (l ∷ ks) ls k at =
+    let r = without_rest i ks ls k at in
+    let same : length (l ∷ ks) + i ≡ suc (length ks + i) = omega arith in (
+      ap (slice_get (l ∷ (ks ++ ls))) same ∙ r.0,
+      ap (λ n. without n (l ∷ (ks ++ ls))) same ∙ ap (λ rest. l ∷ rest) r.1,
+    )
 
-  says_condition : (m : Condition) (k : Candidate) (c : List ℕ) → k.wanted ≡ true
-      → IsCubeOf u (m ∷ []) k.cube.now → IsWhole (sizes u) c → holds_at c k ≡ true
-      → condition_holds (label_set_of u c) m ≡ true
-  says_condition m k c wants is whole met =
-      sym (and_true (condition_holds (label_set_of u c) m))
-      ∙ says_list (m ∷ []) k true c wants is whole met
+-- ---- What literals say of one side of a pair.
 
-  condition_says : (m : Condition) (k : Candidate) (c : List ℕ) → k.wanted ≡ true
-      → IsCubeOf u (m ∷ []) k.cube.now → IsWhole (sizes u) c
-      → condition_holds (label_set_of u c) m ≡ true → holds_at c k ≡ true
-  condition_says m k c wants is whole so =
-      list_says_so (m ∷ []) k true c wants is whole
-      (and_true (condition_holds (label_set_of u c) m) ∙ so)
+-- the literals ask for the matchers, one by one, of a label set
+abbrev AskFor : List ℕ → LabelMap → List Condition → List Candidate → Type 0
+AskFor e set ms ks = AllZip (λ m k. holds_at e k ≡ condition_holds set m) ms ks
 
-  -- ---- The literals of a side.
+zip_left : {X Y : Type 0} (R : X → Y → Type 0) (xs : List X) (ys : List Y) (i : ℕ) (y : Y)
+    → AllZip R xs ys → slice_get ys i ≡ Some y → (x : X) × (slice_get xs i ≡ Some x) × R x y
+zip_left R xs [] i y all at = absurd (cc)
+zip_left R [] (z ∷ ys) i y all at = absurd all
+zip_left R (x ∷ xs) (z ∷ ys) zero y all at = (x, refl, subst (R x) (same_Some z y at) all.0)
+zip_left R (x ∷ xs) (z ∷ ys) (suc i) y all at = zip_left R xs ys i y all.1 at
 
-  literal_at : (ms : List Condition) (ks : List Candidate) (i : ℕ) (m : Condition)
-      (k : Candidate) → AreLiteralsOf u ms ks → slice_get ms i ≡ Some m → slice_get ks i ≡ Some k
-      → IsCubeOf u (m ∷ []) k.cube.now × (k.wanted ≡ true)
-  literal_at [] ks i m k are at also = absurd (cc)
-  literal_at (n ∷ ms) [] i m k are at also = absurd are
-  literal_at (n ∷ ms) (l ∷ ks) zero m k are at also =
-      let is : n ≡ m = cc in
-      let same : l ≡ k = cc in
-      subst (λ (x : Candidate). IsCubeOf u (m ∷ []) x.cube.now × (x.wanted ≡ true)) same
-      (subst (λ (x : Condition). IsCubeOf u (x ∷ []) l.cube.now × (l.wanted ≡ true)) is are.0)
-  literal_at (n ∷ ms) (l ∷ ks) (suc i) m k are at also = literal_at ms ks i m k are.1 at also
+module _ (e : List ℕ) (set : LabelMap) where
+  module _ (ms : List Condition) (ks : List Candidate) (ask : AskFor e set ms ks) where
+    asked_at : (i : ℕ) (m : Condition) (k : Candidate) → slice_get ms i ≡ Some m
+        → slice_get ks i ≡ Some k → holds_at e k ≡ condition_holds set m
+    asked_at i m k at also =
+        let r = zip_left (λ n l. holds_at e l ≡ condition_holds set n) ms ks i k ask also in
+        r.2 ∙ ap (condition_holds set) (same_Some r.0 m (sym r.1 ∙ at))
 
-  literal_there : (ms : List Condition) (ks : List Candidate) (i : ℕ) (m : Condition)
-      → AreLiteralsOf u ms ks → slice_get ms i ≡ Some m
-      → (k : Candidate) × (slice_get ks i ≡ Some k)
-  literal_there [] ks i m are at = absurd (cc)
-  literal_there (n ∷ ms) [] i m are at = absurd are
-  literal_there (n ∷ ms) (l ∷ ks) zero m are at = (l, refl)
-  literal_there (n ∷ ms) (l ∷ ks) (suc i) m are at = literal_there ms ks i m are.1 at
-
-  matcher_there : (ms : List Condition) (ks : List Candidate) (i : ℕ) (k : Candidate)
-      → AreLiteralsOf u ms ks → slice_get ks i ≡ Some k
-      → (m : Condition) × (slice_get ms i ≡ Some m)
-  matcher_there ms [] i k are at = absurd (cc)
-  matcher_there [] (l ∷ ks) i k are at = absurd are
-  matcher_there (n ∷ ms) (l ∷ ks) zero k are at = (n, refl)
-  matcher_there (n ∷ ms) (l ∷ ks) (suc i) k are at = matcher_there ms ks i k are.1 at
-
-  pub same_literals : (ms : List Condition) (ks ls : List Candidate) → AreLiteralsOf u ms ks
-      → AreSameLiterals ks ls → AreLiteralsOf u ms ls
-  same_literals [] [] [] are same = tt
-  same_literals [] [] (l ∷ ls) are same = absurd same
-  same_literals [] (k ∷ ks) ls are same = absurd are
-  same_literals (m ∷ ms) [] ls are same = absurd are
-  same_literals (m ∷ ms) (k ∷ ks) [] are same = absurd same
-  same_literals (m ∷ ms) (k ∷ ks) (l ∷ ls) are same = (
-    (
-      subst (λ cube. IsCubeOf u (m ∷ []) cube.now) same.0.0 are.0.0,
-      sym same.0.1 ∙ are.0.1,
-    ),
-    same_literals ms ks ls are.1 same.1,
-  )
-
-  abbrev named_of : List Candidate → List ℕ
-  named_of ks = positions_where (λ k. k.named) 0 ks
-
-  -- at each position in `named_of` there is a literal, and it is named
-  named_at : (ms : List Condition) (ks : List Candidate) (i : ℕ) → AreLiteralsOf u ms ks
-      → Contains (named_of ks) i
-      → (k : Candidate) × (slice_get ks i ≡ Some k) × (k.named ≡ true)
-  named_at ms ks i are there =
-      let r = positions_out (λ (k : Candidate). k.named) 0 ks i
-      (IsIn-from_Contains (named_of ks) i there) in
-      let same : r.0 ≡ i = omega (arith, r.2) in
-      (r.1, ap (slice_get ks) (sym same) ∙ r.3, r.4)
-
-  pub named_within_side : (ms : List Condition) (ks : List Candidate) → AreLiteralsOf u ms ks
-      → AreWithin ms (named_of ks)
-  named_within_side ms ks are =
-      AllByRecursion-each (λ i. i < length ms) (named_of ks) (λ i there.
-      let k = named_at ms ks i are (Contains-from_IsIn (named_of ks) i there) in
-      let m = matcher_there ms ks i k.0 are k.1 in
-      slice_get_within ms i m.0 m.1)
-
-  module _ (ms : List Condition) (ks : List Candidate) (are : AreLiteralsOf u ms ks)
-      (c : List ℕ) (whole : IsWhole (sizes u) c) where
-    pub meets_at : meets c ks ≡ true → MeetsAt ms (named_of ks) (label_set_of u c)
+    meets_at : meets e ks ≡ true → MeetsAt ms (named_of ks) set
     meets_at met i m there at =
-        let k = named_at ms ks i are there in
-        let literal = literal_at ms ks i m k.0 are at k.1 in
-        says_condition m k.0 c literal.1 literal.0 whole (met_at c ks i k.0 met k.1 k.2)
+        let k = named_at ks i there in
+        sym (asked_at i m k.0 at k.1) ∙ met_at e ks i k.0 met k.1 k.2
 
-    pub meets_at_but : (n : ℕ) → meets c (without n ks) ≡ true
-        → MeetsAtBut ms (named_of ks) n (label_set_of u c)
+    meets_at_but : (n : ℕ) → meets e (without n ks) ≡ true → MeetsAtBut ms (named_of ks) n set
     meets_at_but n met i m there other at =
-        let k = named_at ms ks i are there in
-        let literal = literal_at ms ks i m k.0 are at k.1 in
-        says_condition m k.0 c literal.1 literal.0 whole
-        (met_at c (without n ks) i k.0 met (unchanged_at n i ks other ∙ k.1) k.2)
+        let k = named_at ks i there in
+        sym (asked_at i m k.0 at k.1)
+        ∙ met_at e (without n ks) i k.0 met (unchanged_at n i ks other ∙ k.1) k.2
 
-    pub at_meets : MeetsAt ms (named_of ks) (label_set_of u c) → meets c ks ≡ true
-    at_meets so = each_met c ks (λ i k at named.
-        let m = matcher_there ms ks i k are at in
-        let literal = literal_at ms ks i m.0 k are m.1 at in
+    at_meets : MeetsAt ms (named_of ks) set → meets e ks ≡ true
+    at_meets so = each_met e ks (λ i k at named.
+        let r = zip_left (λ m l. holds_at e l ≡ condition_holds set m) ms ks i k ask at in
         let same : 0 + i ≡ i = omega arith in
         let there = subst (IsIn (named_of ks)) same
         (positions_in (λ (l : Candidate). l.named) 0 ks i k at named) in
-        condition_says m.0 k c literal.1 literal.0 whole
-        (so i m.0 (Contains-from_IsIn (named_of ks) i there) m.1))
+        r.2 ∙ so i r.0 (Contains-from_IsIn (named_of ks) i there) r.1)
 
-  pub meets_list : (ms : List Condition) (ks : List Candidate) → AreLiteralsOf u ms ks
-      → AreAllNamed ks → (c : List ℕ) → IsWhole (sizes u) c → meets c ks ≡ true
-      → all_hold (label_set_of u c) ms ≡ true
-  meets_list [] ks are named c whole met = refl
-  meets_list (m ∷ ms) [] are named c whole met = absurd are
-  meets_list (m ∷ ms) (k ∷ ks) are named c whole met =
-      let parts = and_parts (not k.named || holds_at c k) (meets c ks) met in
-      let holds = sym (ap (λ b. not b || holds_at c k) named.0) ∙ parts.0 in
-      and_from (condition_holds (label_set_of u c) m) (all_hold (label_set_of u c) ms)
-      (says_condition m k c are.0.1 are.0.0 whole holds)
-      (meets_list ms ks are.1 named.1 c whole parts.1)
+  meets_list : (ms : List Condition) (ks : List Candidate) → AskFor e set ms ks → AreAllNamed ks
+      → meets e ks ≡ all_hold set ms
+  meets_list [] [] ask named = refl
+  meets_list [] (k ∷ ks) ask named = absurd ask
+  meets_list (m ∷ ms) [] ask named = absurd ask
+  meets_list (m ∷ ms) (k ∷ ks) ask named =
+      λ i. (ap (λ b. not b || holds_at e k) named.0 ∙ ask.0) i && meets_list ms ks ask.1 named.1 i
 
-  -- the literals that ask for cubes of matchers are those of the matchers
-  pub literals_are : (ms : List Condition) (cubes : List MaskedLabels) (ks : List Candidate)
-      → AreCubesOfMatchers u ms cubes → AreWantedFor cubes ks → AreLiteralsOf u ms ks
-  literals_are [] [] [] are wanted = tt
-  literals_are [] [] (k ∷ ks) are wanted = absurd wanted
-  literals_are [] (cube ∷ cubes) ks are wanted = absurd are
-  literals_are (m ∷ ms) [] ks are wanted = absurd are
-  literals_are (m ∷ ms) (cube ∷ cubes) [] are wanted = absurd wanted
-  literals_are (m ∷ ms) (cube ∷ cubes) (k ∷ ks) are wanted = (
-    (subst (IsCubeOf u (m ∷ [])) (sym wanted.0.0) are.0, wanted.0.1),
-    literals_are ms cubes ks are.1 wanted.1,
-  )
+-- ---- From the calls that make them.
 
-  -- ---- Pairs.
+zip_with : {X Y : Type 0} (R S : X → Y → Type 0) (xs : List X) (ys : List Y)
+    → ((x : X) (y : Y) → R x y → S x y) → AllZip R xs ys → AllZip S xs ys
+zip_with R S [] [] so all = tt
+zip_with R S [] (y ∷ ys) so all = absurd all
+zip_with R S (x ∷ xs) [] so all = absurd all
+zip_with R S (x ∷ xs) (y ∷ ys) so all = (so x y all.0, zip_with R S xs ys so all.1)
 
-  module _ (names : List (List ℕ)) (shared : List ℕ) (named : shared ≡ labels_named u names) where
-    abbrev Meet : LabelMap → LabelMap → Type 0
-    Meet = AreMeeting s names
+zip_through : {X Y Z : Type 0} (R : X → Y → Type 0) (S : Y → Z → Type 0) (T : X → Z → Type 0)
+    (xs : List X) (ys : List Y) (zs : List Z) → ((x : X) (y : Y) (z : Z) → R x y → S y z → T x z)
+    → AllZip R xs ys → AllZip S ys zs → AllZip T xs zs
+zip_through R S T [] [] [] so all more = tt
+zip_through R S T [] [] (z ∷ zs) so all more = absurd more
+zip_through R S T [] (y ∷ ys) zs so all more = absurd all
+zip_through R S T (x ∷ xs) [] zs so all more = absurd all
+zip_through R S T (x ∷ xs) (y ∷ ys) [] so all more = absurd more
+zip_through R S T (x ∷ xs) (y ∷ ys) (z ∷ zs) so all more =
+    (so x y z all.0 more.0, zip_through R S T xs ys zs so all.1 more.1)
 
-    sets_meet : (ks ls : List Candidate) (c d : List ℕ) → IsPair s shared ks ls c d
-        → Meet (label_set_of u c) (label_set_of u d)
-    sets_meet ks ls c d pair = (
-      c,
-      d,
-      pair.first,
-      pair.second,
-      ap (λ labels. are_same_at labels c d) (sym named) ∙ pair.same,
-      refl,
-      refl,
-    )
+-- the same literals in two parts
+same_parts : (ks ls named : List Candidate) → AreSameLiterals (ks ++ ls) named
+    → AreSameLiterals ks (take (length ks) named) × AreSameLiterals ls (drop (length ks) named)
+    × (take (length ks) named ++ drop (length ks) named ≡ named)
+    × (length (take (length ks) named) ≡ length ks)
+same_parts [] ls named same = (tt, same, refl, refl)
+same_parts (k ∷ ks) ls [] same = absurd same
+same_parts (k ∷ ks) ls (n ∷ named) same =
+    let r = same_parts ks ls named same.1 in
+    ((same.0, r.0), r.1, ap (λ rest. n ∷ rest) r.2, ap suc r.3)
 
-    module _ (rule : Rule) (ks ls : List Candidate) (are : AreLiteralsOf u rule.source ks)
-        (also : AreLiteralsOf u rule.target ls) where
-      pub some_match : AreAllNamed ks → AreAllNamed ls → ArePaired s shared ks ls
-          → SomeMeet Meet (Matches rule.source) (Matches rule.target)
-      some_match all others (c, d, pair) = (
-        label_set_of u c,
-        label_set_of u d,
-        sets_meet ks ls c d pair,
-        meets_list rule.source ks are all c pair.first.0 pair.meets_first,
-        meets_list rule.target ls also others d pair.second.0 pair.meets_second,
+-- the literals of a side, whichever of them are named
+abbrev AreLiteralsOf : List Label → Pairs → Side → List Condition → List Candidate → Type 0
+AreLiteralsOf u pairs side ms ks =
+    AllZip (λ m k. (e : List ℕ) → IsPossible (pair_choices pairs) e
+    → IsWhole (sizes u) (side_of pairs side e)
+    → holds_at e k ≡ condition_holds (label_set_of u (side_of pairs side e)) m) ms ks
+
+module _ (u : List Label) (pairs : Pairs) (side : Side) (ms : List Condition) where
+  pub literals_are : (cubes : List MaskedLabels) (ks : List Candidate)
+      → AreCubesOfMatchers u pairs side ms cubes → AreWantedFor cubes ks
+      → AreLiteralsOf u pairs side ms ks
+  literals_are cubes ks are wanted =
+      zip_through _ _ _ ms cubes ks (λ m cube k says asks e possible whole.
+      rw asks.1 (ap (λ (c : MaskedLabels). matches c e) asks.0 ∙ says e possible whole)) are wanted
+
+  same_literals : (ks ls : List Candidate) → AreLiteralsOf u pairs side ms ks → AreSameLiterals ks ls
+      → AreLiteralsOf u pairs side ms ls
+  same_literals ks ls are same =
+      zip_through _ _ _ ms ks ls (λ m k l says alike e possible whole.
+      still k l e alike.0 alike.1 ∙ says e possible whole) are same
+    where
+      still : (k l : Candidate) (e : List ℕ) → k.cube ≡ l.cube → k.wanted ≡ l.wanted
+          → holds_at e l ≡ holds_at e k
+      still k l e cube wanted = rw (cube, wanted) refl
+
+  ask_for : (ks : List Candidate) → AreLiteralsOf u pairs side ms ks → (e : List ℕ)
+      → IsPossible (pair_choices pairs) e → IsWhole (sizes u) (side_of pairs side e)
+      → AskFor e (label_set_of u (side_of pairs side e)) ms ks
+  ask_for ks are e possible whole = zip_with _ _ ms ks (λ m k says. says e possible whole) are
+
+  within_side : (ks : List Candidate) → AreLiteralsOf u pairs side ms ks → AreWithin ms (named_of ks)
+  within_side ks are =
+      AllByRecursion-each (λ i. i < length ms) (named_of ks) (λ i there.
+      let k = named_at ks i (Contains-from_IsIn (named_of ks) i there) in
+      let r = zip_left _ ms ks i k.0 are k.1 in slice_get_within ms i r.0 r.1)
+
+-- ---- Pairs.
+
+module _ (s : Space) (names : List (List ℕ)) (pairs : Pairs)
+    (are : ArePairsOf s (labels_named s.labels names) pairs) where
+  abbrev u : List Label
+  u = s.labels
+
+  abbrev Meet : LabelMap → LabelMap → Type 0
+  Meet = AreMeeting s names
+
+  abbrev Is : List ℕ → Type 0
+  Is = IsPossible (pair_choices pairs)
+
+  abbrev first : List ℕ → LabelMap
+  first e = label_set_of u (side_of pairs First e)
+
+  abbrev second : List ℕ → LabelMap
+  second e = label_set_of u (side_of pairs Second e)
+
+  sets_meet : (e : List ℕ) → Is e → Meet (first e) (second e)
+  sets_meet e possible =
+      let pair = are.sides e possible in (
+        side_of pairs First e,
+        side_of pairs Second e,
+        pair.first,
+        pair.second,
+        pair.same,
+        refl,
+        refl,
       )
 
-      none_meet : AreUnpaired s shared ks ls
-          → SomeMeet Meet (MeetsAt rule.source (named_of ks)) (MeetsAt rule.target (named_of ls))
-          → ⊥
-      none_meet none (x, y, (c, d, first, second, same, is, is_also), meets_source, meets_target) =
-          none (
-            c,
-            d,
-            record {
-              first = first;
-              second = second;
-              same = ap (λ labels. are_same_at labels c d) named ∙ same;
-              meets_first = at_meets rule.source ks are c first.0
-                  (subst (λ (set : LabelMap). MeetsAt rule.source (named_of ks) set) is
-                  meets_source);
-              meets_second = at_meets rule.target ls also d second.0
-                  (subst (λ (set : LabelMap). MeetsAt rule.target (named_of ls) set) is_also
-                  meets_target);
-            },
-          )
+  -- two label sets that may meet are the sides of a pair
+  pair_of : (x y : LabelMap) → Meet x y → (e : List ℕ) × Is e × (x ≡ first e) × (y ≡ second e)
+  pair_of x y (c, d, one, two, same, is, also) =
+      let r = are.every c d (record { first = one; second = two; same = same }) in
+      (r.0, r.1, is ∙ ap (label_set_of u) (sym r.2), also ∙ ap (label_set_of u) (sym r.3))
 
-      pub contradict : IsPairReason s shared ks ls
-          → Contradict Meet rule (named_of ks) (named_of ls)
-      contradict reason = record {
-        in_source = named_within_side rule.source ks are;
-        in_target = named_within_side rule.target ls also;
-        source_order = positions_ascend (λ (k : Candidate). k.named) 0 ks;
-        target_order = positions_ascend (λ (k : Candidate). k.named) 0 ls;
-        enough = none_meet reason.enough;
-        source_needed = λ i there.
-            let k = named_at rule.source ks i are there in
-            let r = reason.first_needed i k.0 k.1 k.2 in
-            let pair = r.2 in (
-              label_set_of u r.0,
-              label_set_of u r.1,
-              sets_meet (without i ks) ls r.0 r.1 pair,
-              meets_at_but rule.source ks are r.0 pair.first.0 i pair.meets_first,
-              meets_at rule.target ls also r.1 pair.second.0 pair.meets_second,
-            );
-        target_needed = λ i there.
-            let l = named_at rule.target ls i also there in
-            let r = reason.second_needed i l.0 l.1 l.2 in
-            let pair = r.2 in (
-              label_set_of u r.1,
-              label_set_of u r.0,
-              turned r.0 r.1 i pair,
-              meets_at rule.source ks are r.1 pair.second.0 pair.meets_second,
-              meets_at_but rule.target ls also r.0 pair.first.0 i pair.meets_first,
-            );
-      }
-        where
-          turned : (c d : List ℕ) (i : ℕ) → IsPair s shared (without i ls) ks c d
-              → Meet (label_set_of u d) (label_set_of u c)
-          turned c d i pair =
-              sets_meet ks (without i ls) d c (turned_round s shared (without i ls) ks c d pair)
+  module _ (rule : Rule) (ks ls : List Candidate)
+      (source : AreLiteralsOf u pairs First rule.source ks)
+      (target : AreLiteralsOf u pairs Second rule.target ls) where
+    source_asks : (e : List ℕ) → Is e → AskFor e (first e) rule.source ks
+    source_asks e possible =
+        ask_for u pairs First rule.source ks source e possible (are.sides e possible).first.0
 
-    -- ---- What inhibits.
+    target_asks : (e : List ℕ) → Is e → AskFor e (second e) rule.target ls
+    target_asks e possible =
+        ask_for u pairs Second rule.target ls target e possible (are.sides e possible).second.0
 
-    module _ (rule : Rule) (source target other_target other_source : Candidate)
-        (in_source : IsLiteralOf u rule.source true source)
-        (in_target : IsLiteralOf u rule.target true target)
-        (out_target : IsLiteralOf u rule.target false other_target)
-        (out_source : IsLiteralOf u rule.source false other_source) where
-      one_met : (k : Candidate) (ms : List Condition) (wanted : Bool) (rest : List Candidate)
-          (c : List ℕ) → IsLiteralOf u ms wanted k → IsWhole (sizes u) c
-          → meets c (k ∷ rest) ≡ true
-          → (all_hold (label_set_of u c) ms ≡ wanted) × (meets c rest ≡ true)
-      one_met k ms wanted rest c is whole met =
-          let parts = and_parts (not k.named || holds_at c k) (meets c rest) met in
-          let holds = sym (ap (λ b. not b || holds_at c k) is.named) ∙ parts.0 in
-          (says_list ms k wanted c is.wanted_is is.cube whole holds, parts.1)
+    some_match : AreAllNamed ks → AreAllNamed ls → IsMet Is (ks ++ ls)
+        → SomeMeet Meet (Matches rule.source) (Matches rule.target)
+    some_match all others (e, possible, met) =
+        let parts = and_parts (meets e ks) (meets e ls) (sym (meets_both e ks ls) ∙ met) in (
+          first e,
+          second e,
+          sets_meet e possible,
+          sym (meets_list e (first e) rule.source ks (source_asks e possible) all) ∙ parts.0,
+          sym (meets_list e (second e) rule.target ls (target_asks e possible) others) ∙ parts.1,
+        )
 
-      met_one : (k : Candidate) (ms : List Condition) (wanted : Bool) (rest : List Candidate)
-          (c : List ℕ) → IsLiteralOf u ms wanted k → IsWhole (sizes u) c
-          → all_hold (label_set_of u c) ms ≡ wanted → meets c rest ≡ true
-          → meets c (k ∷ rest) ≡ true
-      met_one k ms wanted rest c is whole matched later =
-          and_from (not k.named || holds_at c k) (meets c rest)
-          (ap (λ b. not b || holds_at c k) is.named
-          ∙ list_says_so ms k wanted c is.wanted_is is.cube whole matched)
-          later
+    contradict : IsReason Is 0 (ks ++ ls) → Contradict Meet rule (named_of ks) (named_of ls)
+    contradict reason = record {
+      in_source = within_side u pairs First rule.source ks source;
+      in_target = within_side u pairs Second rule.target ls target;
+      source_order = positions_ascend (λ (k : Candidate). k.named) 0 ks;
+      target_order = positions_ascend (λ (k : Candidate). k.named) 0 ls;
+      enough = λ (x, y, meet, meets_source, meets_target).
+          let r = pair_of x y meet in
+          let e = r.0 in
+          both_ways (meets e (ks ++ ls)) (reason.enough e r.1)
+          (meets_both e ks ls ∙ and_from (meets e ks) (meets e ls)
+          (at_meets e (first e) rule.source ks (source_asks e r.1)
+          (subst (λ (set : LabelMap). MeetsAt rule.source (named_of ks) set) r.2 meets_source))
+          (at_meets e (second e) rule.target ls (target_asks e r.1)
+          (subst (λ (set : LabelMap). MeetsAt rule.target (named_of ls) set) r.3 meets_target)));
+      source_needed = λ i there.
+          let k = named_at ks i there in
+          let place = without_front i ks ls k.0 k.1 in
+          let r = reason.needed i k.0 place.0 (omega arith) k.2 in
+          let e = r.0 in
+          let parts = and_parts (meets e (without i ks)) (meets e ls)
+          (sym (meets_both e (without i ks) ls) ∙ ap (meets e) (sym place.1) ∙ r.2) in (
+            first e,
+            second e,
+            sets_meet e r.1,
+            meets_at_but e (first e) rule.source ks (source_asks e r.1) i parts.0,
+            meets_at e (second e) rule.target ls (target_asks e r.1) parts.1,
+          );
+      target_needed = λ i there.
+          let k = named_at ls i there in
+          let place = without_rest i ks ls k.0 k.1 in
+          let r = reason.needed (length ks + i) k.0 place.0 (omega arith) k.2 in
+          let e = r.0 in
+          let parts = and_parts (meets e ks) (meets e (without i ls))
+          (sym (meets_both e ks (without i ls)) ∙ ap (meets e) (sym place.1) ∙ r.2) in (
+            first e,
+            second e,
+            sets_meet e r.1,
+            meets_at e (first e) rule.source ks (source_asks e r.1) parts.0,
+            meets_at_but e (second e) rule.target ls (target_asks e r.1) i parts.1,
+          );
+    }
 
-      not_left : (b d : Bool) → b ≡ false → (b && d) ≡ false
-      not_left b d e = ap (λ x. x && d) e
+  -- the matchers whose literals are left named contradict each other
+  why_none : (rule : Rule) (ks ls named : List Candidate) (n : ℕ) (reason : IdleReason)
+      → AreLiteralsOf u pairs First rule.source ks → AreLiteralsOf u pairs Second rule.target ls
+      → n ≡ length ks → AreSameLiterals (ks ++ ls) named → IsReason Is 0 named
+      → AreNamedIn n named reason → IsWhyNone Meet rule reason
+  why_none rule ks ls named n reason_is.Both source target many same reason are_named =
+      absurd are_named
+  why_none rule ks ls named n (reason_is.Contradiction sources targets) source target many same reason
+      are_named =
+      let parts = same_parts ks ls named same in
+      let front = take (length ks) named in
+      let rest = drop (length ks) named in
+      rw (
+        are_named.0 ∙ ap (λ m. named_of (take m named)) many,
+        are_named.1 ∙ ap (λ m. named_of (drop m named)) many,
+      )
+      (contradict rule front rest
+      (same_literals u pairs First rule.source ks front source parts.0)
+      (same_literals u pairs Second rule.target ls rest target parts.1)
+      (subst (IsReason Is 0) (sym parts.2) reason))
 
-      -- the first does not match the target side, or the second does not match the source side
-      pub first_spared : ArePaired s shared (source ∷ other_target ∷ []) (target ∷ [])
+  -- ---- What inhibits.
+
+  module _ (rule : Rule) (source target in_source in_target first_in_target second_in_source : MaskedLabels)
+      (is : IsCubeOf u rule.source source) (also : IsCubeOf u rule.target target)
+      (asks : (e : List ℕ) → Is e → matches in_source e ≡ matches source (side_of pairs First e))
+      (asks_too : (e : List ℕ) → Is e → matches in_target e ≡ matches target (side_of pairs Second e))
+      (out_first : (e : List ℕ) → Is e
+      → matches first_in_target e ≡ matches target (side_of pairs First e))
+      (out_second : (e : List ℕ) → Is e
+      → matches second_in_source e ≡ matches source (side_of pairs Second e)) where
+    says : (ms : List Condition) (cube : MaskedLabels) → IsCubeOf u ms cube → (c : List ℕ)
+        → IsWhole (sizes u) c → matches cube c ≡ all_hold (label_set_of u c) ms
+    says ms cube exact c whole = matches_where u c whole ms cube (exact c whole.0)
+
+    -- what is asked of a pair: it matches one side each, and some cube does not match
+    abbrev asked : MaskedLabels → List ℕ → Bool
+    asked out e = (matches in_source e && (matches in_target e && true)) && (not (matches out e) && true)
+
+    -- a pair inhibits exactly if one of two cubes is spared: that of the target side by the first, or
+    -- that of the source side by the second
+    abbrev inhibits_at : LabelMap → LabelMap → Bool
+    inhibits_at x y =
+        (all_hold x rule.source && all_hold y rule.target)
+        && not (is_two_sided rule x && is_two_sided rule y)
+
+    spared : (e : List ℕ) → Is e
+        → (asked first_in_target e || asked second_in_source e) ≡ inhibits_at (first e) (second e)
+    spared e possible =
+        let pair = are.sides e possible in
+        let c = side_of pairs First e in
+        let d = side_of pairs Second e in
+        let fires = asks e possible ∙ says rule.source source is c pair.first.0 in
+        let mutes = asks_too e possible ∙ says rule.target target also d pair.second.0 in
+        let out_x = out_first e possible ∙ says rule.target target also c pair.first.0 in
+        let out_y = out_second e possible ∙ says rule.source source is d pair.second.0 in
+        (λ i. ((fires i && (mutes i && true)) && (not (out_x i) && true))
+        || ((fires i && (mutes i && true)) && (not (out_y i) && true)))
+        ∙ either (all_hold (first e) rule.source) (all_hold (second e) rule.target)
+        (all_hold (first e) rule.target) (all_hold (second e) rule.source)
+      where
+        either : (a b p q : Bool)
+            → (((a && (b && true)) && (not p && true)) || ((a && (b && true)) && (not q && true)))
+            ≡ ((a && b) && not ((a && p) && (q && b)))
+        either true true true true = refl
+        either true true true false = refl
+        either true true false q = refl
+        either true false p q = refl
+        either false b p q = refl
+
+    inhibit : (e : List ℕ) → Is e → (asked first_in_target e || asked second_in_source e) ≡ true
+        → SomeInhibit Meet rule
+    inhibit e possible met =
+        let both = is_two_sided rule (first e) && is_two_sided rule (second e) in
+        let matched = all_hold (first e) rule.source && all_hold (second e) rule.target in
+        let parts = and_parts matched (not both) (sym (spared e possible) ∙ met) in
+        let sides = and_parts (all_hold (first e) rule.source) (all_hold (second e) rule.target)
+        parts.0 in
+        (first e, second e, sets_meet e possible, sides.0, sides.1, is_false both parts.1)
+      where
+        is_false : (t : Bool) → not t ≡ true → t ≡ false
+        is_false true t = sym t
+        is_false false t = refl
+
+    never : ((e : List ℕ) → Is e → asked first_in_target e ≡ false)
+        → ((e : List ℕ) → Is e → asked second_in_source e ≡ false) → SomeInhibit Meet rule → ⊥
+    never no_first no_second (x, y, meet, fires, mutes, not_both) =
+        let r = pair_of x y meet in
+        let e = r.0 in
+        let inhibits = and_from (all_hold x rule.source && all_hold y rule.target)
+        (not (is_two_sided rule x && is_two_sided rule y))
+        (and_from (all_hold x rule.source) (all_hold y rule.target) fires mutes) (ap not not_both) in
+        both_ways (asked first_in_target e || asked second_in_source e)
+        (λ i. no_first e r.1 i || no_second e r.1 i)
+        (spared e r.1 ∙ (λ i. inhibits_at (sym r.2 i) (sym r.3 i)) ∙ inhibits)
+
+    -- what a search among the pairs finds
+    module _ (p : PossibleChoices) (same : p ≡ pair_choices pairs) where
+      met_by : (out : MaskedLabels) (found : Option (List (List Bool)))
+          → IfSome found (AreFound (IsPossible p) (asked out)) → is_some found ≡ true
+          → (e : List ℕ) × Is e × (asked out e ≡ true)
+      met_by out None so some = absurd (cc)
+      met_by out (Some b) so some =
+          let c = some_choice b so.some in
+          let met = so.each c.0 c.1 in
+          (c.0, subst (λ q. IsPossible q c.0) same met.0, met.1)
+
+      unmet_by : (out : MaskedLabels) (found : Option (List (List Bool)))
+          → IfNone found ((e : List ℕ) → IsPossible p e → asked out e ≡ false)
+          → is_some found ≡ false → (e : List ℕ) → Is e → asked out e ≡ false
+      unmet_by out None so none e possible = so e (subst (λ q. IsPossible q e) (sym same) possible)
+      unmet_by out (Some b) so none e possible = absurd (cc)
+
+      pub first_spared : (found : Option (List (List Bool)))
+          → IfSome found (AreFound (IsPossible p) (asked first_in_target)) → is_some found ≡ true
           → SomeInhibit Meet rule
-      first_spared (c, d, pair) =
-          let x = label_set_of u c in
-          let y = label_set_of u d in
-          let one = one_met source rule.source true (other_target ∷ []) c in_source pair.first.0
-          pair.meets_first in
-          let two = one_met other_target rule.target false [] c out_target pair.first.0 one.1 in
-          let three = one_met target rule.target true [] d in_target pair.second.0
-          pair.meets_second in (
-            x,
-            y,
-            sets_meet (source ∷ other_target ∷ []) (target ∷ []) c d pair,
-            one.0,
-            three.0,
-            not_left (is_two_sided rule x) (is_two_sided rule y)
-                (and_right (all_hold x rule.source) (all_hold x rule.target) two.0),
-          )
+      first_spared found so some =
+          let r = met_by first_in_target found so some in
+          inhibit r.0 r.1 (ap (λ b. b || asked second_in_source r.0) r.2)
 
-      pub second_spared : ArePaired s shared (source ∷ []) (target ∷ other_source ∷ [])
+      pub second_spared : (found : Option (List (List Bool)))
+          → IfSome found (AreFound (IsPossible p) (asked second_in_source)) → is_some found ≡ true
           → SomeInhibit Meet rule
-      second_spared (c, d, pair) =
-          let x = label_set_of u c in
-          let y = label_set_of u d in
-          let one = one_met source rule.source true [] c in_source pair.first.0
-          pair.meets_first in
-          let two = one_met target rule.target true (other_source ∷ []) d in_target
-          pair.second.0 pair.meets_second in
-          let three = one_met other_source rule.source false [] d out_source pair.second.0
-          two.1 in (
-            x,
-            y,
-            sets_meet (source ∷ []) (target ∷ other_source ∷ []) c d pair,
-            one.0,
-            two.0,
-            and_right (is_two_sided rule x) (is_two_sided rule y)
-                (not_left (all_hold y rule.source) (all_hold y rule.target) three.0),
-          )
-
-      pub none_spared : AreUnpaired s shared (source ∷ other_target ∷ []) (target ∷ [])
-          → AreUnpaired s shared (source ∷ []) (target ∷ other_source ∷ [])
-          → SomeInhibit Meet rule → ⊥
-      none_spared no_first no_second (x, y, (c, d, first, second, same, is, also), fires, muted, not_both) =
-          let p = label_set_of u c in
-          let q = label_set_of u d in
-          elim (cases_Bool (all_hold p rule.target)) [
-            | inl matched ↦
-                let sided : is_two_sided rule p ≡ true =
-                and_from (all_hold p rule.source) (all_hold p rule.target) p_fires matched in
-                let other : is_two_sided rule q ≡ false =
-                sym (ap (λ b. b && is_two_sided rule q) sided) ∙ spared in
-                let out : all_hold q rule.source ≡ false =
-                sym (and_true (all_hold q rule.source))
-                ∙ sym (ap (λ b. all_hold q rule.source && b) q_muted) ∙ other in
-                no_second (
-                  c,
-                  d,
-                  record {
-                    first = first;
-                    second = second;
-                    same = ap (λ labels. are_same_at labels c d) named ∙ same;
-                    meets_first = met_one source rule.source true [] c in_source first.0 p_fires
-                        refl;
-                    meets_second = met_one target rule.target true (other_source ∷ []) d
-                        in_target second.0 q_muted
-                        (met_one other_source rule.source false [] d out_source second.0 out refl);
-                  },
-                )
-            | inr out ↦ no_first (
-              c,
-              d,
-              record {
-                first = first;
-                second = second;
-                same = ap (λ labels. are_same_at labels c d) named ∙ same;
-                meets_first = met_one source rule.source true (other_target ∷ []) c in_source
-                    first.0 p_fires
-                    (met_one other_target rule.target false [] c out_target first.0 out refl);
-                meets_second = met_one target rule.target true [] d in_target second.0 q_muted refl;
-              },
-            )
-          ]
+      second_spared found so some =
+          let r = met_by second_in_source found so some in
+          inhibit r.0 r.1
+          (ap (λ b. asked first_in_target r.0 || b) r.2 ∙ or_true (asked first_in_target r.0))
         where
-          p_fires : all_hold (label_set_of u c) rule.source ≡ true
-          p_fires = ap (λ (set : LabelMap). all_hold set rule.source) (sym is) ∙ fires
+          or_true : (b : Bool) → (b || true) ≡ true
+          or_true true = refl
+          or_true false = refl
 
-          q_muted : all_hold (label_set_of u d) rule.target ≡ true
-          q_muted = ap (λ (set : LabelMap). all_hold set rule.target) (sym also) ∙ muted
+      pub none_spared : (found other : Option (List (List Bool)))
+          → IfNone found ((e : List ℕ) → IsPossible p e → asked first_in_target e ≡ false)
+          → is_some found ≡ false
+          → IfNone other ((e : List ℕ) → IsPossible p e → asked second_in_source e ≡ false)
+          → is_some other ≡ false → SomeInhibit Meet rule → ⊥
+      none_spared found other so none so_too none_too =
+          never (unmet_by first_in_target found so none)
+          (unmet_by second_in_source other so_too none_too)
 
-          spared : (is_two_sided rule (label_set_of u c) && is_two_sided rule (label_set_of u d))
-              ≡ false
-          spared = (λ i. is_two_sided rule (sym is i) && is_two_sided rule (sym also i)) ∙ not_both
+-- ---- The literals of both sides.
 
--- the literals of a side, from the contracts of the calls that make them
-pub side_literals : (s : Space) (v : List Label) (ms given : List Condition)
-    (cubes view : List MaskedLabels) (items ks : List Candidate) → v ≡ s.labels → given ≡ ms
-    → AreCubesOfMatchers v given cubes → view ≡ cubes → AreWantedFor view items → ks ≡ items
-    → AreLiteralsOf s.labels ms ks
-side_literals s v ms given cubes view items ks labels is are same wanted also =
-    literals_are s ms cubes ks
-    (subst (λ (w : List Label). AreCubesOfMatchers w ms cubes) labels
-    (subst (λ (list : List Condition). AreCubesOfMatchers v list cubes) is are))
-    (subst (λ (list : List MaskedLabels). AreWantedFor list ks) same
-    (subst (AreWantedFor view) (sym also) wanted))
+-- the literals of the source side, all named, and behind them those of the target side
+pub record AreOfSides (u : List Label) (pairs : Pairs) (rule : Rule) (n : ℕ) (ks : List Candidate)
+    : Type 0 where
+  pub sources : List Candidate
+  pub targets : List Candidate
+  pub are : ks ≡ sources ++ targets
+  pub many : n ≡ length sources
+  pub source : AreLiteralsOf u pairs First rule.source sources
+  pub target : AreLiteralsOf u pairs Second rule.target targets
+  pub source_named : AreAllNamed sources
+  pub target_named : AreAllNamed targets
 
--- the matchers whose literals are left named contradict each other
-pub contradict_as : (s : Space) (names : List (List ℕ)) (shared : List ℕ)
-    → shared ≡ labels_named s.labels names → (rule : Rule) → (ks ls after also : List Candidate)
-    → AreLiteralsOf s.labels rule.source ks → AreLiteralsOf s.labels rule.target ls
-    → AreSameLiterals ks after → AreSameLiterals ls also → IsPairReason s shared after also
-    → (sources targets : List ℕ) → sources ≡ positions_where (λ k. k.named) 0 after
-    → targets ≡ positions_where (λ k. k.named) 0 also
-    → Contradict (AreMeeting s names) rule sources targets
-contradict_as s names shared named rule ks ls after also first second same other reason sources
-    targets are_sources are_targets =
-    rw (are_sources, are_targets)
-    (contradict s names shared named rule after also (same_literals s rule.source ks after first same)
-    (same_literals s rule.target ls also second other) reason)
+module _ (u : List Label) (pairs : Pairs) (rule : Rule) (n : ℕ) (ks : List Candidate)
+    (sides : AreOfSides u pairs rule n ks) where
+  pub sources_within : n ≤ length ks
+  sources_within =
+      omega (arith, sides.many, ap length sides.are, length-append sides.sources sides.targets)
 
--- what follows if something is found, and if nothing is
-pub weaker_some : {X E : Type 0} (r : Result (Option X) E) (P Q : X → Type 0)
-    → ((x : X) → P x → Q x) → IfOk r (λ found. IfSome found P) → IfOk r (λ found. IfSome found Q)
-weaker_some (Err e) P Q so h = tt
-weaker_some (Ok None) P Q so h = tt
-weaker_some (Ok (Some x)) P Q so h = so x h
+  module _ (s : Space) (same : u ≡ s.labels)
+      (are : ArePairsOf s (labels_named s.labels rule.equal) pairs) where
+    source_literals : AreLiteralsOf s.labels pairs First rule.source sides.sources
+    source_literals =
+        subst (λ v. AreLiteralsOf v pairs First rule.source sides.sources) same sides.source
 
-pub weaker_none : {X E : Type 0} (r : Result (Option X) E) (P Q : Type 0) → (P → Q)
-    → IfOk r (λ found. IfNone found P) → IfOk r (λ found. IfNone found Q)
-weaker_none (Err e) P Q so h = tt
-weaker_none (Ok None) P Q so h = so h
-weaker_none (Ok (Some x)) P Q so h = tt
+    target_literals : AreLiteralsOf s.labels pairs Second rule.target sides.targets
+    target_literals =
+        subst (λ v. AreLiteralsOf v pairs Second rule.target sides.targets) same sides.target
+
+    pub sides_match : IsMet (IsPossible (pair_choices pairs)) ks
+        → SomeMeet (AreMeeting s rule.equal) (Matches rule.source) (Matches rule.target)
+    sides_match met =
+        some_match s rule.equal pairs are rule sides.sources sides.targets source_literals
+        target_literals sides.source_named sides.target_named
+        (subst (IsMet (IsPossible (pair_choices pairs))) sides.are met)
+
+    pub sides_contradict : (named : List Candidate) (reason : IdleReason)
+        → AreSameLiterals ks named → IsReason (IsPossible (pair_choices pairs)) 0 named
+        → AreNamedIn n named reason → IsWhyNone (AreMeeting s rule.equal) rule reason
+    sides_contradict named reason alike is are_named =
+        why_none s rule.equal pairs are rule sides.sources sides.targets named n reason
+        source_literals target_literals sides.many
+        (subst (λ ls. AreSameLiterals ls named) sides.are alike) is are_named
+
+-- ---- What follows.
 
 pub none_if : {X : Type 0} (o : Option X) (P : Type 0) → IfNone o P → is_some o ≡ false → P
 none_if None P h is = h
 none_if (Some x) P h is = absurd (cc)
 
-pub found_if_some : (Meet : LabelMap → LabelMap → Type 0) (rule : Rule) (o : Option IdleReason)
-    → IfSome o (IsWhyNone Meet rule) → is_some o ≡ true → IsFoundOf Meet rule o
-found_if_some Meet rule None h is = absurd (cc)
-found_if_some Meet rule (Some reason) h is = h
+pub found_if_some : (Meet : LabelMap → LabelMap → Type 0) (rule : Rule) (P : IdleReason → Type 0)
+    → ((reason : IdleReason) → P reason → IsWhyNone Meet rule reason) → (o : Option IdleReason)
+    → IfSome o P → is_some o ≡ true → IsFoundOf Meet rule o
+found_if_some Meet rule P so None h is = absurd (cc)
+found_if_some Meet rule P so (Some reason) h is = so reason h
 
 pub cube_as : (v w : List Label) (given ms : List Condition) (cube : MaskedLabels) → v ≡ w
     → given ≡ ms → IsCubeOf v given cube → IsCubeOf w ms cube

@@ -1,15 +1,22 @@
 -- What is found of a rule among the choices of a space. (This project's own.)
-use Rattle.std.specs.Prelude.{◌≡◌, ℕ, List, [], ◌∷◌, Bool, true, Option, Some, None}
+use Rattle.std.specs.Prelude.{◌≡◌, ℕ, List, true, Option, Some, None, take, drop}
 use Rattle.std.specs.List.{AllByRecursion, AllZip, filter_map}
-use Rattle.am_universe.specs.Universe.{Label, label_position}
+use Rattle.am_universe.specs.Universe.{Label, label_position, sizes}
+use Rattle.am_universe.specs.Choice.{IsWhole}
 use Rattle.am_universe.specs.LabelSet.{LabelMap, label_set_of}
-use Rattle.am_labels.specs.Matcher.{Condition}
+use Rattle.am_labels.specs.Matcher.{Condition, condition_holds}
 use Rattle.am_labels.specs.Space.{Space, IsChoiceOf}
 use Rattle.am_config.specs.ConfigFile.{Rule}
-use Rattle.am_judged_lists.specs.Cube.{IsCubeOf, MaskedLabels}
-use Rattle.am_reasons.specs.Pairs.{are_same_at}
-use Rattle.am_reasons.specs.declared.candidate.Candidate.{Candidate}
+use Rattle.am_judged_lists.specs.Cube.{MaskedLabels, matches}
+use Rattle.am_judged_lists.specs.Pairs.{are_same_at}
+use Rattle.am_first_sets.specs.declared.candidate.Candidate.{Candidate}
+use Rattle.am_first_sets.specs.declared.pairs.Pairs.{Pairs}
+use Rattle.am_first_sets.specs.declared.pairs.Side.{Side}
+use Rattle.am_first_sets.specs.Pairs.{pair_choices, side_of}
+use Rattle.am_first_sets.specs.PossibleChoices.{IsPossible}
+use Rattle.am_eval.specs.Silencing.{positions_where}
 use Rattle.am_idle.specs.declared.rules.IdleReason.{IdleReason}
+use Rattle.am_idle.specs.declared.rules.IdleReason.TheVariants as reason_is
 use Rattle.am_idle.specs.Rules.{SomeInhibit, IsWhyNone}
 
 -- The positions of the labels with some names. Names that are not declared are left out, because no
@@ -35,26 +42,26 @@ IsFoundOf Meet rule (Some reason) = IsWhyNone Meet rule reason
 
 -- ---- The literals of a side.
 
--- The cubes are those of the matchers of a list, one by one. The literals of a side ask for each of
--- its matchers to match, one by one.
-abbrev pub AreCubesOfMatchers : List Label → List Condition → List MaskedLabels → Type 0
-AreCubesOfMatchers u ms cubes = AllZip (λ m cube. IsCubeOf u (m ∷ []) cube) ms cubes
+-- The cubes are those of the matchers of a list, one by one: each matches a pair exactly if the
+-- label set of one side of the pair meets the matcher.
+abbrev pub AreCubesOfMatchers : List Label → Pairs → Side → List Condition → List MaskedLabels
+    → Type 0
+AreCubesOfMatchers u pairs side ms cubes =
+    AllZip (λ m cube. (e : List ℕ) → IsPossible (pair_choices pairs) e
+    → IsWhole (sizes u) (side_of pairs side e)
+    → matches cube e ≡ condition_holds (label_set_of u (side_of pairs side e)) m) ms cubes
 
-abbrev pub AreLiteralsOf : List Label → List Condition → List Candidate → Type 0
-AreLiteralsOf u ms ks =
-    AllZip (λ m k. IsCubeOf u (m ∷ []) k.cube.now × (k.wanted ≡ true)) ms ks
-
--- A named literal asks for a list to match, or not to match.
-pub record IsLiteralOf (u : List Label) (ms : List Condition) (wanted : Bool) (k : Candidate)
-    : Type 0 where
-  pub cube : IsCubeOf u ms k.cube.now
-  pub wanted_is : k.wanted ≡ wanted
-  pub named : k.named ≡ true
-
--- The literals ask for some cubes to match, one by one.
+-- The literals ask for some cubes to match, one by one. Or they are all named.
 abbrev pub AreWantedFor : List MaskedLabels → List Candidate → Type 0
 AreWantedFor cubes ks = AllZip (λ cube k. (k.cube.now ≡ cube) × (k.wanted ≡ true)) cubes ks
 
--- The literals are all named.
 abbrev pub AreAllNamed : List Candidate → Type 0
 AreAllNamed ks = AllByRecursion (λ k. k.named ≡ true) ks
+
+-- A reason names the positions of the named literals: of those among the first `n` literals for the
+-- source side, and of those among the others for the target side.
+abbrev pub AreNamedIn : ℕ → List Candidate → IdleReason → Type 0
+AreNamedIn n ks (reason_is.Contradiction source target) =
+    (source.items ≡ positions_where (λ k. k.named) 0 (take n ks))
+    × (target.items ≡ positions_where (λ k. k.named) 0 (drop n ks))
+AreNamedIn n ks reason_is.Both = ⊥

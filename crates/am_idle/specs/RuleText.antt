@@ -1,6 +1,6 @@
 -- What is said of an inhibition rule, as a line. (This project's own.)
 use Rattle.std.specs.Prelude.{ℕ, List, [], ◌∷◌, ◌++◌, Option, Some, None, codes, decimal, ⊤}
-use Rattle.std.specs.Prelude.{slice_get, ◌==◌, if◌then◌else◌}
+use Rattle.std.specs.Prelude.{slice_get}
 use Rattle.am_labels.specs.Matcher.{Condition}
 use Rattle.am_config.specs.ConfigFile.{Rule}
 use Rattle.am_report_texts.specs.Separated.{texts_behind}

@@ -8,17 +8,16 @@ ghost use Rattle.am_universe.specs.declared.kind.Kind.TheVariants as kinds;
 ghost use Rattle.am_labels.specs.Matcher.{Condition};
 ghost use Rattle.am_universe.specs.Universe.{Label};
 ghost use Rattle.am_judged_lists.specs.Cube.{IsCubeOf};
-ghost use Rattle.am_first_sets.specs.PossibleRefuter.{possible_space};
+ghost use Rattle.am_first_sets.specs.PossibleSets.{possible_space};
 ghost use Rattle.am_every_alert.specs.EveryAlert.{IsAlertOf};
 ghost use Rattle.am_idle.specs.Lists.{StandsForLists, IsRefusalForLists};
 ghost use Rattle.am_idle.specs.Extent.{IsExtent, IsSetOf, HasSet};
 
 use crate::lists::universe_for_lists;
 use am_classes::Alphabet;
-use am_first_sets::PossibleRefuter;
+use am_first_sets::PossibleSets;
 use am_judged_lists::Cube;
 use am_labels::{Matchers, Space};
-use am_reasons::{Candidate, first_meeting};
 use am_universe::{Kind, Universe};
 use std::alloc::{AllocError, Global};
 
@@ -63,7 +62,7 @@ pub(crate) fn extent_of(
 fn extent_in(alloc: Global, space: &Space, matchers: &Matchers) -> Result<Extent, AllocError>
     ensures { IfOk result (IsExtent (IsSetOf space.now) matchers.now) }
 {
-    let possible = PossibleRefuter::of(alloc, space)?;
+    let possible = PossibleSets::of(alloc, space)?;
     let cube = Cube::of(alloc, matchers, space.universe())?;
     let matches = has_set(alloc, &possible, &cube, true)?;
     if !matches {
@@ -80,7 +79,7 @@ fn extent_in(alloc: Global, space: &Space, matchers: &Matchers) -> Result<Extent
 /// match, if not. `cube` is the cube of the list. Fails only if memory runs out.
 fn has_set(
     alloc: Global,
-    possible: &PossibleRefuter<'_>,
+    possible: &PossibleSets<'_>,
     cube: &Cube,
     wanted: bool,
 ) -> Result<bool, AllocError>
@@ -91,11 +90,9 @@ fn has_set(
         → IsCubeOf (possible_space possible.now).labels ms cube.now
         → has ≡ false → HasSet (possible_space possible.now) ms wanted → ⊥) }
 {
-    let literal = [Candidate {
-        cube,
-        wanted,
-        named: true,
-        tag: 0,
-    }];
-    Ok(first_meeting(alloc, possible, &literal)?.is_some())
+    let choices = possible.choices();
+    if wanted {
+        return Ok(choices.meeting(alloc, &[cube], &[])?.is_some());
+    }
+    Ok(choices.meeting(alloc, &[], &[cube])?.is_some())
 }

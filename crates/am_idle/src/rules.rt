@@ -1,9 +1,9 @@
 //! Why an inhibition rule is idle.
 //!
-//! The matchers of the two sides are literals. `first_pair` searches for two label sets that agree
-//! in the labels of `equal` and meet one side each. If there are none, `find_pair_reason` leaves
-//! out each literal that is not needed. If there are, two more searches find out whether two such
-//! label sets exist that do not both match both sides.
+//! The matchers of the two sides are literals over the pairs of label sets that agree in the labels
+//! of `equal`. A search looks for a pair that meets one side each. If there is none, `leave_out`
+//! leaves out each literal that is not needed. If there is, two more searches find out whether such
+//! a pair exists of which not both label sets match both sides.
 
 ghost use Rattle.std.specs.Prelude.{◌≡◌, ◌≢◌, List, [], ◌∷◌, IfOk, IfErr, OnOk};
 ghost use Rattle.am_universe.specs.declared.kind.Kind.TheVariants as kinds;
@@ -17,7 +17,7 @@ use crate::lists::universe_for_lists;
 use crate::sides::{has_inhibiting, labels_named, why_contradicting};
 use am_classes::Alphabet;
 use am_config::Rule;
-use am_first_sets::PossibleRefuter;
+use am_first_sets::{Pairs, PossibleSets};
 use am_judged_lists::Cube;
 use am_labels::Space;
 use am_universe::{Kind, Universe};
@@ -74,15 +74,17 @@ fn reason_in(alloc: Global, space: &Space, rule: &Rule) -> Result<Option<IdleRea
     ensures { IfOk result (IsFoundOf (AreMeeting space.now rule.now.equal) rule.now) }
 {
     let universe = space.universe();
-    let possible = PossibleRefuter::of(alloc, space)?;
+    let possible = PossibleSets::of(alloc, space)?;
     let shared = labels_named(alloc, universe, rule.equal())?;
-    let reason = why_contradicting(alloc, &possible, shared.as_slice(), universe, rule)?;
+    let pairs = Pairs::of(alloc, &possible, shared.as_slice())?;
+    let reason = why_contradicting(alloc, &pairs, universe, rule)?;
     if reason.is_some() {
         return Ok(reason);
     }
     let source = Cube::of(alloc, rule.source(), universe)?;
     let target = Cube::of(alloc, rule.target(), universe)?;
-    if has_inhibiting(&possible, shared.as_slice(), &source, &target) {
+    let inhibits = has_inhibiting(alloc, &pairs, &source, &target)?;
+    if inhibits {
         return Ok(None);
     }
     Ok(Some(IdleReason::Both))

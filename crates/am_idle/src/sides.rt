@@ -1,24 +1,26 @@
-//! The two sides of a rule, as literals over the labels of a space.
+//! The two sides of a rule, as literals over the pairs of label sets of a space.
 
-ghost use Rattle.std.specs.Prelude.{◌≡◌, List, IfOk, IfSome, IfNone, IsTrue, false};
-ghost use Rattle.am_universe.specs.Universe.{Label};
-ghost use Rattle.am_labels.specs.Matcher.{Condition};
+ghost use Rattle.std.specs.Prelude.{◌≡◌, ◌≤◌, ◌++◌, List, IfOk, IfSome, IfNone, OnOk, IsTrue};
+ghost use Rattle.std.specs.Prelude.{length, false};
+ghost use Rattle.am_labels.specs.Space.{Space};
+ghost use Rattle.am_config.specs.ConfigFile.{Rule};
 ghost use Rattle.am_config.specs.RouteView.{names_of};
 ghost use Rattle.am_eval.specs.Silencing.{positions_where};
-ghost use Rattle.am_config.specs.ConfigFile.{Rule};
 ghost use Rattle.am_judged_lists.specs.Cube.{IsCubeOf};
-ghost use Rattle.am_first_sets.specs.PossibleRefuter.{possible_space};
-ghost use Rattle.am_reasons.specs.Pairs.{AreDeclaredIn, ArePaired};
+ghost use Rattle.am_first_sets.specs.declared.candidate.Candidate.{Candidate};
+ghost use Rattle.am_first_sets.specs.Literals.{IsMet};
+ghost use Rattle.am_first_sets.specs.Pairs.{ArePairsOf};
+ghost use Rattle.am_first_sets.specs.PossibleChoices.{IsPossible};
+ghost use Rattle.am_first_sets.specs.Reason.{AreSameLiterals, IsReason};
 ghost use Rattle.am_idle.specs.RuleChoices.{labels_named, AreMeeting, AreCubesOfMatchers};
-ghost use Rattle.am_idle.specs.RuleChoices.{AreWantedFor, AreLiteralsOf, AreAllNamed, IsLiteralOf};
+ghost use Rattle.am_idle.specs.RuleChoices.{AreWantedFor, AreAllNamed, AreNamedIn};
 ghost use Rattle.am_idle.specs.Rules.{SomeMeet, SomeInhibit, Matches, IsWhyNone};
 
 use crate::rules::IdleReason;
 use am_config::Rule;
-use am_first_sets::PossibleRefuter;
+use am_first_sets::{Candidate, Pairs, PossibleChoices, Side, leave_out, some_meeting};
 use am_judged_lists::{Cube, JudgedList};
 use am_labels::Matchers;
-use am_reasons::{Candidate, find_pair_reason, first_pair};
 use am_universe::Universe;
 use std::alloc::{AllocError, Global};
 
@@ -41,81 +43,85 @@ pub(crate) fn labels_named(
     Ok(labels)
 }
 
-/// Finds which matchers of the two sides of a rule contradict each other. Returns `None` if two
-/// label sets of a space match one side each and have the same positions at the labels that `equal`
-/// names. Fails only if memory runs out.
+/// Finds which matchers of the two sides of a rule contradict each other. Returns `None` if some
+/// pair of label sets matches one side each. Fails only if memory runs out.
 pub(crate) fn why_contradicting(
     alloc: Global,
-    possible: &PossibleRefuter<'_>,
-    shared: &[usize],
+    pairs: &Pairs,
     universe: &Universe,
     rule: &Rule,
 ) -> Result<Option<IdleReason>, AllocError>
-    requires universe { universe.now ≡ (possible_space possible.now).labels }
-    requires shared { shared.now
-        ≡ labels_named (possible_space possible.now).labels rule.now.equal }
-    ensures some { IfOk result (λ found. IfSome found
-        (IsWhyNone (AreMeeting (possible_space possible.now) rule.now.equal) rule.now)) }
-    ensures none { IfOk result (λ found. IfNone found
-        (SomeMeet (AreMeeting (possible_space possible.now) rule.now.equal)
+    ensures some { IfOk result (λ found. IfSome found (λ reason. (s : Space)
+        → universe.now ≡ s.labels
+        → ArePairsOf s (labels_named s.labels rule.now.equal) pairs.now
+        → IsWhyNone (AreMeeting s rule.now.equal) rule.now reason)) }
+    ensures none { IfOk result (λ found. IfNone found ((s : Space) → universe.now ≡ s.labels
+        → ArePairsOf s (labels_named s.labels rule.now.equal) pairs.now
+        → SomeMeet (AreMeeting s rule.now.equal)
         (Matches rule.now.source) (Matches rule.now.target))) }
 {
-    let source_cubes = cubes_of_matchers(alloc, universe, rule.source())?;
-    let target_cubes = cubes_of_matchers(alloc, universe, rule.target())?;
-    let mut source = literals_of(alloc, source_cubes.as_slice())?;
-    let mut target = literals_of(alloc, target_cubes.as_slice())?;
-    contradiction_of(alloc, possible, shared, &mut source, &mut target)
+    let source = cubes_of_matchers(alloc, pairs, Side::First, universe, rule.source())?;
+    let target = cubes_of_matchers(alloc, pairs, Side::Second, universe, rule.target())?;
+    let mut literals = Vec::new(alloc);
+    push_literals(&mut literals, source.as_slice())?;
+    let sources = literals.len();
+    push_literals(&mut literals, target.as_slice())?;
+    contradiction_of(alloc, pairs.choices(), &mut literals, sources)
 }
 
-/// Does the same with the literals of the two sides, all of which are named.
+/// Finds which of the named literals of two sides contradict each other. The first `sources` are
+/// those of the source side. Returns `None` if some possible choice meets all that are named. Fails
+/// only if memory runs out.
 fn contradiction_of(
     alloc: Global,
-    possible: &PossibleRefuter<'_>,
-    shared: &[usize],
-    source: &mut [Candidate<'_>],
-    target: &mut [Candidate<'_>],
+    choices: &PossibleChoices,
+    literals: &mut [Candidate<'_>],
+    sources: usize,
 ) -> Result<Option<IdleReason>, AllocError>
-    requires labels { AreDeclaredIn (possible_space possible.now) shared.now }
-    ensures some { IfOk result (λ found. IfSome found (λ reason. (rule : Rule)
-        → shared.now ≡ labels_named (possible_space possible.now).labels rule.equal
-        → AreLiteralsOf (possible_space possible.now).labels rule.source source.old
-        → AreLiteralsOf (possible_space possible.now).labels rule.target target.old
-        → IsWhyNone (AreMeeting (possible_space possible.now) rule.equal) rule reason)) }
-    ensures none { IfOk result (λ found. IfNone found
-        (ArePaired (possible_space possible.now) shared.now source.old target.old)) }
+    requires { sources ≤ length literals.old }
+    ensures some { IfOk result (λ found. IfSome found (λ reason. (ks : List Candidate)
+        × AreSameLiterals literals.old ks × IsReason (IsPossible choices.now) 0 ks
+        × AreNamedIn sources ks reason)) }
+    ensures none { IfOk result (λ found. IfNone found (IsMet (IsPossible choices.now)
+        literals.old)) }
 {
-    if first_pair(possible, shared, source, target).is_some() {
+    if some_meeting(alloc, choices, literals)?.is_some() {
         return Ok(None);
     }
-    find_pair_reason(possible, shared, source, target);
-    let source = named_positions(alloc, source)?;
-    let target = named_positions(alloc, target)?;
+    leave_out(alloc, choices, literals, 0)?;
+    let source = named_positions(alloc, &literals[..sources])?;
+    let target = named_positions(alloc, &literals[sources..])?;
     Ok(Some(IdleReason::Contradiction { source, target }))
 }
 
-/// Returns the cube of each matcher of a list. Fails only if memory runs out.
+/// Returns the cube of each matcher of a list, asked of one side of a pair. Fails only if memory
+/// runs out.
 fn cubes_of_matchers(
     alloc: Global,
+    pairs: &Pairs,
+    side: Side,
     universe: &Universe,
     matchers: &Matchers,
 ) -> Result<Vec<Cube>, AllocError>
-    ensures { IfOk result (λ cubes. AreCubesOfMatchers universe.now matchers.now cubes.items) }
+    ensures { IfOk result (λ cubes. AreCubesOfMatchers universe.now pairs.now side matchers.now
+        cubes.items) }
 {
     let mut cubes = Vec::with_capacity(alloc, matchers.len())?;
     for i in 0..matchers.len() {
         let row = matchers.get(i).row(alloc, universe)?;
-        cubes.push(Cube::of_rows(alloc, universe, &[row], &[])?)?;
+        let cube = Cube::of_rows(alloc, universe, &[row], &[])?;
+        cubes.push(pairs.cube(alloc, side, &cube)?)?;
     }
     Ok(cubes)
 }
 
-/// Returns a named literal for each cube, which asks for the cube to match. Fails only if memory
-/// runs out.
-fn literals_of(alloc: Global, cubes: &[Cube]) -> Result<Vec<Candidate<'_>>, AllocError>
-    ensures wanted { IfOk result (λ literals. AreWantedFor cubes.now literals.items) }
-    ensures named { IfOk result (λ literals. AreAllNamed literals.items) }
+/// Adds a named literal for each cube, which asks for the cube to match. Fails only if memory runs
+/// out.
+fn push_literals<'a>(literals: &mut Vec<Candidate<'a>>, cubes: &'a [Cube]) -> Result<(), AllocError>
+    ensures { OnOk result ((more : List Candidate)
+        × (literals.new.items ≡ literals.old.items ++ more)
+        × AreWantedFor cubes.now more × AreAllNamed more) }
 {
-    let mut literals = Vec::with_capacity(alloc, cubes.len())?;
     for (i, cube) in cubes.iter().enumerate() {
         literals.push(Candidate {
             cube,
@@ -124,7 +130,7 @@ fn literals_of(alloc: Global, cubes: &[Cube]) -> Result<Vec<Candidate<'_>>, Allo
             tag: i,
         })?;
     }
-    Ok(literals)
+    Ok(())
 }
 
 /// Returns the positions of the literals that are named. Fails only if memory runs out.
@@ -141,46 +147,33 @@ fn named_positions(alloc: Global, literals: &[Candidate<'_>]) -> Result<Vec<usiz
     Ok(positions)
 }
 
-/// Whether two label sets of a space have the same positions at some labels, one matches the source
-/// side and the other the target side, and the two do not both match both sides. The cubes are
-/// those of the sides. Takes no memory.
+/// Whether some pair of label sets matches one side each, and not both of them match both sides.
+/// The cubes are those of the sides. Fails only if memory runs out.
 pub(crate) fn has_inhibiting(
-    possible: &PossibleRefuter<'_>,
-    shared: &[usize],
+    alloc: Global,
+    pairs: &Pairs,
     source: &Cube,
     target: &Cube,
-) -> bool
-    requires labels { AreDeclaredIn (possible_space possible.now) shared.now }
-    ensures some { (rule : Rule)
-        → IsCubeOf (possible_space possible.now).labels rule.source source.now
-        → IsCubeOf (possible_space possible.now).labels rule.target target.now
-        → shared.now ≡ labels_named (possible_space possible.now).labels rule.equal
-        → IsTrue result
-        → SomeInhibit (AreMeeting (possible_space possible.now) rule.equal) rule }
-    ensures none { (rule : Rule)
-        → IsCubeOf (possible_space possible.now).labels rule.source source.now
-        → IsCubeOf (possible_space possible.now).labels rule.target target.now
-        → shared.now ≡ labels_named (possible_space possible.now).labels rule.equal
-        → result ≡ false
-        → SomeInhibit (AreMeeting (possible_space possible.now) rule.equal) rule → ⊥ }
+) -> Result<bool, AllocError>
+    ensures some { IfOk result (λ has. (s : Space) (rule : Rule)
+        → IsCubeOf s.labels rule.source source.now → IsCubeOf s.labels rule.target target.now
+        → ArePairsOf s (labels_named s.labels rule.equal) pairs.now
+        → IsTrue has → SomeInhibit (AreMeeting s rule.equal) rule) }
+    ensures none { IfOk result (λ has. (s : Space) (rule : Rule)
+        → IsCubeOf s.labels rule.source source.now → IsCubeOf s.labels rule.target target.now
+        → ArePairsOf s (labels_named s.labels rule.equal) pairs.now
+        → has ≡ false → SomeInhibit (AreMeeting s rule.equal) rule → ⊥) }
 {
-    let in_source = literal_of(source, true);
-    let in_target = literal_of(target, true);
-    let not_in_source = literal_of(source, false);
-    let not_in_target = literal_of(target, false);
-    first_pair(possible, shared, &[in_source, not_in_target], &[in_target]).is_some()
-        || first_pair(possible, shared, &[in_source], &[in_target, not_in_source]).is_some()
-}
-
-/// Returns the literal that asks for a cube to match, or not to match.
-fn literal_of(cube: &Cube, wanted: bool) -> Candidate<'_>
-    ensures { (u : List Label) (ms : List Condition)
-        → IsCubeOf u ms cube.now → IsLiteralOf u ms wanted result }
-{
-    Candidate {
-        cube,
-        wanted,
-        named: true,
-        tag: 0,
+    let in_source = pairs.cube(alloc, Side::First, source)?;
+    let in_target = pairs.cube(alloc, Side::Second, target)?;
+    let first_in_target = pairs.cube(alloc, Side::First, target)?;
+    let second_in_source = pairs.cube(alloc, Side::Second, source)?;
+    let wanted = [&in_source, &in_target];
+    let choices = pairs.choices();
+    let first = choices.meeting(alloc, &wanted, &[&first_in_target])?;
+    if first.is_some() {
+        return Ok(true);
     }
+    let second = choices.meeting(alloc, &wanted, &[&second_in_source])?;
+    Ok(second.is_some())
 }

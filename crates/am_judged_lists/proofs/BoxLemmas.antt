@@ -13,9 +13,8 @@ use Rattle.am_judged_lists.specs.declared.mask.Part.TheVariants.{Within, Outside
 use Rattle.am_judged_lists.specs.Cube.{MaskedLabels, may_at, matches, reaches, reaches_all, permits_position}
 use Rattle.am_judged_lists.specs.CubeView.{AscendByLabel}
 use Rattle.am_judged_lists.specs.Boxes.{is_in_part, box_permits, IsInBox, HasChoice, IsOpen, count_true, count_positions}
-use Rattle.am_judged_lists.proofs.ListLemmas.{all_pass, each_map, each_pushed, and_true}
-use Rattle.am_judged_lists.proofs.CubeLemmas.{fits, fits_from, fits_at}
-use Rattle.am_judged_lists.proofs.ReasonLemmas.{at_index}
+use Rattle.am_judged_lists.proofs.ListLemmas.{all_pass, at_index, each_map, each_pushed, and_true}
+use Rattle.am_judged_lists.proofs.CubeLemmas.{fits, fits_at}
 
 -- ---- The mask of one label of a cube.
 
@@ -203,10 +202,6 @@ module _ (b : List (List Bool)) (c : List ℕ) (m : LabelMask) (inside : IsInBox
   pub fits_inside : m.label < length b → fits c m ≡ get_or m.mask (get_or c m.label 0) false
   fits_inside h = fits_at c m (omega (arith, h, inside.long))
 
-  -- a mask of a label after those of the box forbids nothing
-  pub fits_past : length b ≤ m.label → fits c m ≡ true
-  fits_past h = fits_from c m (λ low. absurd (omega (arith, h, low, inside.long)))
-
 -- a cube that permits some choice matches those that fit its masks
 pub may_of_fits : (cube : MaskedLabels) (c : List ℕ) → cube.empty ≡ false → may_at cube c ≡ list_all (fits c) cube.masks
 may_of_fits cube c some = ap (λ e. not e && list_all (fits c) cube.masks) some
@@ -229,16 +224,6 @@ module _ (start now : List (List Bool)) (masks : List LabelMask) (i : ℕ) (m : 
   -- one mask more
   one_more : (c : List ℕ) → list_all (fits c) (take (i + 1) masks) ≡ (list_all (fits c) (take i masks) && fits c m)
   one_more c = list_all_more (fits c) masks i m low ∙ ap (λ x. list_all (fits c) (take i masks) && fits c x) (sym read)
-
-  -- a mask of a label after those of the box
-  pub matching_past : length now ≤ m.label → AreMatching start now (take (i + 1) masks)
-  matching_past past = record {
-    same = so_far.same;
-    before = λ c h.
-        let parts = so_far.before c h in
-        (parts.0, one_more c ∙ and_from (list_all (fits c) (take i masks)) (fits c m) parts.1 (fits_past now c m h past));
-    still = λ c h e. so_far.still c h (and_parts (list_all (fits c) (take i masks)) (fits c m) (sym (one_more c) ∙ e)).0;
-  }
 
   -- a mask of a label of the box, whose positions are kept
   pub matching_more : (mask : List Bool) → m.label < length now → Keeps (get_or now m.label []) mask (λ j. get_or m.mask j false)

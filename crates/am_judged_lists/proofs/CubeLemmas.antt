@@ -10,8 +10,7 @@ use Rattle.am_judged_lists.specs.Verdicts.{verdict_over}
 use Rattle.am_judged_lists.specs.Cube.{reaches, permits_at, may_at, verdict_at}
 use Rattle.am_judged_lists.specs.CubeView.{AscendByLabel}
 use Rattle.am_judged_lists.proofs.ListLemmas.{each_both, each_map, each_passes, all_pass, one_fails, not_all, some_passes, none_passes}
-use Rattle.am_search.proofs.Conflicts.{begins_at}
-use Rattle.am_search.proofs.PrefixOrder.{begins_length}
+use Rattle.am_search.proofs.PrefixOrder.{begins_at, begins_length}
 use Rattle.am_search.proofs.Walks.{completion_whole}
 use Rattle.am_judged_lists.proofs.Completed.{begins, IsBelow, completed, completed_in, completed_at}
 use Rattle.am_judged_lists.proofs.VerdictLemmas.{verdict_yes, verdict_open, verdict_no}

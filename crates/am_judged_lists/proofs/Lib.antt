@@ -11,5 +11,6 @@ pub mod SetLemmas
 pub mod BlockLemmas
 pub mod TableLemmas
 pub mod GroupLemmas
-pub mod ReasonLemmas
 pub mod BoxLemmas
+pub mod SeenLemmas
+pub mod PairLemmas

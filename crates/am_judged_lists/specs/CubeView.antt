@@ -27,13 +27,15 @@ permits_none size mask = list_all (λ j. not (slice_index_or mask j false)) (ran
 abbrev pub permits_all : ℕ → List Bool → Bool
 permits_all size mask = list_all (λ j. slice_index_or mask j false) (range_with_len 0 size)
 
+-- The cube with the mask of one more label, after the others.
+abbrev pub with_mask : MaskedLabels → ℕ → List Bool → MaskedLabels
+with_mask cube label mask =
+    record { empty = cube.empty; masks = cube.masks ++ record { label = label; mask = mask } ∷ [] }
+
 -- The cube with one more label, after the others, which permits only the mask's positions. A mask
 -- that permits all positions is left out, and one that permits none leaves no choice.
 abbrev pub restricted : MaskedLabels → ℕ → List Bool → ℕ → MaskedLabels
 restricted cube label mask size =
     if permits_all size mask then cube
     else if permits_none size mask then record { empty = true; masks = cube.masks }
-    else record {
-      empty = cube.empty;
-      masks = cube.masks ++ record { label = label; mask = mask } ∷ [];
-    }
+    else with_mask cube label mask

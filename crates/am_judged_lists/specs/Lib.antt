@@ -4,10 +4,10 @@ pub mod MaskView
 pub mod Cube
 pub mod CubeView
 pub mod Boxes
+pub mod Pairs
 pub mod Certainty
 pub mod ListSetView
 pub mod BlockView
 pub mod Places
 pub mod TableView
 pub mod GroupView
-pub mod Reasons

@@ -1,19 +1,19 @@
 ghost use Rattle.std.specs.Prelude.{◌≡◌, ◌<◌, ℕ, List, map, false, not, IfOk, IfErr, OnOk, OnErr};
-ghost use Rattle.std.specs.Prelude.{slice_index_or, IfSome, IfNone, IsTrue};
+ghost use Rattle.std.specs.Prelude.{slice_index_or, IfSome, IfNone, IsTrue, length, ◌*◌, []};
 ghost use Rattle.std.specs.List.{list_any, AllByRecursion};
 ghost use Rattle.am_judged_lists.specs.Rows.{is_never_true, is_any_of};
-ghost use Rattle.am_search.specs.declared.verdict.Verdict.TheVariants.{Yes, No};
-ghost use Rattle.am_judged_lists.specs.Cube.{IsCubeOf, verdict_at, permits_position};
-ghost use Rattle.am_judged_lists.specs.Reasons.{IsReason};
+ghost use Rattle.am_judged_lists.specs.Cube.{IsCubeOf, matches, verdict_at, permits_position};
 ghost use Rattle.am_search.specs.Judge.{is_yes, is_no};
-ghost use Rattle.am_judged_lists.specs.CubeView.{restricted, AscendByLabel};
+ghost use Rattle.am_judged_lists.specs.CubeView.{restricted, with_mask, AscendByLabel};
+ghost use Rattle.am_judged_lists.specs.Boxes.{seen};
+ghost use Rattle.am_judged_lists.specs.Pairs.{ArePlaces};
 ghost use Rattle.am_judged_lists.specs.BlockView.{is_within};
 
 use crate::JudgedList;
 use crate::mask::Mask;
 use crate::rows::rows_of;
 use am_labels::{Matchers, Row};
-use am_search::{Labels, Verdict};
+use am_search::Verdict;
 use am_universe::limits::MAX_LABELS;
 use am_universe::{Choice, Universe};
 use std::alloc::{AllocError, Global};
@@ -82,6 +82,17 @@ impl Cube {
         Cube::of_rows(alloc, universe, rows.as_slice(), &[])
     }
 
+    /// Makes the cube that permits all choices, or none.
+    fn without_masks(alloc: Global, empty: bool) -> Cube
+        ensures { result ≡ record { empty = empty; masks = [] } }
+    {
+        Cube {
+            empty,
+            masks: Vec::new(alloc),
+            reach: 0,
+        }
+    }
+
     /// Permits only the positions of a mask. The label must come after those that have a mask. If
     /// it fails, nothing has changed.
     fn restrict(&mut self, label: usize, mask: Mask, size: usize) -> Result<(), AllocError>
@@ -97,9 +108,42 @@ impl Cube {
             self.empty = true;
             return Ok(());
         }
+        self.push(label, mask)
+    }
+
+    /// Adds the mask of a label. The label must come after those that have a mask. If it fails,
+    /// nothing has changed.
+    fn push(&mut self, label: usize, mask: Mask) -> Result<(), AllocError>
+        requires label { label < 2 * MAX_LABELS }
+        requires last { AllByRecursion (λ m. m.label < label) self.old.masks }
+        ensures pushed { OnOk result (self.new ≡ with_mask self.old label mask) }
+        ensures err { OnErr result (self.new ≡ self.old) }
+    {
         self.masks.push(LabelMask { label, mask })?;
         self.reach = label + 1;
         Ok(())
+    }
+
+    /// Makes the cube that matches a longer choice exactly if this cube matches what is seen of it
+    /// through some places. Fails only if memory runs out.
+    ///
+    /// The mask of the label `i` becomes that of the label `places[i]`. If a label has a mask but
+    /// no place, the cube permits no choice, because what is seen has no position of that label.
+    pub fn through(&self, alloc: Global, places: &[usize]) -> Result<Cube, AllocError>
+        requires { ArePlaces places.now }
+        ensures { IfOk result (λ cube. (c : List ℕ)
+            → AllByRecursion (λ place. place < length c) places.now
+            → matches cube c ≡ matches self.now (seen places.now c)) }
+    {
+        if self.empty || !self.is_within(places.len()) {
+            return Ok(Cube::without_masks(alloc, true));
+        }
+        let mut cube = Cube::without_masks(alloc, false);
+        for m in &self.masks {
+            let mask = m.mask.try_clone(alloc)?;
+            cube.push(places[m.label], mask)?;
+        }
+        Ok(cube)
     }
 
     /// Whether two cubes permit the same positions of each label.
@@ -200,48 +244,6 @@ impl Cube {
     {
         self.reach <= prefix.len() && self.may(prefix)
     }
-
-    /// Why the verdict at a prefix is `No`, or `None` if it is not `No`.
-    ///
-    /// The reason is the first label whose position is forbidden, or no label if no choice is
-    /// permitted. Each prefix that is at least as long and has the same position there has the
-    /// verdict `No` too.
-    pub fn why_not(&self, prefix: &Choice) -> Option<Labels>
-        ensures some { IfSome result (λ labels. IsReason self.now No labels prefix.now) }
-        ensures none { IfNone result (is_no (verdict_at self.now prefix.now) ≡ false) }
-    {
-        if self.empty {
-            return Some(Labels::none());
-        }
-        // The mask at `i` is of the label `i` or of a later one.
-        let within = self.masks.len().min(prefix.len());
-        for mask in &self.masks[..within] {
-            if !mask.fits(prefix) {
-                return Some(Labels::none().with(mask.label));
-            }
-        }
-        None
-    }
-
-    /// Why the verdict at a prefix is `Yes`, or `None` if it is not `Yes`.
-    ///
-    /// The reason is all labels that have a mask. Each prefix that is at least as long and has the
-    /// same positions there has the verdict `Yes` too.
-    pub fn why(&self, prefix: &Choice) -> Option<Labels>
-        ensures some { IfSome result (λ labels. IsReason self.now Yes labels prefix.now) }
-        ensures none { IfNone result (is_yes (verdict_at self.now prefix.now) ≡ false) }
-    {
-        // The contract of `len` tells the proof that a set has room for the labels of the prefix.
-        prove!(prefix.len() <= MAX_LABELS);
-        if !self.must(prefix) {
-            return None;
-        }
-        let mut labels = Labels::none();
-        for mask in &self.masks {
-            labels = labels.with(mask.label);
-        }
-        Some(labels)
-    }
 }
 
 impl JudgedList for Cube {
@@ -263,11 +265,8 @@ impl JudgedList for Cube {
     ) -> Result<Cube, AllocError> {
         // The contract of `len` tells the proof that each label has some value.
         prove!(universe.len() <= MAX_LABELS);
-        let mut cube = Cube {
-            empty: is_any_never_true(rows) || is_any_never_true(more),
-            masks: Vec::new(alloc),
-            reach: 0,
-        };
+        let never = is_any_never_true(rows) || is_any_never_true(more);
+        let mut cube = Cube::without_masks(alloc, never);
         for label in 0..universe.len() {
             // A label without a row permits all its positions.
             if is_any_of(rows, label) || is_any_of(more, label) {

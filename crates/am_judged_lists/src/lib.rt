@@ -23,6 +23,9 @@ mod cube;
 // Which choices are left in a search, and how cubes match them.
 mod position_box;
 
+// Pairs of choices, as one choice over twice as many labels.
+mod pairs;
+
 // The impossible lists of a space.
 mod impossible;
 
@@ -41,6 +44,7 @@ pub use group::Group;
 pub use impossible::impossible_cubes;
 pub use judged_list::JudgedList;
 pub use mask::Part;
+pub use pairs::{first_places, second_places};
 pub use position_box::{Matching, PositionBox};
 pub use rows::rows_of;
 pub use table::Table;

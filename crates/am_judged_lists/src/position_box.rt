@@ -1,11 +1,13 @@
 //! Boxes: which positions of each label are permitted.
 
 ghost use Rattle.std.specs.Prelude.{◌≡◌, ◌↔◌, ◌<◌, ℕ, List, length, slice_index, IfOk, IsTrue};
-ghost use Rattle.std.specs.Prelude.{false};
+ghost use Rattle.std.specs.Prelude.{false, [], ◌*◌};
 ghost use Rattle.am_universe.specs.Universe.{sizes};
 ghost use Rattle.am_universe.specs.Choice.{IsWhole};
-ghost use Rattle.am_judged_lists.specs.Cube.{may_at, permits_position};
-ghost use Rattle.am_judged_lists.specs.Boxes.{box_permits, IsInBox, HasChoice, IsOpen, IsMatching};
+ghost use Rattle.am_judged_lists.specs.Cube.{matches, permits_position};
+ghost use Rattle.am_judged_lists.specs.Boxes.{seen, box_permits, IsInBox, HasChoice, IsOpen};
+ghost use Rattle.am_judged_lists.specs.Boxes.{IsMatching};
+ghost use Rattle.am_judged_lists.specs.Pairs.{first_places, second_places};
 ghost use Rattle.am_judged_lists.specs.Boxes.{is_in_part, count_positions};
 
 use crate::cube::Cube;
@@ -67,6 +69,21 @@ impl PositionBox {
         Ok(PositionBox { masks })
     }
 
+    /// Makes the box of pairs of choices of this box, over twice as many labels: each label stands
+    /// twice, one behind the other. Fails only if memory runs out.
+    pub fn twice(&self, alloc: Global) -> Result<PositionBox, AllocError>
+        ensures { IfOk result (λ b. (c : List ℕ) → IsInBox b c ↔ (length c ≡ 2 * length self.now)
+            × IsInBox self.now (seen (first_places (length self.now)) c)
+            × IsInBox self.now (seen (second_places [] (length self.now)) c)) }
+    {
+        let mut masks = Vec::new(alloc);
+        for mask in self.masks.as_slice() {
+            masks.push(mask.try_clone(alloc)?)?;
+            masks.push(mask.try_clone(alloc)?)?;
+        }
+        Ok(PositionBox { masks })
+    }
+
     /// The number of labels.
     pub fn len(&self) -> usize
         ensures { result ≡ length self.now }
@@ -112,17 +129,23 @@ impl PositionBox {
         }
     }
 
-    /// Takes out all choices that a cube does not match. The cube must permit some choice.
-    pub fn keep_matching(&mut self, cube: &Cube)
-        requires { cube.now.empty ≡ false }
-        ensures choices { (c : List ℕ)
-            → IsInBox self.new c ↔ IsInBox self.old c × IsTrue (may_at cube.now c) }
+    /// Takes out all choices that a cube does not match.
+    ///
+    /// Returns `false` if the cube matches no choice of any box with these labels. Then nothing
+    /// has changed.
+    pub fn keep_matching(&mut self, cube: &Cube) -> bool
+        ensures kept { IsTrue result → (c : List ℕ)
+            → IsInBox self.new c ↔ IsInBox self.old c × IsTrue (matches cube.now c) }
+        ensures none { result ≡ false → (c : List ℕ)
+            → IsInBox self.old c → matches cube.now c ≡ false }
     {
-        for mask in cube.masks() {
-            if mask.label < self.masks.len() {
-                self.masks[mask.label].keep(Part::Within, &mask.mask);
-            }
+        if cube.is_empty() || !cube.is_within(self.masks.len()) {
+            return false;
         }
+        for mask in cube.masks() {
+            self.masks[mask.label].keep(Part::Within, &mask.mask);
+        }
+        true
     }
 
     /// Takes out all positions of a label but one.

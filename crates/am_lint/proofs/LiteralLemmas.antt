@@ -15,8 +15,8 @@ use Rattle.am_universe.proofs.ListLemmas.{IsIn-from_Contains, Contains-from_IsIn
 use Rattle.am_universe.proofs.ListLemmas.{IsIn-right, IsIn-split, AllByRecursion-each}
 use Rattle.am_universe.proofs.ListLemmas.{AllByRecursion-at}
 use Rattle.am_complete.proofs.Pushed.{one_longer}
-use Rattle.am_reasons.specs.Reason.{AreSameLiterals}
-use Rattle.am_reasons.specs.declared.candidate.Candidate.{Candidate}
+use Rattle.am_first_sets.specs.Reason.{AreSameLiterals}
+use Rattle.am_first_sets.specs.declared.candidate.Candidate.{Candidate}
 use Rattle.am_lint.specs.declared.literals.Part.{Part}
 use Rattle.am_lint.specs.declared.table.TableRoute.{TableRoute}
 use Rattle.am_lint.specs.Literals.{is_wanted, has_route, IsAbout, HasEach, AddsPart, AreLiterals}

@@ -1,5 +1,5 @@
 -- When literals are true at a choice: exactly if its label set does what they want.
-use Rattle.std.proofs.Common.{◌≡◌, ◌↔◌, ℕ, List, Bool, true, false, not, cond, Some, refl, sym, ap}
+use Rattle.std.proofs.Common.{◌≡◌, ◌↔◌, ℕ, List, Bool, true, false, not, cond, Some, sym, ap}
 use Rattle.std.proofs.Common.{◌∙◌, subst, slice_get, Contains, IsTrue, inl, inr}
 use Rattle.std.proofs.lemmas.Bool.{cases_Bool}
 use Rattle.std.proofs.lemmas.Option.{same_Some}
@@ -11,14 +11,10 @@ use Rattle.am_labels.specs.Matcher.{all_hold, Condition}
 use Rattle.am_config.specs.ConfigFile.{RouteTree, Configuration, continues_of, matchers_of}
 use Rattle.am_config.specs.Path.{route_at}
 use Rattle.am_eval.specs.Routing.{MatchesAt}
-use Rattle.am_search.specs.declared.verdict.Verdict.TheVariants.{Yes, No}
-use Rattle.am_judged_lists.specs.Cube.{MaskedLabels, IsCubeOf}
-use Rattle.am_search.specs.Judge.{is_no, is_yes}
-use Rattle.am_judged_lists.proofs.VerdictLemmas.{list_says}
-use Rattle.am_first_sets.specs.Reasons.{may_match, must_match}
-use Rattle.am_first_sets.proofs.ImpossibleCubes.{certain_where}
-use Rattle.am_reasons.specs.declared.candidate.Candidate.{Candidate}
-use Rattle.am_reasons.specs.Meeting.{holds_at}
+use Rattle.am_judged_lists.specs.Cube.{MaskedLabels, IsCubeOf, matches}
+use Rattle.am_first_sets.proofs.CubeTruth.{matches_where as cube_says}
+use Rattle.am_first_sets.specs.declared.candidate.Candidate.{Candidate}
+use Rattle.am_first_sets.specs.Literals.{holds_at}
 use Rattle.am_lint.specs.declared.literals.Part.{Part}
 use Rattle.am_lint.specs.declared.table.TableRoute.{TableRoute}
 use Rattle.am_lint.specs.Table.{IsTableOf}
@@ -54,10 +50,6 @@ does_where c set q t false b at is =
       ],
     )
 
-allowed_where : (b : Bool) → not (is_no (cond b Yes No)) ≡ b
-allowed_where true = refl
-allowed_where false = refl
-
 -- ---- At a whole choice.
 
 module _ (u : List Label) (c : Configuration) (routes : List TableRoute)
@@ -66,20 +58,17 @@ module _ (u : List Label) (c : Configuration) (routes : List TableRoute)
   set = label_set_of u choice
 
   by_cube : (wanted : Bool) (cube : MaskedLabels) (ms : List Condition) → IsCubeOf u ms cube
-      → cond wanted (may_match choice cube) (not (must_match choice cube))
+      → cond wanted (matches cube choice) (not (matches cube choice))
       ≡ cond wanted (all_hold set ms) (not (all_hold set ms))
-  by_cube true cube ms is =
-      ap (λ v. not (is_no v)) (is choice whole.0 ∙ list_says u ms choice whole)
-      ∙ allowed_where (all_hold set ms)
-  by_cube false cube ms is =
-      ap (λ v. not (is_yes v)) (is choice whole.0) ∙ ap not (certain_where u choice whole ms)
+  by_cube wanted cube ms is =
+      ap (λ b. cond wanted b (not b)) (cube_says u choice whole ms cube (is choice whole.0))
 
   pub literal_truth : (k : Candidate) (route : TableRoute) → slice_get routes k.tag ≡ Some route
       → k.cube.now ≡ route.cube → (holds_at choice k ≡ true) ↔ DoesAt c k.wanted route.path set
   literal_truth k route at cube =
       let own = its_route u c routes known k.tag route at in
       does_where c set route.path own.tree k.wanted (holds_at choice k) own.at
-      (ap (λ m. cond k.wanted (may_match choice m) (not (must_match choice m))) cube
+      (ap (λ m. cond k.wanted (matches m choice) (not (matches m choice))) cube
       ∙ by_cube k.wanted route.cube (matchers_of own.tree) own.cube)
 
   -- ---- Literals of parts.

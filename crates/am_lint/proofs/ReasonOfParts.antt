@@ -2,16 +2,16 @@
 use Rattle.std.proofs.Common.{◌≡◌, ◌<◌, ◌≤◌, ℕ, zero, suc, List, [], ◌∷◌, ◌++◌, length, drop, Some}
 use Rattle.std.proofs.Common.{refl, sym, ap, ◌∙◌, subst, slice_get, Contains, IsTrue, inl, inr}
 use Rattle.std.proofs.Common.{arith, true}
-use Rattle.std.proofs.lemmas.Bool.{cases_lt}
+use Rattle.std.proofs.lemmas.Bool.{cases_lt, both_ways}
 use Rattle.std.proofs.lemmas.Option.{same_Some}
 use Rattle.am_universe.proofs.ListLemmas.{IsIn, IsIn-from_Contains, AllByRecursion-at}
 use Rattle.am_universe.proofs.ListLemmas.{AllByRecursion-each, Contains-from_IsIn}
 use Rattle.am_labels.specs.Space.{Space, IsChoiceOf}
 use Rattle.am_universe.specs.LabelSet.{label_set_of, LabelMap}
 use Rattle.am_config.specs.ConfigFile.{Configuration, continues_of}
-use Rattle.am_reasons.specs.declared.candidate.Candidate.{Candidate}
-use Rattle.am_reasons.specs.Meeting.{holds_at}
-use Rattle.am_reasons.specs.Reason.{AreSameLiterals, without, IsReason}
+use Rattle.am_first_sets.specs.declared.candidate.Candidate.{Candidate}
+use Rattle.am_first_sets.specs.Literals.{holds_at, meets}
+use Rattle.am_first_sets.specs.Reason.{AreSameLiterals, without, IsReason}
 use Rattle.am_lint.specs.declared.literals.Part.{Part}
 use Rattle.am_lint.specs.declared.table.TableRoute.{TableRoute}
 use Rattle.am_lint.specs.Table.{IsTableOf}
@@ -22,7 +22,7 @@ use Rattle.am_lint.specs.Parts.{IsReasonOfParts}
 use Rattle.am_lint.specs.Reaching.{IsSetOf, SomeIs, NoneIs}
 use Rattle.am_lint.proofs.TableLemmas.{its_route, its_place, zip_right, zip_at}
 use Rattle.am_lint.proofs.LiteralTruth.{literal_truth}
-use Rattle.am_lint.proofs.ReasonPaths.{place_of, at_place_in, meets_each, meets_all, unmet_by}
+use Rattle.am_lint.proofs.ReasonPaths.{place_of, at_place_in, meets_each, meets_all}
 use Rattle.am_lint.proofs.ReasonPaths.{is_named, named_is}
 
 -- ---- Positions in a list of two parts.
@@ -60,7 +60,7 @@ module _ (s : Space) (c : Configuration) (routes : List TableRoute)
     (known : IsTableOf s.labels c routes) (parts : List Part) (part : Part) (path : List ℕ)
     (front all named : List Candidate) (are : AreLiterals routes parts path front)
     (adds : AddsPart routes part path front all) (same : AreSameLiterals all named)
-    (reason : IsReason s (length front) named) where
+    (reason : IsReason (IsChoiceOf s) (length front) named) where
   abbrev n : ℕ
   n = length front
 
@@ -202,7 +202,7 @@ module _ (s : Space) (c : Configuration) (routes : List TableRoute)
       let shown = label_set_of s.labels choice in
       let met = subst (λ (m : LabelMap). MeetsParts c parts path m) occurs.2 does.0 in
       let done = subst (λ (m : LabelMap). DoesAtEach c part blamed m) occurs.2 does.1 in
-      unmet_by s named choice reason.enough is
+      both_ways (meets choice named) (reason.enough choice is)
       (meets_all choice named (λ l there own.
       let at = place_of named l there in
       elim (cases_lt at.0 n) [
@@ -268,7 +268,7 @@ module _ (s : Space) (c : Configuration) (routes : List TableRoute)
 -- the paths are those of the named ones behind the first `n`
 abbrev pub AreNamedFrom : Space → List TableRoute → ℕ → List Candidate → List (List ℕ) → Type 0
 AreNamedFrom s routes n all paths =
-    (ks : List Candidate) × AreSameLiterals all ks × IsReason s n ks
+    (ks : List Candidate) × AreSameLiterals all ks × IsReason (IsChoiceOf s) n ks
     × (paths ≡ named_paths routes (drop n ks))
 
 -- and the paths that were found are a reason too

@@ -1,14 +1,11 @@
 -- Which routes are to blame: from the literals that are named to the paths of their routes.
-use Rattle.std.proofs.Common.{◌≡◌, ◌≤◌, ◌+◌, ◌-◌, ℕ, zero, suc, List, [], ◌∷◌, drop, Some, None}
+use Rattle.std.proofs.Common.{◌≡◌, ◌≤◌, ◌+◌, ◌-◌, ℕ, zero, suc, List, [], ◌∷◌, drop, Some}
 use Rattle.std.proofs.Common.{refl, sym, ap, ◌∙◌, subst, slice_get, Contains, IsTrue, Bool, true}
 use Rattle.std.proofs.Common.{false, not, ◌||◌, ◌&&◌, inl, inr, arith}
-use Rattle.std.specs.List.{find}
 use Rattle.std.proofs.lemmas.Bool.{cases_Bool, and_parts}
 use Rattle.am_universe.proofs.ListLemmas.{IsIn, IsIn-from_Contains, Contains-from_IsIn}
-use Rattle.am_labels.specs.Space.{Space, all_choices, IsChoiceOf}
-use Rattle.am_labels.proofs.SpaceLaws.{space_choices}
-use Rattle.am_reasons.specs.declared.candidate.Candidate.{Candidate}
-use Rattle.am_reasons.specs.Meeting.{holds_at, hold_all, meets, IsUnmet}
+use Rattle.am_first_sets.specs.declared.candidate.Candidate.{Candidate}
+use Rattle.am_first_sets.specs.Literals.{holds_at, hold_all, meets}
 use Rattle.am_lint.specs.declared.table.TableRoute.{TableRoute}
 use Rattle.am_lint.specs.Literals.{path_of, named_paths}
 
@@ -62,24 +59,6 @@ holds_each choice (l ∷ ks) h k (inl same) =
     ap (holds_at choice) (sym same) ∙ (and_parts (holds_at choice l) (hold_all choice ks) h).0
 holds_each choice (l ∷ ks) h k (inr later) =
     holds_each choice ks (and_parts (holds_at choice l) (hold_all choice ks) h).1 k later
-
--- what no choice meets, and what a search finds
-none_found : {X : Type 0} (test : X → Bool) (xs : List X) (x : X) → find test xs ≡ None
-    → IsIn xs x → test x ≡ true → ⊥
-none_found test [] x none there passes = absurd there
-none_found test (y ∷ ys) x none (inl same) passes =
-    let here : test y ≡ true = ap test same ∙ passes in
-    let found : Some y ≡ None = rw here at none in cc
-none_found test (y ∷ ys) x none (inr later) passes = elim (cases_Bool (test y)) [
-  | inl here ↦ let found : Some y ≡ None = rw here at none in cc
-  | inr fails ↦ none_found test ys x (rw fails at none) later passes
-]
-
-pub unmet_by : (s : Space) (ks : List Candidate) (choice : List ℕ) → IsUnmet s ks
-    → IsChoiceOf s choice → meets choice ks ≡ true → ⊥
-unmet_by s ks choice unmet is met =
-    none_found (λ c. meets c ks) (all_choices s) choice unmet
-    (IsIn-from_Contains (all_choices s) choice ((space_choices s choice).1 is)) met
 
 -- ---- The paths of named literals.
 

@@ -3,7 +3,7 @@ use Rattle.std.specs.Prelude.{◌≡◌, ◌<◌, ℕ, List, [], ◌++◌, map, 
 use Rattle.std.specs.Prelude.{◌&&◌, Option, Some, None, IsTrue, Contains, slice_get}
 use Rattle.std.specs.List.{AllByRecursion, filter}
 use Rattle.am_config.specs.Path.{leads_through}
-use Rattle.am_reasons.specs.declared.candidate.Candidate.{Candidate}
+use Rattle.am_first_sets.specs.declared.candidate.Candidate.{Candidate}
 use Rattle.am_lint.specs.declared.literals.Part.{Part}
 use Rattle.am_lint.specs.declared.literals.Part.TheVariants.{Way, Before, Children}
 use Rattle.am_lint.specs.declared.table.TableRoute.{TableRoute}

@@ -8,7 +8,7 @@ use Rattle.am_config.specs.ConfigView.{config_view}
 use Rattle.am_config.specs.Path.{route_at}
 use Rattle.am_config.specs.RoutePaths.{all_routes}
 use Rattle.am_judged_lists.specs.Cube.{IsCubeOf}
-use Rattle.am_first_sets.specs.PossibleRefuter.{possible_space}
+use Rattle.am_first_sets.specs.PossibleSets.{possible_space}
 use Rattle.am_lint.specs.declared.table.TableRoute.{TableRoute}
 use Rattle.am_lint.specs.declared.table.Table.{Table}
 

@@ -6,7 +6,7 @@ ghost use Rattle.am_lint.specs.Literals.{stands_in, is_wanted, AddsPart};
 use crate::places::{is_child_of, stands_before};
 use crate::table::{Table, TableRoute};
 use am_config::Path;
-use am_reasons::Candidate;
+use am_first_sets::Candidate;
 use std::alloc::AllocError;
 
 /// A part of the literals for a route, by the routes that they name.

@@ -13,9 +13,10 @@
 
 ghost use Rattle.std.specs.Prelude.{◌≡◌, ◌≤◌, ◌∷◌, ◌++◌, [], List, length, drop, IfOk, IfSome};
 ghost use Rattle.std.specs.Prelude.{IfNone};
-ghost use Rattle.am_reasons.specs.declared.candidate.Candidate.{Candidate};
-ghost use Rattle.am_reasons.specs.Meeting.{IsAnyMet};
-ghost use Rattle.am_reasons.specs.Reason.{AreSameLiterals, IsReason};
+ghost use Rattle.am_labels.specs.Space.{IsChoiceOf};
+ghost use Rattle.am_first_sets.specs.declared.candidate.Candidate.{Candidate};
+ghost use Rattle.am_first_sets.specs.Literals.{IsAnyMet};
+ghost use Rattle.am_first_sets.specs.Reason.{AreSameLiterals, IsReason};
 ghost use Rattle.am_lint.specs.declared.literals.Part.{Part};
 ghost use Rattle.am_lint.specs.declared.literals.Part.TheVariants as parts;
 ghost use Rattle.am_lint.specs.Table.{KnowsRoutes, table_space, table_config, IsRoute};
@@ -28,7 +29,7 @@ ghost use Rattle.am_lint.specs.Standing.{IsStanding, IsReasonFor, IsShownBy};
 use crate::literals::{Part, add_part};
 use crate::table::Table;
 use am_config::Path;
-use am_reasons::{Candidate, find_reason, first_meeting};
+use am_first_sets::{Candidate, find_reason, first_meeting};
 use am_universe::Choice;
 use std::alloc::{AllocError, Global};
 
@@ -226,14 +227,15 @@ fn named_by_reason(
     literals: &mut [Candidate<'_>],
     fixed: usize,
 ) -> Result<Vec<Path>, AllocError>
-    requires none { IsAnyMet (table_space table.now) literals.old → ⊥ }
+    requires none { IsAnyMet (IsChoiceOf (table_space table.now)) literals.old → ⊥ }
     requires tagged { AreTagged table.now.routes.items literals.old }
     requires within { fixed ≤ length literals.old }
     ensures reason { IfOk result (λ routes. (ks : List Candidate)
-        × AreSameLiterals literals.old ks × IsReason (table_space table.now) fixed ks
+        × AreSameLiterals literals.old ks
+        × IsReason (IsChoiceOf (table_space table.now)) fixed ks
         × (routes.items ≡ named_paths table.now.routes.items (drop fixed ks))) }
 {
-    find_reason(alloc, &table.possible, literals, fixed)?;
+    find_reason(alloc, table.possible.choices(), literals, fixed)?;
     named_routes(alloc, table, &literals[fixed..])
 }
 

@@ -5,7 +5,7 @@ ghost use Rattle.am_config.specs.ConfigView.{config_view};
 ghost use Rattle.am_lint.specs.Table.{KnowsRoutes, table_space, table_config};
 
 use am_config::{Config, Path};
-use am_first_sets::PossibleRefuter;
+use am_first_sets::PossibleSets;
 use am_judged_lists::Cube;
 use am_labels::Space;
 use std::alloc::{AllocError, Global};
@@ -21,7 +21,7 @@ pub(crate) struct TableRoute {
 /// The routes of a configuration over a space, in preorder, and what is impossible.
 #[derive(Drop)]
 pub(crate) struct Table<'a> {
-    pub possible: PossibleRefuter<'a>,
+    pub possible: PossibleSets<'a>,
     pub config: &'a Config,
     pub routes: Vec<TableRoute>,
 }
@@ -37,7 +37,7 @@ impl<'a> Table<'a> {
         ensures config { IfOk result (λ table. table_config table ≡ config_view config.now) }
         ensures knows { IfOk result KnowsRoutes }
     {
-        let possible = PossibleRefuter::of(alloc, space)?;
+        let possible = PossibleSets::of(alloc, space)?;
         let listed = config.routes(alloc)?;
         let mut routes = Vec::with_capacity(alloc, listed.paths.len())?;
         for i in 0..listed.paths.len() {

@@ -14,9 +14,6 @@ pub mod TokenTexts
 pub mod TokenForms
 pub mod Pages
 pub mod PageLines
-pub mod LabelBits
-pub mod Conflicts
-pub mod FirstAlike
 pub mod BudgetPages
 pub mod SearchChains
 pub mod SameVerdicts

@@ -1,8 +1,8 @@
 -- The order of prefixes as in a dictionary: a prefix comes before those that begin with it.
-use Rattle.std.proofs.Common.{◌≡◌, ◌≢◌, ◌⊎◌, ℕ, zero, suc, ◌<◌, ◌≤◌, Bool, true, false, nat_eq, ◌&&◌, List, [], ◌∷◌, ◌++◌, length, take, ap, sym, ◌∙◌, refl, arith, eq-eqb, rules}
+use Rattle.std.proofs.Common.{◌≡◌, ◌≢◌, ◌⊎◌, ℕ, zero, suc, ◌<◌, ◌≤◌, Bool, true, false, nat_eq, ◌&&◌, List, [], ◌∷◌, ◌++◌, length, slice_index, take, ap, sym, ◌∙◌, refl, arith, eq-eqb, rules}
 use Rattle.std.specs.List.{starts_with, list_all}
 use Rattle.std.specs.Ordering.{is_lt}
-use Rattle.std.proofs.lemmas.Bool.{false≢true, and_parts, and_from, ne_eqb, cases_order}
+use Rattle.std.proofs.lemmas.Bool.{false≢true, and_parts, and_from, ne_eqb, eqb-true, cases_order}
 use Rattle.std.proofs.lemmas.List.Folds.{list_all-map}
 use Rattle.std.proofs.lemmas.Grind.{common_steps}
 use Rattle.am_universe.proofs.ChoiceLemmas.{same_first, less_first}
@@ -83,6 +83,13 @@ pub begins_front : (prefix x : List ℕ) (p : ℕ) → starts_with nat_eq x (pre
 begins_front [] x p h = refl
 begins_front (q ∷ prefix) [] p h = absurd (false≢true h)
 begins_front (q ∷ prefix) (r ∷ x) p h = grind (arith, common_steps, begins_parts, and_from, begins_front prefix x p)
+
+-- a choice that begins with a prefix has the positions of the prefix
+pub begins_at : (c prefix : List ℕ) (i : ℕ) → starts_with nat_eq c prefix ≡ true → i < length prefix → slice_index c i ≡ slice_index prefix i
+begins_at c [] i e h = absurd (omega arith)
+begins_at [] (p ∷ prefix) i e h = cc
+begins_at (q ∷ c) (p ∷ prefix) zero e h = search (rules, eqb-true, and_parts)
+begins_at (q ∷ c) (p ∷ prefix) (suc i) e h = search (rules, begins_at c prefix i, and_parts)
 
 -- what stands between a prefix and the prefix with one more position has a smaller position there
 pub record HasLess (prefix x : List ℕ) (p : ℕ) : Type 0 where

@@ -12,6 +12,3 @@ pub mod Walk
 pub mod AnswersView
 pub mod TrailerText
 pub mod PageText
-pub mod Labels
-pub mod Conflict
-pub mod Jumps

@@ -4,14 +4,12 @@ ghost use Rattle.std.specs.Prelude.{◌≢◌, ◌⊎◌, Bool, not, false, Opti
 ghost use Rattle.std.specs.Prelude.{Contains, codes};
 ghost use Rattle.std.specs.Ordering.{nat_cmp};
 ghost use Rattle.std.specs.Cmp.Lexicographic.{slice_cmp};
-ghost use Rattle.std.specs.List.{filter, sum, AllByRecursion};
+ghost use Rattle.std.specs.List.{filter, sum};
 ghost use Rattle.std.specs.List.Sorted.{IsStrictlySortedBy};
 ghost use Rattle.am_universe.specs.Universe.{Label, IsUniverse, sizes};
 ghost use Rattle.am_universe.specs.Choice.{admits, choices, IsWhole};
-ghost use Rattle.am_universe.specs.Completions.{completions};
 ghost use Rattle.am_universe.specs.declared.kind.Kind.{Kind};
 ghost use Rattle.am_universe.specs.declared.kind.Kind.TheVariants as kinds;
-ghost use Rattle.am_search.specs.declared.labels.Labels.{Labels};
 ghost use Rattle.am_search.specs.declared.start.Start.{Start};
 ghost use Rattle.am_search.specs.declared.start.Start.TheVariants.{At, After};
 ghost use Rattle.am_search.specs.declared.trailer.Trailer.{Trailer};
@@ -28,7 +26,6 @@ ghost use Rattle.am_search.specs.ExactJudge.{IsExactJudge};
 ghost use Rattle.am_search.specs.Visits.{all_prefixes, visited, given_under, IsPartOfSearch};
 ghost use Rattle.am_search.specs.BudgetPage.{page_under, stop_of, IsSearchPage, IsSearchChain};
 ghost use Rattle.am_search.specs.BudgetPage.{BeginsLater};
-ghost use Rattle.am_search.specs.Conflict.{IsConflict};
 ghost use Rattle.am_search.specs.VisitsExample.{example_verdict};
 ghost use Rattle.am_search.specs.declared.verdict.Verdict.{Verdict};
 
@@ -341,13 +338,6 @@ pub fn an_example_of_the_most_prefixes()
     ensures exact { IsExactJudge (3 ∷ 2 ∷ []) (λ c. is_yes (example_verdict c)) example_verdict }
     ensures reached { length (visited (3 ∷ 2 ∷ []) example_verdict (At []))
         ≡ 1 + 1 * sum (3 ∷ 2 ∷ []) }
-{}
-
-/// If some labels are a conflict of a prefix, no completion of the prefix is true.
-pub fn a_conflict_refutes_all_completions()
-    ensures none { (ns prefix : List ℕ) (truth : List ℕ → Bool) (labels : Labels)
-        → IsConflict ns truth labels prefix
-        → AllByRecursion (λ c. truth c ≡ false) (completions ns prefix) }
 {}
 
 /// An example over the sizes 3 and 2: which prefixes are visited, and which choices are returned.

@@ -2,8 +2,7 @@
 //!
 //! A [`Judge`] says which whole choices are true, and what is known of the completions of each
 //! prefix. [`Answers`] are the true choices from a [`Start`] on, in declared order, and [`first`]
-//! returns the first of all. [`first_by_jumps`] returns it too: it asks a [`Refuter`] why no
-//! completion of a prefix is true, and skips what fails for the same reason.
+//! returns the first of all.
 //!
 //! A page ends with a token, if answers may be left. The token says where the next page begins, and
 //! which inputs it was made from: [`write_token`] and [`parse_token`].
@@ -29,15 +28,6 @@ mod judged;
 mod stage;
 
 pub use answers::{Answers, State, first};
-
-// The first true choice alone, found with a refuter.
-mod jumps;
-mod labels;
-mod refuter;
-
-pub use jumps::first_by_jumps;
-pub use labels::Labels;
-pub use refuter::Refuter;
 
 // Which part of the answers is wanted.
 mod page;

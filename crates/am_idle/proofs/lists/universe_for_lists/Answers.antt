@@ -3,12 +3,10 @@ use Rattle.std.proofs.Common.{◌≡◌, ◌≢◌, List, [], length, inl, inr, 
 use Rattle.std.proofs.Common.{Bool, true, false, ℕ, ap, vec_len, rules}
 use Rattle.std.specs.Prelude.{◌==◌}
 use Rattle.std.proofs.lemmas.Result.{err_from_is_err_and}
-use Rattle.am_universe.specs.declared.kind.Kind.{Kind}
-use Rattle.am_universe.specs.declared.kind.Kind.TheVariants as kinds
 use Rattle.am_labels.specs.Matcher.{Condition}
 use Rattle.am_labels.specs.Space.{Space}
 use Rattle.am_complete.specs.Complete.{impossible_conditions}
-use Rattle.am_complete.specs.Covering.{IsLimitOrMemory, CoversEachBut}
+use Rattle.am_complete.specs.Covering.{CoversEachBut}
 use Rattle.am_complete.specs.Room.{HaveNoRoom, AreUnproved}
 use Rattle.am_complete.proofs.AmongMatchers.{last_among}
 use Rattle.am_idle.specs.Lists.{listed_conditions, deciding_conditions, labels_of_lists}

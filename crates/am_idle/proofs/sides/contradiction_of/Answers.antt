@@ -1,24 +1,35 @@
-use Rattle.std.proofs.Common.{sym, ◌∙◌}
-use Rattle.am_first_sets.specs.PossibleRefuter.{possible_space}
-use Rattle.am_reasons.proofs.PairLemmas.{paired_if, unpaired_if}
-use Rattle.am_idle.proofs.RuleLiterals.{contradict_as}
+use Rattle.std.proofs.Common.{◌-◌, sym, ap, ◌∙◌, arith, length, drop, length-drop}
+use Rattle.std.proofs.lemmas.List.{take_all}
+use Rattle.am_eval.specs.Silencing.{positions_where}
+use Rattle.am_first_sets.specs.declared.candidate.Candidate.{Candidate}
+use Rattle.am_first_sets.specs.PossibleChoices.{IsPossible}
+use Rattle.am_first_sets.proofs.ReasonLemmas.{met_if, unmet_if}
 use Rattle.am_idle.proofs.sides.contradiction_of.Goals as goal
 
 pub returns-then-is_some-clause-none : goal.returns-then-is_some-clause-none
 returns-then-is_some-clause-none c =
-    paired_if (possible_space c.args.possible.now) c.args.shared.now c.args.source.now
-    c.args.target.now c.first_pair.result c.first_pair.ensures.some
-    (sym c.is_some.ensures ∙ c.if-is_some.true)
+    met_if (IsPossible c.args.choices.now) c.args.literals.now c.in_ok-some_meeting.field-0
+    c.in_ok-some_meeting.ensures.some (sym c.is_some.ensures ∙ c.if-is_some.true)
 
-pub find_pair_reason-requires-clause-none : goal.find_pair_reason-requires-clause-none
-find_pair_reason-requires-clause-none c =
-    unpaired_if (possible_space c.args.possible.now) c.args.shared.now c.args.source.now
-    c.args.target.now c.first_pair.result c.first_pair.ensures.none
-    (sym c.is_some.ensures ∙ c.if-is_some.false)
+pub leave_out-requires : goal.leave_out-requires
+leave_out-requires c = record {
+  first = λ i k at low. absurd (omega (arith, low));
+  enough = unmet_if (IsPossible c.args.choices.now) c.args.literals.now
+      c.in_ok-some_meeting.field-0 c.in_ok-some_meeting.ensures.none
+      (sym c.is_some.ensures ∙ c.if-is_some.false);
+}
 
 pub returns-clause-some : goal.returns-clause-some
-returns-clause-some c = λ rule named are also.
-    contradict_as (possible_space c.args.possible.now) rule.equal c.args.shared.now named rule
-    c.args.source.now c.args.target.now c.find_pair_reason.new.first c.find_pair_reason.new.second
-    are also c.find_pair_reason.ensures.same_first c.find_pair_reason.ensures.same_second
-    c.find_pair_reason.ensures.reason _ _ c.in_ok-source.ensures c.in_ok-target.ensures
+returns-clause-some c =
+    let ks = c.leave_out.new.candidates in
+    let n = c.args.sources in (
+      ks,
+      c.leave_out.ensures.same,
+      c.in_ok-leave_out.ensures.reason,
+      (
+        c.in_ok-source.ensures,
+        c.in_ok-target.ensures
+            ∙ ap (positions_where (λ (k : Candidate). k.named) 0)
+            (take_all (length ks - n) (drop n ks) (omega (arith, length-drop n ks))),
+      ),
+    )

@@ -2,7 +2,7 @@
 use Rattle.am_lint.specs.declared.literals.Part.TheVariants.{Children}
 use Rattle.am_first_sets.proofs.FirstPossible.{found_of_space}
 use Rattle.am_first_sets.proofs.MeetingLemmas.{if_ok_more}
-use Rattle.am_reasons.specs.Meeting.{meets}
+use Rattle.am_first_sets.specs.Literals.{meets}
 use Rattle.am_lint.specs.Table.{table_space, table_config}
 use Rattle.am_lint.proofs.LiteralLemmas.{more_literals}
 use Rattle.am_lint.proofs.PartsEntering.{to_enter, to_end, meets_end}

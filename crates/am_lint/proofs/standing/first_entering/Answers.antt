@@ -1,7 +1,7 @@
 -- The label set that is found does what the parts want, and so it enters the route.
 use Rattle.am_first_sets.proofs.FirstPossible.{found_of_space}
 use Rattle.am_first_sets.proofs.MeetingLemmas.{if_ok_more}
-use Rattle.am_reasons.specs.Meeting.{meets}
+use Rattle.am_first_sets.specs.Literals.{meets}
 use Rattle.am_lint.specs.Table.{table_space, table_config}
 use Rattle.am_lint.proofs.PartsEntering.{to_enter, meets_enter}
 use Rattle.am_lint.proofs.PartsMet.{shown_if_found, none_if_unfound}

@@ -1,5 +1,5 @@
 use Rattle.std.proofs.Common.{[], List, subst}
-use Rattle.am_reasons.specs.declared.candidate.Candidate.{Candidate}
+use Rattle.am_first_sets.specs.declared.candidate.Candidate.{Candidate}
 use Rattle.am_lint.specs.declared.literals.Part.TheVariants.{Way}
 use Rattle.am_lint.specs.Literals.{AddsPart}
 use Rattle.am_lint.proofs.LiteralLemmas.{no_literals, more_literals}

@@ -2,14 +2,23 @@
 use Rattle.std.proofs.Common.{◌≡◌, ◌-◌, ℕ, length, take, drop, List, subst, sym, ap, ◌∙◌, arith}
 use Rattle.std.proofs.Common.{length-drop}
 use Rattle.std.proofs.lemmas.List.{take_all}
+use Rattle.am_labels.specs.Space.{IsChoiceOf}
+use Rattle.am_first_sets.specs.PossibleChoices.{IsPossible}
 use Rattle.am_first_sets.proofs.MeetingLemmas.{if_ok_more}
-use Rattle.am_reasons.specs.declared.candidate.Candidate.{Candidate}
+use Rattle.am_first_sets.proofs.ReasonLemmas.{reason_alike}
+use Rattle.am_first_sets.specs.declared.candidate.Candidate.{Candidate}
 use Rattle.am_lint.specs.Literals.{AreTagged, named_paths}
+use Rattle.am_lint.specs.Table.{table_space}
 use Rattle.am_lint.proofs.LiteralLemmas.{tagged_alike, tagged_behind}
 use Rattle.am_lint.proofs.standing.named_by_reason.Goals as goal
 
 left : (n : ℕ) (ks : List Candidate) → take (length ks - n) (drop n ks) ≡ drop n ks
 left n ks = take_all (length ks - n) (drop n ks) (omega (arith, length-drop n ks))
+
+pub find_reason-requires : goal.find_reason-requires
+find_reason-requires c = record {
+  none = λ met. c.requires.none (met.0, (c.choices.ensures met.0).0 met.1, met.2);
+}
 
 pub named_routes-requires : goal.named_routes-requires
 named_routes-requires c =
@@ -30,7 +39,8 @@ returns c =
       reason = if_ok_more c.named_routes.result _ _ (λ found is. (
         ks,
         c.find_reason.ensures.same,
-        c.in_ok-find_reason.ensures.reason,
+        reason_alike (IsPossible c.choices.result.now) (IsChoiceOf (table_space c.args.table.now)) n ks
+            c.choices.ensures c.in_ok-find_reason.ensures.reason,
         is ∙ ap (named_paths routes) (left n ks),
       )) c.named_routes.ensures;
     }

@@ -4,7 +4,7 @@ use Rattle.std.proofs.Common.{slice_get}
 use Rattle.std.proofs.lemmas.Option.{slice_get_read}
 use Rattle.am_universe.proofs.ListLemmas.{AllByRecursion-at}
 use Rattle.am_universe.proofs.Members.{in_at}
-use Rattle.am_reasons.specs.declared.candidate.Candidate.{Candidate}
+use Rattle.am_first_sets.specs.declared.candidate.Candidate.{Candidate}
 use Rattle.am_lint.specs.Literals.{path_if_any, path_of}
 use Rattle.am_lint.proofs.LiteralLemmas.{path_named, path_left_out}
 use Rattle.am_lint.proofs.standing.named_routes.Goals as goal

@@ -1,9 +1,10 @@
 -- The literals are those of one more part, and the named ones are a reason.
 use Rattle.std.proofs.Common.{◌≡◌, ◌+◌, ◌∷◌, ◌++◌, [], List, length, ap, ◌∙◌, subst, arith, drop}
 use Rattle.std.proofs.Common.{length-append}
+use Rattle.am_labels.specs.Space.{IsChoiceOf}
 use Rattle.am_first_sets.proofs.MeetingLemmas.{if_ok_more}
-use Rattle.am_reasons.specs.declared.candidate.Candidate.{Candidate}
-use Rattle.am_reasons.specs.Reason.{AreSameLiterals, IsReason}
+use Rattle.am_first_sets.specs.declared.candidate.Candidate.{Candidate}
+use Rattle.am_first_sets.specs.Reason.{AreSameLiterals, IsReason}
 use Rattle.am_lint.specs.Literals.{named_paths}
 use Rattle.am_lint.specs.Table.{table_space, table_config}
 use Rattle.am_lint.proofs.LiteralLemmas.{more_literals, all_tagged}
@@ -51,7 +52,7 @@ returns c =
           c.in_ok-add_part.ensures found.items (
             so.0,
             subst (λ (ks : List Candidate). AreSameLiterals ks so.0) same so.1,
-            subst (λ n. IsReason s n so.0) many so.2,
+            subst (λ n. IsReason (IsChoiceOf s) n so.0) many so.2,
             so.3 ∙ ap (λ n. named_paths routes (drop n so.0)) many,
           ))
           c.named_by_reason.ensures.reason;

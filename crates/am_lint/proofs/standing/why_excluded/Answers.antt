@@ -1,7 +1,7 @@
 -- Routes on the way are a reason by themselves.
 use Rattle.std.proofs.Common.{[], List, subst, sym}
 use Rattle.am_first_sets.proofs.MeetingLemmas.{if_ok_more}
-use Rattle.am_reasons.specs.declared.candidate.Candidate.{Candidate}
+use Rattle.am_first_sets.specs.declared.candidate.Candidate.{Candidate}
 use Rattle.am_lint.specs.Literals.{AreLiterals}
 use Rattle.am_lint.specs.Reaching.{IsSetOf}
 use Rattle.am_lint.specs.Table.{table_space, table_config}

@@ -1,8 +1,17 @@
-use Rattle.std.proofs.Common.{◌<◌, ◌&&◌, [], false, length, get_or, ap, ◌∙◌, arith}
+use Rattle.std.proofs.Common.{◌<◌, ◌&&◌, [], false, length, get_or, nat_lt, ap, sym, ◌∙◌, arith}
+use Rattle.std.specs.List.{list_all}
 use Rattle.std.proofs.lemmas.List.{get_or_read}
-use Rattle.am_judged_lists.proofs.BoxLemmas.{matching_more, matching_past}
+use Rattle.am_judged_lists.proofs.BoxLemmas.{matching_more}
+use Rattle.am_judged_lists.proofs.SeenLemmas.{label_within}
 use Rattle.am_judged_lists.proofs.position_box.PositionBox.keep_matching.Goals as goal
-use Rattle.am_judged_lists.proofs.position_box.PositionBox.keep_matching.Goals.{then-mask-len, else-mask-len}
+
+pub index_mut-requires : goal.index_mut-requires
+index_mut-requires c =
+    let masks = c.masks-mask-items.result.now in
+    let within = ap (list_all (λ k. nat_lt k.label c.len.result)) c.masks-mask-items.ensures.masks
+    ∙ sym c.is_within.ensures ∙ c.if-not-is_within.false in
+    let low = label_within c.len.result masks c.loop-mask.mask-index c.mask-item.result within c.loop-mask-test.true c.mask-item.is in
+    omega (arith, low, c.len.ensures, c.loop-mask.invariant.same)
 
 pub loop-mask-preserved : goal.loop-mask-preserved
 loop-mask-preserved c =
@@ -11,15 +20,10 @@ loop-mask-preserved c =
     let masks = c.masks-mask-items.result.now in
     let i = c.loop-mask.mask-index in
     let m = c.mask-item.result in
-    let so_far = c.loop-mask.invariant in
-    let low = c.loop-mask-test.true in
-    elim c.if-mask-len.branch [
-      | then-mask-len w ↦
-          let within : m.label < length now = omega (arith, w.if-mask-len.true, c.len.ensures) in
-          let read = get_or_read now _ _ within w.index_mut.ensures.value [] in
-          rw w.self-inside-is
-          (matching_more start now masks i m so_far low c.mask-item.is w.keep.new.self within
-          (λ j. w.keep.ensures.kept j ∙ ap (λ b. get_or b j false && get_or m.mask j false) read))
-      | else-mask-len w ↦ rw w.self-inside-is
-          (matching_past start now masks i m so_far low c.mask-item.is (omega (arith, w.if-mask-len.false, c.len.ensures)))
-    ]
+    let within = ap (list_all (λ k. nat_lt k.label c.len.result)) c.masks-mask-items.ensures.masks
+    ∙ sym c.is_within.ensures ∙ c.if-not-is_within.false in
+    let low = label_within c.len.result masks i m within c.loop-mask-test.true c.mask-item.is in
+    let below : m.label < length now = omega (arith, low, c.len.ensures, c.loop-mask.invariant.same) in
+    let read = get_or_read now _ _ below c.index_mut.ensures.value [] in
+    matching_more start now masks i m c.loop-mask.invariant c.loop-mask-test.true c.mask-item.is c.keep.new.self below
+    (λ j. c.keep.ensures.kept j ∙ ap (λ b. get_or b j false && get_or m.mask j false) read)

@@ -1,0 +1,74 @@
+//! The choices that meet the literals that are named.
+
+ghost use Rattle.std.specs.Prelude.{◌≡◌, false, ℕ, List, IfOk, IfSome, IfNone};
+ghost use Rattle.std.specs.List.{find};
+ghost use Rattle.am_labels.specs.Space.{all_choices, IsChoiceOf};
+ghost use Rattle.am_first_sets.specs.Literals.{meets, IsUnmet};
+ghost use Rattle.am_first_sets.specs.Meeting.{meets_cubes};
+ghost use Rattle.am_first_sets.specs.PossibleChoices.{IsPossible, AreFound};
+ghost use Rattle.am_first_sets.specs.PossibleSets.{possible_space};
+
+use crate::candidate::Candidate;
+use crate::possible_choices::PossibleChoices;
+use crate::possible_sets::PossibleSets;
+use am_judged_lists::{Cube, PositionBox};
+use am_universe::Choice;
+use std::alloc::{AllocError, Global};
+
+/// The cubes of literals: those that have to match, and those that must not.
+#[derive(Drop)]
+struct Asked<'a> {
+    wanted: Vec<&'a Cube>,
+    unwanted: Vec<&'a Cube>,
+}
+
+/// Returns the first choice of a space, in declared order, that meets the named literals, if there
+/// is one. Fails only if memory runs out.
+pub fn first_meeting(
+    alloc: Global,
+    possible: &PossibleSets<'_>,
+    candidates: &[Candidate<'_>],
+) -> Result<Option<Choice>, AllocError>
+    ensures first { IfOk result (λ found. found ≡ find (λ c. meets c candidates.now)
+        (all_choices (possible_space possible.now))) }
+    ensures possible { IfOk result (λ found.
+        IfSome found (IsChoiceOf (possible_space possible.now))) }
+{
+    let asked = asked_by(alloc, candidates)?;
+    possible.first_meeting(alloc, asked.wanted.as_slice(), asked.unwanted.as_slice())
+}
+
+/// Returns a box with some choice, all of whose choices are possible and meet the named literals,
+/// or `None` if no possible choice meets them. Fails only if memory runs out.
+pub fn some_meeting(
+    alloc: Global,
+    possible: &PossibleChoices,
+    candidates: &[Candidate<'_>],
+) -> Result<Option<PositionBox>, AllocError>
+    ensures some { IfOk result (λ found. IfSome found
+        (AreFound (IsPossible possible.now) (λ c. meets c candidates.now))) }
+    ensures none { IfOk result (λ found. IfNone found
+        (IsUnmet (IsPossible possible.now) candidates.now)) }
+{
+    let asked = asked_by(alloc, candidates)?;
+    possible.meeting(alloc, asked.wanted.as_slice(), asked.unwanted.as_slice())
+}
+
+/// Returns the cubes of the literals that are named. Fails only if memory runs out.
+fn asked_by<'a>(alloc: Global, candidates: &[Candidate<'a>]) -> Result<Asked<'a>, AllocError>
+    ensures { IfOk result (λ asked. (c : List ℕ)
+        → meets_cubes asked.wanted.items asked.unwanted.items c ≡ meets c candidates.now) }
+{
+    let mut wanted = Vec::new(alloc);
+    let mut unwanted = Vec::new(alloc);
+    for candidate in candidates {
+        if candidate.named {
+            if candidate.wanted {
+                wanted.push(candidate.cube)?;
+            } else {
+                unwanted.push(candidate.cube)?;
+            }
+        }
+    }
+    Ok(Asked { wanted, unwanted })
+}

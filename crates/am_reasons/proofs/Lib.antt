@@ -1,3 +1,0 @@
-pub mod PairLemmas
-pub mod ReasonLemmas
-pub mod MeetingLemmas

@@ -1,7 +1,0 @@
-use Rattle.am_reasons.proofs.ReasonLemmas.{renamed_is_set}
-use Rattle.am_reasons.proofs.reason.set_named.Goals as goal
-
-pub returns : goal.returns
-returns c =
-    renamed_is_set c.args.i c.args.named c.args.candidates.now c.index-candidates-i.result
-    c.requires

@@ -1,4 +1,0 @@
-pub mod Meeting
-pub mod PairRefuter
-pub mod Pairs
-pub mod Reason
