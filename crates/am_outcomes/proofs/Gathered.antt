@@ -1,36 +1,28 @@
--- What is found for the completions of prefixes, and which prefixes may be left out.
-use Rattle.std.proofs.Common.{◌≡◌, ℕ, zero, suc, ◌+◌, ◌<◌, ◌≤◌, Bool, true, false, not, cond, ◌||◌}
-use Rattle.std.proofs.Common.{List, [], ◌∷◌, ◌++◌, map, fold, length, slice_index, refl, ap, sym}
-use Rattle.std.proofs.Common.{◌∙◌, subst, inl, inr, arith}
-use Rattle.std.specs.List.{list_any, flat_map, filter, range_with_len, AllByRecursion}
+-- The outcomes of the choices of a space, from the first choice of each way.
+use Rattle.std.proofs.Common.{◌≡◌, ◌⊎◌, ℕ, ◌+◌, ◌<◌, Bool, true, false, cond, ◌&&◌, ◌||◌, List}
+use Rattle.std.proofs.Common.{[], ◌∷◌, ◌++◌, map, fold, length, take, get_or, nat_eq, refl}
+use Rattle.std.proofs.Common.{ap, sym, ◌∙◌, subst, inl, inr, arith}
+use Rattle.std.specs.Global.{Vec}
+use Rattle.std.specs.List.{list_any}
 use Rattle.std.specs.Cmp.{IsEquivalence}
-use Rattle.std.specs.Cmp.Lexicographic.{lists_equiv, nat_list_eq_equiv}
+use Rattle.std.specs.Cmp.Lexicographic.{lists_equiv, nat_list_eq_equiv, pointwise}
 use Rattle.std.proofs.lemmas.Bool.{cases_Bool, or_right}
-use Rattle.std.proofs.lemmas.List.{map-append, append-nil}
-use Rattle.std.proofs.lemmas.List.Concat.{flat_map-append}
+use Rattle.std.proofs.lemmas.List.{map-append, take_more}
 use Rattle.std.proofs.lemmas.List.Sums.{fold-append}
 use Rattle.std.proofs.lemmas.List.Folds.{list_any-append}
-use Rattle.std.proofs.lemmas.List.Elements.{filter-append}
 use Rattle.std.proofs.lemmas.Grind.{common_steps}
-use Rattle.am_universe.proofs.ListLemmas.{IsIn, IsIn-map, AllByRecursion-each, AllByRecursion-at}
-use Rattle.am_universe.proofs.Members.{joined_in}
-use Rattle.am_universe.proofs.CompletionLemmas.{below, completions_are_below, below_by_next}
-use Rattle.am_universe.proofs.CompletionLemmas.{completions_of_whole, admits_next}
-use Rattle.am_universe.specs.Universe.{sizes}
-use Rattle.am_universe.specs.Choice.{admits, IsWhole, choices}
-use Rattle.am_universe.specs.Completions.{completions}
 use Rattle.am_universe.specs.LabelSet.{label_set_of}
-use Rattle.am_labels.specs.Matcher.{Condition, all_hold}
-use Rattle.am_labels.specs.Space.{Space, is_possible_choice}
+use Rattle.am_universe.specs.Text.{same_text}
+use Rattle.am_universe.proofs.ListLemmas.{IsIn, IsIn-from_Contains, Contains-from_IsIn}
+use Rattle.am_labels.specs.Space.{Space, all_choices}
+use Rattle.am_labels.proofs.SpaceLaws.{space_choices, space_choices_sorted}
 use Rattle.am_config.specs.ConfigFile.{Configuration}
-use Rattle.am_search.specs.declared.verdict.Verdict.{Verdict}
-use Rattle.am_search.specs.declared.verdict.Verdict.TheVariants.{Yes, No, Open}
-use Rattle.am_judged_lists.specs.Verdicts.{verdict_of_list, matches_at}
-use Rattle.am_search.specs.Judge.{is_yes}
-use Rattle.am_judged_lists.proofs.VerdictLemmas.{yes_exactly}
+use Rattle.am_search.specs.Start.{comes_before}
+use Rattle.am_search.proofs.ChoiceOrder.{Ascends, above_first, ascends_rest, not_itself, before_trans}
 use Rattle.am_outcomes.specs.Outcomes.{same_fate, with_first, with_fate, fate, outcomes_of}
-use Rattle.am_outcomes.specs.States.{lists_state}
-use Rattle.am_outcomes.specs.LayerView.{possible_completions, gathered, StandFor, longer_by}
+use Rattle.am_outcomes.specs.FatesView.{fates_view, entry_view}
+use Rattle.am_outcomes.specs.FirstsOfWays.{AreFirstsOfWays, Ascend}
+use Rattle.am_outcomes.proofs.WayFates.{same_fates}
 
 -- ---- The first of each key.
 
@@ -47,190 +39,181 @@ module _ {K A : Type 0} (same : K → K → Bool) where
   there_or_not true found one key h = h
   there_or_not false found one key h = grind (arith, common_steps, list_any-append)
 
-  -- what is there stays
-  still_there : (xs found : List (K × A)) (key : K) → is_there found key ≡ true
-      → is_there (fold (with_first same) found xs) key ≡ true
-  still_there [] found key h = h
-  still_there (x ∷ xs) found key h = grind (arith, common_steps, still_there xs, there_or_not)
-
-  -- and what is added is there
+  -- what is added is there
   now_there : ((k : K) → same k k ≡ true) → (found : List (K × A)) (x : K × A)
       → is_there (with_first same found x) x.0 ≡ true
   now_there itself found x = grind (arith, common_steps, cases_Bool, list_any-append, or_right)
 
-  pub comes_there : ((k : K) → same k k ≡ true) → (xs found : List (K × A)) (x : K × A)
-      → IsIn xs x → is_there (fold (with_first same) found xs) x.0 ≡ true
-  comes_there itself [] found x i = absurd i
-  comes_there itself (y ∷ xs) found x (inl e) = grind (arith, common_steps, still_there, now_there)
-  comes_there itself (y ∷ xs) found x (inr i) = grind (arith, common_steps, comes_there itself xs)
+-- ---- Fates in memory.
 
-  -- what is there already adds nothing
-  pub nothing_new : (xs found : List (K × A)) → AllByRecursion (λ x. is_there found x.0 ≡ true) xs
-      → fold (with_first same) found xs ≡ found
-  nothing_new [] found all = refl
-  nothing_new (x ∷ xs) found all = grind (arith, common_steps, nothing_new xs found)
+abbrev pub same_receivers : Vec ℕ → Vec ℕ → Bool
+same_receivers a b = pointwise nat_eq a.items b.items
 
-is_certain_yes : (v : Verdict) → is_yes v ≡ true → v ≡ Yes
-is_certain_yes Yes e = refl
-is_certain_yes No e = absurd cc
-is_certain_yes Open e = absurd cc
+abbrev pub same_fates_kept : Vec (Vec ℕ) → Vec (Vec ℕ) → Bool
+same_fates_kept a b = pointwise same_receivers a.items b.items
 
--- ---- Prefixes one after the other.
+same_seen : (xs ys : List (Vec ℕ))
+    → pointwise same_receivers xs ys ≡ pointwise same_text (fates_view xs) (fates_view ys)
+same_seen [] [] = refl
+same_seen [] (y ∷ ys) = refl
+same_seen (x ∷ xs) [] = refl
+same_seen (x ∷ xs) (y ∷ ys) = ap (λ b. pointwise nat_eq x.items y.items && b) (same_seen xs ys)
+
+abbrev Entry : Type 0
+Entry = Vec (Vec ℕ) × List ℕ
+
+there_alike : (entries : List Entry) (key : Vec (Vec ℕ))
+    → list_any (λ e. same_fates_kept key e.0) entries
+    ≡ list_any (λ e. same_fate (fates_view key.items) e.0) (map entry_view entries)
+there_alike [] key = refl
+there_alike (e ∷ entries) key =
+    λ i. same_seen key.items e.0.items i || there_alike entries key i
+
+if_there : (b : Bool) (entries : List Entry) (one : Entry)
+    → map entry_view (cond b entries (entries ++ one ∷ []))
+    ≡ cond b (map entry_view entries) (map entry_view entries ++ entry_view one ∷ [])
+if_there true entries one = refl
+if_there false entries one = map-append entry_view entries (one ∷ [])
+
+pub seen_alike : (entries : List Entry) (one : Entry)
+    → map entry_view (with_first same_fates_kept entries one)
+    ≡ with_first same_fate (map entry_view entries) (entry_view one)
+seen_alike entries one =
+    if_there (list_any (λ e. same_fates_kept one.0 e.0) entries) entries one
+    ∙ ap (λ b. cond b (map entry_view entries) (map entry_view entries ++ entry_view one ∷ []))
+    (there_alike entries one.0)
+
+-- an outcome that is there adds nothing
+pub there_already : (entries : List Entry) (one : Entry)
+    → list_any (λ e. same_fates_kept one.0 e.0) entries ≡ true
+    → entries ≡ with_first same_fates_kept entries one
+there_already entries one there = sym (ap (λ b. cond b entries (entries ++ one ∷ [])) there)
+
+-- ---- Only the first choices of ways are looked at.
 
 module _ (s : Space) (cs : List Configuration) where
   abbrev Found : Type 0
   Found = List (List (List ℕ) × List ℕ)
 
-  pub gathered-append : (found : Found) (ps qs : List (List ℕ))
-      → gathered s cs found (ps ++ qs) ≡ gathered s cs (gathered s cs found ps) qs
-  gathered-append found ps qs =
-      grind (arith, common_steps, flat_map-append, map-append, fold-append)
+  abbrev fate_at : List ℕ → List (List ℕ)
+  fate_at c = fate cs (label_set_of s.labels c)
 
-  pub stand_for_both : (olds bs ps qs : List (List ℕ)) → StandFor s cs olds bs → StandFor s cs ps qs
-      → StandFor s cs (olds ++ ps) (bs ++ qs)
-  stand_for_both olds bs ps qs first second found = grind (arith, common_steps, gathered-append)
+  -- the outcomes of some choices, behind those that are found
+  abbrev pub outcomes_after : Found → List (List ℕ) → Found
+  outcomes_after found choices = fold (with_first same_fate) found (map (with_fate s cs) choices)
 
-  pub stand_for_all : (olds bs ps : List (List ℕ)) → StandFor s cs olds bs → StandFor s cs bs ps
-      → StandFor s cs olds ps
-  stand_for_all olds bs ps first second found = first found ∙ second found
+  -- the fate of a choice is found, or it is that of one of some others that does not come after it
+  abbrev IsKnown : Found → List (List ℕ) → List ℕ → Type 0
+  IsKnown found ys x =
+      (is_there same_fate found (fate_at x) ≡ true)
+      ⊎ ((y : List ℕ) × IsIn ys y × (fate_at y ≡ fate_at x) × (comes_before x y ≡ false))
 
-  -- ---- A prefix by those that are longer by one position.
+  there_anyway : (found : Found) (x : List ℕ) → is_there same_fate found (fate_at x) ≡ true
+      → with_first same_fate found (with_fate s cs x) ≡ found
+  there_anyway found x there =
+      ap (λ b. cond b found (found ++ with_fate s cs x ∷ [])) there
 
-  filtered : {X : Type 0} (test : List ℕ → Bool) (f : X → List (List ℕ)) (xs : List X)
-      → filter test (flat_map f xs) ≡ flat_map (λ x. filter test (f x)) xs
-  filtered test f [] = refl
-  filtered test f (x ∷ xs) = grind (arith, common_steps, filter-append, filtered test f xs)
+  never_before_itself : (x : List ℕ) → comes_before x x ≡ true → ⊥
+  never_before_itself x e = let apart : true ≡ false = sym e ∙ not_itself x in cc
 
-  each_below : (prefix : List ℕ) (positions : List ℕ)
-      → AllByRecursion (λ p. admits (sizes s.labels) (prefix ++ p ∷ []) ≡ true) positions
-      → flat_map (λ p. filter (is_possible_choice s) (below (sizes s.labels) (prefix ++ p ∷ [])))
-      positions
-      ≡ flat_map (possible_completions s) (longer_by prefix positions)
-  each_below prefix [] all = refl
-  each_below prefix (p ∷ positions) all =
-      grind (arith, common_steps, completions_are_below, each_below prefix positions)
-
-  within : (size first count : ℕ) → first + count ≤ size
-      → AllByRecursion (λ p. p < size) (range_with_len first count)
-  within size first zero h = tt
-  within size first (suc count) h = (omega arith, within size (first + 1) count (omega arith))
-
-  each_admitted : (prefix positions : List ℕ) → admits (sizes s.labels) prefix ≡ true
-      → length prefix < length (sizes s.labels)
-      → AllByRecursion (λ p. p < slice_index (sizes s.labels) (length prefix)) positions
-      → AllByRecursion (λ p. admits (sizes s.labels) (prefix ++ p ∷ []) ≡ true) positions
-  each_admitted prefix [] admitted short all = tt
-  each_admitted prefix (p ∷ positions) admitted short all =
-      grind (arith, common_steps, admits_next, each_admitted prefix positions admitted short)
-
-  pub by_next : (prefix : List ℕ) (size : ℕ) → admits (sizes s.labels) prefix ≡ true
-      → length prefix < length (sizes s.labels)
-      → size ≡ slice_index (sizes s.labels) (length prefix)
-      → StandFor s cs (prefix ∷ []) (longer_by prefix (range_with_len 0 size))
-  by_next prefix size admitted short is found =
-      let ns = sizes s.labels in
-      let positions = range_with_len 0 size in
-      let all = each_admitted prefix positions admitted short
-      (subst (λ (n : ℕ). AllByRecursion (λ p. p < n) positions) is
-      (within size 0 size (omega arith))) in
-      let parts : possible_completions s prefix ++ []
-      ≡ flat_map (possible_completions s) (longer_by prefix positions) =
-      append-nil (possible_completions s prefix)
-      ∙ ap (filter (is_possible_choice s))
-      (completions_are_below ns prefix admitted ∙ below_by_next ns prefix short)
-      ∙ ap (λ n. filter (is_possible_choice s)
-      (flat_map (λ p. below ns (prefix ++ p ∷ [])) (range_with_len 0 n))) (sym is)
-      ∙ filtered (is_possible_choice s) (λ p. below ns (prefix ++ p ∷ [])) positions
-      ∙ each_below prefix positions all in
-      ap (λ l. fold (with_first same_fate) found (map (with_fate s cs) l)) parts
-
-  -- ---- What may be left out.
-
-  none_possible : (choice : List ℕ) (lists : List (List Condition)) (p : List ℕ)
-      → list_any is_yes (map (λ ms. verdict_of_list s.labels ms p) lists) ≡ true
-      → IsIn (completions (sizes s.labels) p) choice
-      → list_any (all_hold (label_set_of s.labels choice)) lists ≡ true
-  none_possible choice [] p e i = absurd cc
-  none_possible choice (ms ∷ lists) p e i =
-      elim (cases_Bool (is_yes (verdict_of_list s.labels ms p))) [
-        | inl certain ↦
-            ap (λ b. b || list_any (all_hold (label_set_of s.labels choice)) lists)
-            (AllByRecursion-at (λ d. matches_at s.labels ms d ≡ true)
-            (completions (sizes s.labels) p) choice
-            ((yes_exactly (matches_at s.labels ms) (completions (sizes s.labels) p)).0
-            (is_certain_yes (verdict_of_list s.labels ms p) certain)) i)
-        | inr other ↦
-            or_right (all_hold (label_set_of s.labels choice) ms)
-            (list_any (all_hold (label_set_of s.labels choice)) lists)
-            (none_possible choice lists p
-            (ap (λ b. b || list_any is_yes (map (λ ms. verdict_of_list s.labels ms p) lists))
-            (sym other) ∙ e) i)
-      ]
-
-  all_left_out : (test : List ℕ → Bool) (xs : List (List ℕ))
-      → AllByRecursion (λ x. test x ≡ false) xs → filter test xs ≡ []
-  all_left_out test [] all = refl
-  all_left_out test (x ∷ xs) all =
-      ap (λ b. cond b (x ∷ filter test xs) (filter test xs)) all.0 ∙ all_left_out test xs all.1
-
-  -- a prefix none of whose completions is possible
-  pub without_impossible : (p : List ℕ) → list_any is_yes (lists_state s p) ≡ true
-      → StandFor s cs (p ∷ []) []
-  without_impossible p certain found =
-      ap (λ l. fold (with_first same_fate) found (map (with_fate s cs) (l ++ [])))
-      (all_left_out (is_possible_choice s) (completions (sizes s.labels) p)
-      (AllByRecursion-each (λ c. is_possible_choice s c ≡ false) (completions (sizes s.labels) p)
-      (λ c i. ap not (none_possible c s.impossible p certain i))))
-
-  -- a prefix whose possible completions each have the fate of one after an earlier prefix
-  pub without_known : (prefixes : List (List ℕ)) (p q : List ℕ) → IsIn prefixes q
-      → ((c : List ℕ) → IsIn (possible_completions s p) c
-      → (d : List ℕ) × IsIn (possible_completions s q) d
-      × (fate cs (label_set_of s.labels d) ≡ fate cs (label_set_of s.labels c)))
-      → StandFor s cs (prefixes ++ p ∷ []) prefixes
-  without_known prefixes p q there alike found =
-      gathered-append found prefixes (p ∷ [])
-      ∙ ap (λ l. fold (with_first same_fate) (gathered s cs found prefixes)
-      (map (with_fate s cs) l)) (append-nil (possible_completions s p))
-      ∙ nothing_new same_fate (map (with_fate s cs) (possible_completions s p))
-      (gathered s cs found prefixes)
-      (known (possible_completions s p) (λ c i. known_fate c i))
+  -- all of `xs` add the same as those of them that are in `ys`
+  same_outcomes : (xs ys : List (List ℕ)) (found : Found) → Ascends xs → Ascends ys
+      → ((y : List ℕ) → IsIn ys y → IsIn xs y) → ((x : List ℕ) → IsIn xs x → IsKnown found ys x)
+      → outcomes_after found xs ≡ outcomes_after found ys
+  same_outcomes [] [] found up ups among known = refl
+  same_outcomes [] (y ∷ ys) found up ups among known = absurd (among y (inl refl))
+  same_outcomes (x ∷ xs) [] found up ups among known = elim (known x (inl refl)) [
+    | inl there ↦
+        ap (λ f. outcomes_after f xs) (there_anyway found x there)
+        ∙ same_outcomes xs [] found (ascends_rest x xs up) ups (λ y i. absurd i) (λ z i. known z (inr i))
+    | inr (y, i, same, before) ↦ absurd i
+  ]
+  same_outcomes (x ∷ xs) (y ∷ ys) found up ups among known = elim (among y (inl refl)) [
+    | inl same ↦
+        let more = with_first same_fate found (with_fate s cs x) in
+        same_outcomes xs ys more (ascends_rest x xs up) (ascends_rest y ys ups)
+        (λ z i. elim (among z (inr i)) [
+          | inl again ↦
+              absurd (never_before_itself x
+              (subst (λ (w : List ℕ). comes_before x w ≡ true) (sym again)
+              (subst (λ (w : List ℕ). comes_before w z ≡ true) (sym same)
+              (above_first y ys z ups i))))
+          | inr later ↦ later
+        ])
+        (λ z i. elim (known z (inr i)) [
+          | inl there ↦
+              inl (there_or_not same_fate (is_there same_fate found (fate_at x)) found
+              (with_fate s cs x) (fate_at z) there)
+          | inr (w, inl first, alike, not_before) ↦
+              inl (subst (λ k. is_there same_fate more k ≡ true)
+              (ap fate_at (same ∙ first) ∙ alike)
+              (now_there same_fate same_fate_laws.refl found (with_fate s cs x)))
+          | inr (w, inr later, alike, not_before) ↦ inr (w, later, alike, not_before)
+        ])
+        ∙ ap (λ z. outcomes_after (with_first same_fate found (with_fate s cs z)) ys) same
+    | inr later ↦
+        let before = above_first x xs y up later in
+        elim (known x (inl refl)) [
+          | inl there ↦
+              ap (λ f. outcomes_after f xs) (there_anyway found x there)
+              ∙ same_outcomes xs (y ∷ ys) found (ascends_rest x xs up) ups
+              (λ z i. elim (among z i) [
+                | inl itself ↦ absurd (never_before_itself x (from_there x z y ys ups i before itself))
+                | inr there ↦ there
+              ])
+              (λ z i. known z (inr i))
+          | inr (w, i, alike, not_before) ↦
+              let comes : comes_before x w ≡ true = behind_first x w y ys ups i before in
+              let apart : true ≡ false = sym comes ∙ not_before in absurd cc
+        ]
+  ]
     where
-      known : (choices : List (List ℕ))
-          → ((c : List ℕ) → IsIn choices c
-          → is_there same_fate (gathered s cs found prefixes) (fate cs (label_set_of s.labels c))
-          ≡ true)
-          → AllByRecursion (λ x. is_there same_fate (gathered s cs found prefixes) x.0 ≡ true)
-          (map (with_fate s cs) choices)
-      known [] each = tt
-      known (c ∷ choices) each = (each c (inl refl), known choices (λ d i. each d (inr i)))
+      behind_first : (x w y : List ℕ) (ys : List (List ℕ)) → Ascends (y ∷ ys) → IsIn (y ∷ ys) w
+          → comes_before x y ≡ true → comes_before x w ≡ true
+      behind_first x w y ys ups (inl same) before =
+          subst (λ (z : List ℕ). comes_before x z ≡ true) same before
+      behind_first x w y ys ups (inr i) before =
+          before_trans x y w before (above_first y ys w ups i)
 
-      known_fate : (c : List ℕ) → IsIn (possible_completions s p) c
-          → is_there same_fate (gathered s cs found prefixes) (fate cs (label_set_of s.labels c))
-          ≡ true
-      known_fate c i =
-          let r = alike c i in
-          subst (λ k. is_there same_fate (gathered s cs found prefixes) k ≡ true) r.2
-          (comes_there same_fate same_fate_laws.refl
-          (map (with_fate s cs) (flat_map (possible_completions s) prefixes)) found
-          (with_fate s cs r.0)
-          (IsIn-map (with_fate s cs) (flat_map (possible_completions s) prefixes) r.0
-          (joined_in (possible_completions s) prefixes q r.0 there r.1)))
+      from_there : (x z y : List ℕ) (ys : List (List ℕ)) → Ascends (y ∷ ys) → IsIn (y ∷ ys) z
+          → comes_before x y ≡ true → x ≡ z → comes_before x x ≡ true
+      from_there x z y ys ups i before itself =
+          subst (λ (w : List ℕ). comes_before x w ≡ true) (sym itself)
+          (behind_first x z y ys ups i before)
 
-  -- ---- The ends.
+  pub outcomes_are : (firsts : List (List ℕ)) → AreFirstsOfWays s cs firsts → Ascend firsts
+      → outcomes_after [] firsts ≡ outcomes_of s cs
+  outcomes_are firsts are up =
+      sym (same_outcomes (all_choices s) firsts [] (space_choices_sorted s) up
+      (λ y i.
+      IsIn-from_Contains (all_choices s) y
+      ((space_choices s y).1 (are.each y (Contains-from_IsIn firsts y i)).choice))
+      (λ x i.
+      let choice = (space_choices s x).0 (Contains-from_IsIn (all_choices s) x i) in
+      let r = are.all x choice in
+      inr (
+        r.0,
+        IsIn-from_Contains firsts r.0 r.1,
+        same_fates (label_set_of s.labels r.0) (label_set_of s.labels x) cs r.2,
+        (are.each r.0 r.1).before x choice (sym r.2),
+      )))
 
-  -- the outcomes for the empty prefix are all outcomes of the space
-  pub from_the_start : gathered s cs [] ([] ∷ []) ≡ outcomes_of s cs
-  from_the_start = grind (arith, common_steps, append-nil, completions_are_below)
+  -- ---- One more choice.
 
-  -- and the only possible completion of a possible whole choice is the choice itself
-  itself_alone : (choice : List ℕ) → IsWhole (sizes s.labels) choice
-      → is_possible_choice s choice ≡ true → possible_completions s choice ≡ choice ∷ []
-  itself_alone choice whole possible = grind (arith, common_steps, completions_of_whole)
-
-  pub at_the_end : (choices : List (List ℕ))
-      → AllByRecursion (λ c. IsWhole (sizes s.labels) c × (is_possible_choice s c ≡ true)) choices
-      → flat_map (possible_completions s) choices ≡ choices
-  at_the_end [] all = refl
-  at_the_end (c ∷ choices) all =
-      λ i. itself_alone c all.0.0 all.0.1 i ++ at_the_end choices all.1 i
+  pub one_outcome_more : (choices : List (List ℕ)) (i : ℕ) (choice : List ℕ)
+      (now after : List (Vec (Vec ℕ) × List ℕ)) (found : Vec (Vec ℕ)) → i < length choices
+      → choice ≡ get_or choices i choice
+      → map entry_view now ≡ outcomes_after [] (take i choices)
+      → fates_view found.items ≡ fate_at choice
+      → after ≡ with_first same_fates_kept now (found, choice)
+      → map entry_view after ≡ outcomes_after [] (take (i + 1) choices)
+  one_outcome_more choices i choice now after found within at so_far is adds =
+      let more : take (i + 1) choices ≡ take i choices ++ choice ∷ [] =
+      take_more choices i choice within ∙ ap (λ c. take i choices ++ c ∷ []) (sym at) in
+      ap (map entry_view) adds ∙ seen_alike now (found, choice)
+      ∙ (λ j. with_first same_fate (so_far j) (is j, choice))
+      ∙ sym (fold-append (with_first same_fate) [] (map (with_fate s cs) (take i choices))
+      (with_fate s cs choice ∷ []))
+      ∙ ap (fold (with_first same_fate) [])
+      (sym (map-append (with_fate s cs) (take i choices) (choice ∷ [])))
+      ∙ ap (outcomes_after []) (sym more)

@@ -1,9 +1,10 @@
 pub mod Outcomes
-pub mod States
+pub mod Ways
 pub mod Knows
 pub mod JudgedView
+pub mod RouteSteps
+pub mod Walks
+pub mod FirstsOfWays
 pub mod OutcomeText
 pub mod FatesView
-pub mod LayerView
 pub mod Receivers
-pub mod Alike

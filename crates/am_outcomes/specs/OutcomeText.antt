@@ -1,6 +1,6 @@
 -- The text of outcomes, and of those that differ between two configurations. (This project's own.)
 use Rattle.std.specs.Prelude.{ℕ, ◌<◌, List, [], ◌++◌, map, length, Bool, not, codes, decimal}
-use Rattle.std.specs.Prelude.{slice_get, unwrap_or, ◌==◌, if◌then◌else◌}
+use Rattle.std.specs.Prelude.{slice_get, unwrap_or}
 use Rattle.std.specs.List.{filter, flat_map, AllByRecursion}
 use lib.Pointwise.{pointwise}
 use Rattle.am_universe.specs.Universe.{Label}

@@ -1,21 +1,21 @@
 //! The outcomes of the alerts of a space.
 //!
 //! An *outcome* is the list of receivers under each configuration, with the first choice that has
-//! them. The receivers of each choice of the last layer are looked up, and of the choices with the
-//! same receivers the first is kept. Of all choices that have these receivers, it is the first in
-//! declared order.
+//! them. The receivers of the first choice of each way are looked up, in declared order, and of the
+//! choices with the same receivers the first is kept. Of all choices that have these receivers, it
+//! is the first in declared order.
 
 ghost use Rattle.std.specs.Prelude.{◌≡◌, ◌<◌, [], Some, length, slice_get, IfOk, IfSome, IfNone};
 ghost use Rattle.am_outcomes.specs.Outcomes.{outcomes_of};
-ghost use Rattle.am_outcomes.specs.States.{HaveManyStates};
+ghost use Rattle.am_outcomes.specs.Ways.{HaveManyWays};
 ghost use Rattle.am_outcomes.specs.FatesView.{fates_view};
 ghost use Rattle.am_outcomes.specs.Knows.{configs_view};
 ghost use Rattle.am_outcomes.specs.JudgedView.{judged_space, judged_configs};
-ghost use Rattle.am_outcomes.specs.LayerView.{IsLayer, gathered, prefixes_of};
+ghost use Rattle.am_outcomes.specs.FirstsOfWays.{AreFirstsOfWays, Ascend};
 
 use crate::firsts::Firsts;
 use crate::judged::Judged;
-use crate::layers::{Layer, last_layer};
+use crate::ways::firsts_of_ways;
 use am_config::Config;
 use am_labels::Space;
 use am_universe::Choice;
@@ -59,8 +59,8 @@ impl Outcomes {
 
 /// Finds each outcome that some choice of a space has: the receivers to which its label set goes
 /// under each of some configurations, by their positions, and the first choice that has them.
-/// Returns `None` if more states have to be told apart than there is room for. Fails only if memory
-/// runs out.
+/// Returns `None` if there are more ways through the routes than there is room for. Fails only if
+/// memory runs out.
 pub fn find_outcomes(
     alloc: Global,
     space: &Space,
@@ -69,25 +69,30 @@ pub fn find_outcomes(
     ensures some { IfOk result (λ found. IfSome found (λ outcomes.
         outcomes ≡ outcomes_of space.now (configs_view configs.now))) }
     ensures none { IfOk result (λ found. IfNone found
-        (HaveManyStates space.now (configs_view configs.now))) }
+        (HaveManyWays space.now (configs_view configs.now))) }
 {
     let judged = Judged::of(alloc, space, configs)?;
-    match last_layer(alloc, &judged)? {
-        Some(last) => Ok(Some(outcomes_in(alloc, &judged, &last)?)),
+    match firsts_of_ways(alloc, space.universe(), &judged)? {
+        Some(firsts) => Ok(Some(outcomes_in(alloc, &judged, firsts.as_slice())?)),
         None => Ok(None),
     }
 }
 
-/// Returns the outcomes of the choices of the last layer.
-fn outcomes_in(alloc: Global, judged: &Judged<'_>, last: &Layer) -> Result<Outcomes, AllocError>
-    requires { IsLayer (judged_space judged.now) (judged_configs judged.now)
-        (length (judged_space judged.now).labels) last.now.states }
-    ensures { IfOk result (λ outcomes. outcomes ≡ gathered (judged_space judged.now)
-        (judged_configs judged.now) [] (prefixes_of last.now.states)) }
+/// Returns the outcomes of the choices of a space, from the first choice of each way in declared
+/// order.
+fn outcomes_in(
+    alloc: Global,
+    judged: &Judged<'_>,
+    choices: &[Choice],
+) -> Result<Outcomes, AllocError>
+    requires firsts { AreFirstsOfWays (judged_space judged.now) (judged_configs judged.now)
+        choices.now }
+    requires ascend { Ascend choices.now }
+    ensures { IfOk result (λ outcomes. outcomes ≡ outcomes_of (judged_space judged.now)
+        (judged_configs judged.now)) }
 {
     let mut firsts = Firsts::empty(alloc);
-    for i in 0..last.states.len() {
-        let choice = last.states.get(i).1;
+    for choice in choices {
         let fate = judged.fate(alloc, choice)?;
         if !firsts.has(&fate) {
             firsts.add(fate, *choice)?;

@@ -1,44 +1,29 @@
-//! What is known about configurations and impossible lists at a prefix, and at a whole choice.
+//! A space, and the routes of some configurations as cubes over it.
 
-ghost use Rattle.std.specs.Prelude.{◌≡◌, List, IfOk, IsTrue, option_map};
-ghost use Rattle.std.proofs.Props.{props};
-ghost use Rattle.am_universe.specs.Universe.{Label, IsUniverse, sizes};
-ghost use Rattle.am_universe.specs.Choice.{admits, IsWhole};
+ghost use Rattle.std.specs.Prelude.{◌≡◌, IfOk};
+ghost use Rattle.am_universe.specs.Universe.{sizes};
+ghost use Rattle.am_universe.specs.Choice.{IsWhole};
 ghost use Rattle.am_universe.specs.LabelSet.{label_set_of};
+ghost use Rattle.am_first_sets.specs.PossibleSets.{possible_space};
 ghost use Rattle.am_outcomes.specs.Outcomes.{fate};
-ghost use Rattle.am_config.specs.ConfigFile.{Configuration};
-ghost use Rattle.am_outcomes.specs.States.{state_of};
 ghost use Rattle.am_outcomes.specs.FatesView.{fates_view};
-ghost use Rattle.am_outcomes.specs.Knows.{KnowsLists, KnowsConfigs, KnowsConfigs-prop};
-ghost use Rattle.am_outcomes.specs.Knows.{configs_view, AreTwoAlike};
+ghost use Rattle.am_outcomes.specs.Knows.{KnowsConfigs, KnowsConfigs-prop, configs_view};
 
-use crate::route_walk::{are_alike, push_receivers, push_state};
+use crate::route_receivers::push_receivers;
 use am_config::Config;
-use am_first_sets::RouteCubes;
-use am_judged_lists::{Cube, impossible_cubes};
+use am_first_sets::{PossibleSets, RouteCubes};
 use am_labels::Space;
-use am_search::Verdict;
 use am_universe::Choice;
-use am_universe::limits::MAX_LABELS;
 use std::alloc::{AllocError, Global};
 
-/// A space and some configurations, with the cubes of the impossible lists, and those of the routes
-/// of each configuration.
+/// The choices of a space, and some configurations with the cubes of their routes.
 #[derive(Drop)]
 pub(crate) struct Judged<'a> {
-    pub(crate) space: &'a Space,
+    pub(crate) possible: PossibleSets<'a>,
     pub(crate) configs: &'a [&'a Config],
-    impossible: Vec<Cube>,
-    routes: Vec<RouteCubes>,
-    // Whether there are two configurations that are known to have the same state at each prefix, so
-    // that it is enough to look at one.
-    alike: bool,
-    ghost is_universe: { IsUniverse space.now.labels } by { Prim.hlevel props },
-    ghost knows_lists: { KnowsLists space.now impossible.items } by { Prim.hlevel props },
-    ghost knows_configs: { KnowsConfigs space.now.labels
-        (configs_view configs.now) routes.items } by { Prim.hlevel (props, KnowsConfigs-prop) },
-    ghost knows_alike: { IsTrue alike → AreTwoAlike space.now.labels
-        (configs_view configs.now) } by { Prim.hlevel props },
+    pub(crate) routes: Vec<RouteCubes>,
+    ghost knows_configs: { KnowsConfigs (possible_space possible).labels
+        (configs_view configs.now) routes.items } by { KnowsConfigs-prop _ _ _ },
 }
 
 impl<'a> Judged<'a> {
@@ -54,53 +39,13 @@ impl<'a> Judged<'a> {
         ensures configs { IfOk result (λ judged. judged_configs judged
             ≡ configs_view configs.now) }
     {
-        // The contract of `len` tells the proof that the labels are those of a universe.
-        prove!(space.universe().len() <= MAX_LABELS);
-        let impossible = impossible_cubes(alloc, space)?;
+        let possible = PossibleSets::of(alloc, space)?;
         let routes = cubes_of_configs(alloc, space, configs)?;
-        let alike = are_two_alike(routes.as_slice());
         Ok(Judged {
-            space,
+            possible,
             configs,
-            impossible,
             routes,
-            alike,
         })
-    }
-
-    /// Returns the state at a prefix: the verdict of each impossible list, and that of each route
-    /// that matters. Returns `None` if each completion matches the same impossible list. Fails only
-    /// if memory runs out.
-    pub(crate) fn state(
-        &self,
-        alloc: Global,
-        prefix: &Choice,
-    ) -> Result<Option<Vec<Verdict>>, AllocError>
-        requires { IsTrue (admits (sizes (judged_space self.now).labels) prefix.now) }
-        ensures { IfOk result (λ state. option_map (λ verdicts. verdicts.items) state
-            ≡ state_of (judged_space self.now) (judged_configs self.now) prefix.now) }
-    {
-        let mut state = Vec::new(alloc);
-        for cube in &self.impossible {
-            let verdict = cube.judge(prefix);
-            if verdict == Verdict::Yes {
-                return Ok(None);
-            }
-            state.push(verdict)?;
-        }
-        if self.alike {
-            let start = state.len();
-            push_state(&self.routes[0], prefix, &mut state)?;
-            let end = state.len();
-            state.extend_from_within(start..end)?;
-        } else {
-            for routes in &self.routes {
-                push_state(routes, prefix, &mut state)?;
-            }
-        }
-        // Many states are kept, so each takes no more memory than it needs.
-        state.shrink_to_fit();
-        Ok(Some(state))
     }
 
     /// Returns the receivers of a whole choice under each configuration. Fails only if memory runs
@@ -134,13 +79,4 @@ fn cubes_of_configs(
         cubes.push(RouteCubes::of(alloc, space.universe(), config.root())?)?;
     }
     Ok(cubes)
-}
-
-/// Whether these are the routes of two configurations, and are known to have the same state at
-/// every prefix.
-fn are_two_alike(routes: &[RouteCubes]) -> bool
-    ensures { (u : List Label) (cs : List Configuration) → KnowsConfigs u cs routes.now
-        → IsTrue result → AreTwoAlike u cs }
-{
-    routes.len() == 2 && are_alike(&routes[0], &routes[1])
 }

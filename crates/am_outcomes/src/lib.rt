@@ -2,10 +2,11 @@
 //! that are compared.
 //!
 //! [`find_outcomes`] lists each outcome that some choice has, with the first choice that has it. It
-//! does not go through the choices one by one. It goes from label to label, and of all prefixes
-//! with one state it keeps only the first. A state is what is known at a prefix of the impossible
-//! lists and of the routes that still matter. [`outcomes_text`] and [`changes_text`] write a line
-//! for each outcome, or for each one that differs between two configurations.
+//! does not go through the choices one by one. It goes through the routes, of one configuration
+//! after the other, and where an alert may match a route or not it goes on with both. What is at
+//! the end of such a walk is one *way* through the routes. All alerts that go it have the same
+//! receivers. [`outcomes_text`] and [`changes_text`] write a line for each outcome, or for each one
+//! that differs between two configurations.
 #![tactic(auto)]
 
 // The limit of the search.
@@ -14,12 +15,14 @@ pub mod limits;
 // The first choice of each key.
 mod firsts;
 
-// What is known about configurations and impossible lists at a prefix.
+// The cubes of the routes, and the receivers of a choice.
 mod judged;
-mod route_walk;
+mod route_receivers;
 
-// The search from label to label.
-mod layers;
+// The walks through the routes.
+mod route_steps;
+mod walks;
+mod ways;
 
 // The outcomes that are found, and their text.
 mod found;

@@ -23,12 +23,12 @@ use Rattle.am_every_alert.proofs.SpaceAlerts.{space_choice}
 use Rattle.am_every_alert.proofs.SameFate.{front_met, rest_met, same_receivers, same_possible}
 use Rattle.am_lint.specs.Findings.{alphabet_of, Counts}
 use Rattle.am_outcomes.specs.Outcomes.{fate, same_fate, with_fate, outcomes_of}
-use Rattle.am_outcomes.specs.States.{HaveManyStates}
+use Rattle.am_outcomes.specs.Ways.{HaveManyWays}
 use Rattle.am_outcomes.proofs.FirstsLemmas.{Decides, first_is_one, first_of_key, firsts_apart}
 use Rattle.am_reports.specs.Configurations.{Configurations, One, Pair, each_of}
 use Rattle.am_reports.specs.Configurations.{routing_conditions}
 use Rattle.am_reports.specs.Made.{StandsForAll}
-use Rattle.am_reports.specs.LaterStages.{TooManyStatesFor}
+use Rattle.am_reports.specs.LaterStages.{TooManyWaysFor}
 use Rattle.am_reports.specs.AllOutcomes.{AreAllOutcomes, IsOutcome, fates}
 use Rattle.am_reports.proofs.RoutesAsked.{stands_as}
 
@@ -145,16 +145,16 @@ outcomes_over ascii k s t outcomes same stands is =
     (λ (lists : List (List Condition)). outcomes ≡ outcomes_of (beside lists t.labels) (each_of k))
     same is)
 
--- more states have to be told apart than there is room for
+-- there are more ways through the routes than there is room for
 pub too_many : (a : Alphabet) (k : Configurations) (s o t : Space) (u : List Label) (r : Refusal)
     → o.impossible ≡ s.impossible → t.impossible ≡ o.impossible → t.labels ≡ u
-    → StandsForAll a o k u → HaveManyStates t (each_of k) → r ≡ refusal_here kinds.Limit
-    → TooManyStatesFor a s k r
+    → StandsForAll a o k u → HaveManyWays t (each_of k) → r ≡ refusal_here kinds.Limit
+    → TooManyWaysFor a s k r
 too_many a k s o t u r first second labels stands many refusal = record {
   labels = t.labels;
   stands = subst (StandsForAll a s k) (sym labels) (stands_as a k o s u first stands);
   many = subst
-      (λ (lists : List (List Condition)). HaveManyStates (beside lists t.labels) (each_of k))
+      (λ (lists : List (List Condition)). HaveManyWays (beside lists t.labels) (each_of k))
       (second ∙ first) many;
   refusal = refusal;
 }

@@ -12,7 +12,7 @@ use Rattle.am_eval.proofs.FirstFaults.{first_of_more}
 use Rattle.am_classes.specs.declared.alphabet.Alphabet.{Alphabet}
 use Rattle.am_reports.specs.Configurations.{Configurations, labels_of_routes}
 use Rattle.am_reports.specs.LaterStages.{later_stage, at_each, declared_stages, made_stages}
-use Rattle.am_reports.specs.LaterStages.{states_stage, outcome_stages, IsOutcomesRefusal, AcceptsWhole}
+use Rattle.am_reports.specs.LaterStages.{ways_stage, outcome_stages, IsOutcomesRefusal, AcceptsWhole}
 use Rattle.am_reports.specs.Made.{UnprovedFor, UndecidedFor, IsMadeRefusal, IsDeclaredRefusal}
 use Rattle.am_reports.specs.Made.{IncompleteFor, AreDeclaredWhole}
 use Rattle.am_reports.proofs.Origins.{in_files, places_of}
@@ -130,15 +130,15 @@ module _ (Accepts : Space → Configurations → Type 0) (a : Alphabet) where
       → IsFirstFaultOfCall (outcome_stages Accepts (places_of k) a) place r
   outcomes_first s k place r accepts (inl declared) =
       first_of_more (declared_stages Accepts (places_of k) a)
-      (made_stages Whole (places_of k) a ++ states_stage Whole a ∷ []) place r
+      (made_stages Whole (places_of k) a ++ ways_stage Whole a ∷ []) place r
       (declared_first Accepts a s k place r accepts declared)
   outcomes_first s k place r accepts (inr (whole, inl made)) =
       first_behind_declared Accepts (places_of k) a
-      (made_stages Whole (places_of k) a ++ states_stage Whole a ∷ []) place r
-      (first_of_more (made_stages Whole (places_of k) a) (states_stage Whole a ∷ []) place r
+      (made_stages Whole (places_of k) a ++ ways_stage Whole a ∷ []) place r
+      (first_of_more (made_stages Whole (places_of k) a) (ways_stage Whole a ∷ []) place r
       (made_first Whole a s k place r (accepts, whole) made))
   outcomes_first s k place r accepts (inr (whole, inr many)) =
       first_behind_declared Accepts (places_of k) a
-      (made_stages Whole (places_of k) a ++ states_stage Whole a ∷ []) place r
-      (first_behind_made Whole (places_of k) a (states_stage Whole a ∷ []) place r
+      (made_stages Whole (places_of k) a ++ ways_stage Whole a ∷ []) place r
+      (first_behind_made Whole (places_of k) a (ways_stage Whole a ∷ []) place r
       (inl (many.0, (s, k, (accepts, whole), many.1))))

@@ -8,34 +8,35 @@ use Rattle.am_labels.specs.Space.{Space}
 use Rattle.am_json.specs.Pointer.{Refusal, refusal_here}
 use Rattle.am_eval.specs.Faults.{Stage}
 use Rattle.am_classes.specs.declared.alphabet.Alphabet.{Alphabet}
-use Rattle.am_outcomes.specs.States.{HaveManyStates}
+use Rattle.am_outcomes.specs.Ways.{HaveManyWays}
 use Rattle.am_reports.specs.Configurations.{Configurations, each_of}
 use Rattle.am_reports.specs.Made.{StandsForAll, NoRoomFor, UnprovedFor, IncompleteFor}
 use Rattle.am_reports.specs.Made.{UndecidedFor, IsDeclaredRefusal, IsMadeRefusal, AreDeclaredWhole}
 
--- A universe can be made, but with it more states have to be told apart than there is room for.
+-- A universe can be made, but with it there are more ways through the routes than there is room
+-- for.
 -- Source: own choice.
 -- Example: there are too many if 21 children of the top-level route have `continue` and ask about
 -- 21 labels, each with one matcher `=`, since each of the 21 matchers may hold or not. With 20 of
 -- them there are not.
-pub record TooManyStatesFor (a : Alphabet) (s : Space) (k : Configurations) (r : Refusal)
+pub record TooManyWaysFor (a : Alphabet) (s : Space) (k : Configurations) (r : Refusal)
     : Type 0 where
   pub labels : List Label
   pub stands : StandsForAll a s k labels
   pub many :
-      HaveManyStates (record { labels = labels; impossible = s.impossible }) (each_of k)
+      HaveManyWays (record { labels = labels; impossible = s.impossible }) (each_of k)
   pub refusal : r ≡ refusal_here kinds.Limit
 
 -- The call is refused at this place, since no universe can be made or since there are too many
--- states.
+-- ways.
 abbrev pub IsRefusalBehind : Alphabet → Space → Configurations → Place → Refusal → Type 0
 IsRefusalBehind a s k place r =
     IsMadeRefusal a s k place r
-    ⊎ ((place ≡ places.Universe) × TooManyStatesFor a s k r)
+    ⊎ ((place ≡ places.Universe) × TooManyWaysFor a s k r)
 
 -- The call is refused at this place for a label that the universe file declares; or no such label
 -- lacks a value, and the call is refused since no universe can be made or since there are too many
--- states.
+-- ways.
 abbrev pub IsOutcomesRefusal : Alphabet → Space → Configurations → Place → Refusal → Type 0
 IsOutcomesRefusal a s k place r =
     IsDeclaredRefusal a s k place r
@@ -70,8 +71,8 @@ at_each stage [] = []
 at_each stage (place ∷ later) = stage place ∷ at_each stage later
 
 -- The stages that check the labels that the universe file declares; those that make a universe over
--- an alphabet; and the one that tells states apart. `at_places` are the files in which a matcher
--- may stand.
+-- an alphabet; and the one that finds ways. `at_places` are the files in which a matcher may
+-- stand.
 abbrev pub declared_stages :
     (Space → Configurations → Type 0) → List Place → Alphabet → List Stage
 declared_stages Accepts at_places a =
@@ -85,8 +86,8 @@ made_stages Accepts at_places a =
     later_stage Accepts (NoRoomFor a) places.Universe
     ∷ at_each (λ place. later_stage Accepts (λ s k. UnprovedFor a s k place) place) at_places
 
-abbrev pub states_stage : (Space → Configurations → Type 0) → Alphabet → Stage
-states_stage Accepts a = later_stage Accepts (TooManyStatesFor a) places.Universe
+abbrev pub ways_stage : (Space → Configurations → Type 0) → Alphabet → Stage
+ways_stage Accepts a = later_stage Accepts (TooManyWaysFor a) places.Universe
 
 -- All of these stages in order, for a call that finds outcomes.
 -- Source: own choice.
@@ -97,4 +98,4 @@ abbrev pub outcome_stages :
 outcome_stages Accepts at_places a =
     declared_stages Accepts at_places a
     ++ (made_stages (AcceptsWhole a Accepts) at_places a
-    ++ states_stage (AcceptsWhole a Accepts) a ∷ [])
+    ++ ways_stage (AcceptsWhole a Accepts) a ∷ [])

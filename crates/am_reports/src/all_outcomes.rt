@@ -14,7 +14,7 @@ ghost use Rattle.am_json.specs.Reading.{refusal_of};
 ghost use Rattle.am_universe_command.specs.UniverseInputs.{SaysUniverseIfAny};
 ghost use Rattle.am_lint.specs.Findings.{alphabet_of};
 ghost use Rattle.am_outcomes.specs.Outcomes.{outcomes_of};
-ghost use Rattle.am_outcomes.specs.States.{HaveManyStates};
+ghost use Rattle.am_outcomes.specs.Ways.{HaveManyWays};
 ghost use Rattle.am_reports.specs.Configurations.{each_of};
 ghost use Rattle.am_reports.specs.ConfigsView.{configurations_of};
 ghost use Rattle.am_reports.specs.Made.{StandsForAll, AreDeclaredWhole};
@@ -32,7 +32,7 @@ use std::alloc::Global;
 /// have the outcomes.
 ///
 /// Fails as [`check_declared`] and [`universe_for_routes`] do; then with `Limit`, at `Universe`, if
-/// more states have to be told apart than there is room for; and with `Memory`.
+/// there are more ways through the routes than there is room for; and with `Memory`.
 pub(crate) fn all_outcomes(
     alloc: Global,
     ascii: bool,
@@ -60,14 +60,14 @@ pub(crate) fn all_outcomes(
     space.declare(Universe::empty(alloc));
     let universe = universe_for_routes(alloc, alphabet, space, configs)?;
     space.declare(universe);
-    outcomes_told_apart(alloc, space, configs)
+    outcomes_of_choices(alloc, space, configs)
 }
 
 /// Finds the outcomes of the choices of a space.
 ///
-/// Fails with `Limit`, at `Universe`, if more states have to be told apart than there is room for,
-/// and with `Memory`.
-fn outcomes_told_apart(
+/// Fails with `Limit`, at `Universe`, if there are more ways through the routes than there is room
+/// for, and with `Memory`.
+fn outcomes_of_choices(
     alloc: Global,
     space: &Space,
     configs: Configs<'_>,
@@ -76,7 +76,7 @@ fn outcomes_told_apart(
         outcomes ≡ outcomes_of space.now (each_of (configurations_of configs.entry))) }
     ensures refused { IfErr result (λ fault. fault.kind ≢ kinds.Memory
         → (fault.place ≡ places.Universe)
-        × HaveManyStates space.now (each_of (configurations_of configs.entry))
+        × HaveManyWays space.now (each_of (configurations_of configs.entry))
         × (refusal_of fault ≡ refusal_here kinds.Limit)) }
 {
     let found = match configs {

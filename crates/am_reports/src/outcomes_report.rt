@@ -41,8 +41,8 @@ use std::alloc::Global;
 /// - `Unproved`, at the file and with the pointer of the route or impossible list that first asks
 ///   about a label, if the classes of the label could not be computed, or if it needs a value and
 ///   its name is no label name;
-/// - `Limit`, at `Universe` and with no pointer, if more states have to be told apart than there is
-///   room for;
+/// - `Limit`, at `Universe` and with no pointer, if there are more ways through the routes than
+///   there is room for;
 /// - `Write`.
 ///
 /// `Memory` may come at any point. After any fault but `Write` the sink is unchanged; after `Write`

@@ -66,7 +66,7 @@ returns-in_err-universe-clause-refused c =
 
 pub returns-clause-refused : goal.returns-clause-refused
 returns-clause-refused c =
-    if_err_more c.outcomes_told_apart.result _ _
+    if_err_more c.outcomes_of_choices.result _ _
     (λ fault told remembered says.
     let refused = told remembered in
     inr (
@@ -80,18 +80,18 @@ returns-clause-refused c =
             (rw c.alphabet_of-alphabet.ensures at c.in_ok-universe.ensures.stands) refused.1
             refused.2,
       ),
-    )) c.outcomes_told_apart.ensures.refused
+    )) c.outcomes_of_choices.ensures.refused
 
 pub returns-clause-whole : goal.returns-clause-whole
 returns-clause-whole c =
-    on_ok c.outcomes_told_apart.result (λ says. whole (goal.at.returns-clause-whole c).After-declare says)
+    on_ok c.outcomes_of_choices.result (λ says. whole (goal.at.returns-clause-whole c).After-declare says)
 
 pub returns-clause-stands : goal.returns-clause-stands
 returns-clause-stands c =
     let a = alphabet_of c.args.ascii in
     let s = c.args.space.now in
     let k = configurations_of c.args.configs in
-    on_ok c.outcomes_told_apart.result
+    on_ok c.outcomes_of_choices.result
     (subst (StandsForAll a s k) (sym c.declare-2.ensures.labels)
     (stands_as a k c.declare.new.self s c.in_ok-universe.universe c.declare.ensures.impossible
     (rw c.alphabet_of-alphabet.ensures at c.in_ok-universe.ensures.stands)))

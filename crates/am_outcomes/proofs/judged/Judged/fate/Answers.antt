@@ -17,7 +17,7 @@ loop-routes-preserved c =
     c.loop-routes-test.true c.routes-item.is l.invariant c.in_ok-push.ensures.items
     (λ config knows.
     (c.in_ok-push_receivers.ensures s.labels config.root
-    (knows c.args.choice.now c.requires.0) c.requires).1
+    (knows c.args.choice.now c.requires) c.requires).1
     ∙ ap (λ xs. xs ++ receivers_at set config.root) c.new-receivers.ensures.items)
 
 pub returns : goal.returns

@@ -1,0 +1,57 @@
+-- The way of an alert through the routes: which of those that are tried it matches.
+use Rattle.std.specs.Prelude.{◌≢◌, ◌<◌, ℕ, List, [], ◌∷◌, ◌++◌, length, Bool, not, ◌&&◌, ⊤}
+use Rattle.std.specs.Prelude.{if◌then◌else◌}
+use Rattle.std.specs.List.{flat_map, AllByRecursion}
+use Rattle.am_universe.specs.LabelSet.{LabelMap, label_set_of}
+use Rattle.am_labels.specs.Matcher.{all_hold}
+use Rattle.am_labels.specs.Space.{Space, IsChoiceOf}
+use Rattle.am_config.specs.ConfigFile.{Configuration, RouteTree, Routes, route, no_routes}
+use Rattle.am_config.specs.ConfigFile.{next_route, matchers_of, continues_of}
+use Rattle.am_outcomes.specs.declared.limits.TheConstants.{MAX_WAYS}
+
+-- The way of an alert through some configurations, one after the other: for each route that is
+-- tried, in preorder, whether the alert matches it. The children of a route are tried if the alert
+-- matches the route, up to and including the first child that matches it and lacks `continue`.
+-- Source: Alertmanager configuration reference 0.25, "<route>": which routes are tried.
+-- Example: let `/0` have `team="db"` and a child `/0/0` with `severity="critical"`, let `/1` have
+-- `team="web"`, and let no route have `continue`. For a critical alert of the team `db` the way is
+-- true, true and true, for `/`, `/0` and `/0/0`. For an alert of the team `web` it is true, false
+-- and true, for `/`, `/0` and `/1`.
+abbrev pub is_last_tried : LabelMap → RouteTree → Bool
+is_last_tried s t = all_hold s (matchers_of t) && not (continues_of t)
+
+abbrev mutual
+  pub way_at : LabelMap → RouteTree → List Bool
+  way_at s (route settings children) =
+      let matched = all_hold s settings.matchers in
+      matched ∷ (if matched then child_way s children else [])
+
+  -- the way through children, in order
+  pub child_way : LabelMap → Routes → List Bool
+  child_way s no_routes = []
+  child_way s (next_route t ts) =
+      way_at s t ++ (if is_last_tried s t then [] else child_way s ts)
+
+abbrev pub way : LabelMap → List Configuration → List Bool
+way s cs = flat_map (λ c. way_at s c.root) cs
+
+abbrev pub way_of : Space → List Configuration → List ℕ → List Bool
+way_of s cs choice = way (label_set_of s.labels choice) cs
+
+-- Choices have distinct ways if no two of them have the same way. There are many ways if more than
+-- `MAX_WAYS` choices of a space have distinct ways.
+-- Source: own choice.
+-- Example: let the children of the top-level route have `continue`, and let each of them ask with
+-- `=` about a label of its own, which may have that value or be absent. With 21 of them there are
+-- many ways: the choices have 2,097,152. With 20 there are not.
+abbrev pub HaveDistinctWays : Space → List Configuration → List (List ℕ) → Type 0
+HaveDistinctWays s cs [] = ⊤
+HaveDistinctWays s cs (choice ∷ others) =
+    AllByRecursion (λ other. way_of s cs choice ≢ way_of s cs other) others
+    × HaveDistinctWays s cs others
+
+pub record HaveManyWays (s : Space) (cs : List Configuration) : Type 0 where
+  pub choices : List (List ℕ)
+  pub each : AllByRecursion (IsChoiceOf s) choices
+  pub apart : HaveDistinctWays s cs choices
+  pub many : MAX_WAYS < length choices
