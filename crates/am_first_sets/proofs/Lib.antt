@@ -2,6 +2,7 @@ pub mod CubeTruth
 pub mod FirstPossible
 pub mod CubeEnds
 pub mod FirstLemmas
+pub mod BudgetLemmas
 pub mod SolverLemmas
 pub mod MeetingLemmas
 pub mod LiteralLemmas

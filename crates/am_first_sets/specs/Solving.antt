@@ -8,6 +8,9 @@ use Rattle.am_first_sets.specs.declared.solver.Step.{Step}
 use Rattle.am_first_sets.specs.declared.solver.Step.TheVariants.{Done, Refuted, Narrow, Split}
 use Rattle.am_judged_lists.specs.Cube.{MaskedLabels, matches, permits_position}
 use Rattle.am_judged_lists.specs.Boxes.{IsInBox, HasChoice, IsOpen}
+use Rattle.am_first_sets.specs.Budget.{NodesLeft}
+use Rattle.am_first_sets.specs.declared.solver.Solved.{Solved}
+use Rattle.am_first_sets.specs.declared.solver.Solved.TheVariants.{Found, NoAnswer, UsedUp}
 
 -- No cube of some matches a choice.
 abbrev pub avoids : List (Bor MaskedLabels) → List ℕ → Bool
@@ -24,6 +27,12 @@ pub record IsAnswer (start : List (List Bool)) (cubes : List (Bor MaskedLabels))
 -- There is no answer: each choice of a box is matched by one of the cubes.
 abbrev pub NoneAvoids : List (List Bool) → List (Bor MaskedLabels) → Type 0
 NoneAvoids start cubes = (c : List ℕ) → IsInBox start c → avoids cubes c ≡ false
+
+-- What a search found, and that it stops without an answer only if nothing is left of its budget.
+abbrev pub IsSolved : List (List Bool) → List (Bor MaskedLabels) → NodesLeft → Solved → Type 0
+IsSolved start cubes budget (Found b) = IsAnswer start cubes b
+IsSolved start cubes budget NoAnswer = NoneAvoids start cubes
+IsSolved start cubes budget UsedUp = budget.left ≡ Some 0
 
 -- The next step for a box. `Done`: all its choices avoid the cubes. `Refuted`: none does. `Split`:
 -- the label is open for the cube at an index. `Narrow`: it is, and the cube matches exactly the

@@ -10,10 +10,12 @@
 //! choices is one choice over twice as many labels.
 #![tactic(auto)]
 
-// The search for a choice that no cube of some matches.
+// The search for a choice that no cube of some matches, and how much it may look at.
+mod budget;
 mod solver;
 
-pub use solver::{first_avoiding, solve};
+pub use budget::Budget;
+pub use solver::{Solved, first_avoiding, solve, solve_within};
 
 // The choices among which a search looks, and those of a space.
 mod possible_choices;

@@ -7,14 +7,16 @@
 //! Loveland, 1962: unit propagation and splitting.)
 
 ghost use Rattle.std.specs.Prelude.{◌≡◌, ℕ, ◌<◌, List, length, slice_index, Bool, IfOk, IfSome};
-ghost use Rattle.std.specs.Prelude.{◌↔◌, IfNone, OnOk, IsTrue};
+ghost use Rattle.std.specs.Prelude.{◌↔◌, IfNone, OnOk, IsTrue, Some};
 ghost use Rattle.std.specs.List.{find};
 ghost use Rattle.am_universe.specs.Universe.{sizes};
 ghost use Rattle.am_universe.specs.Choice.{IsWhole, choices};
 ghost use Rattle.am_judged_lists.specs.Boxes.{IsInBox};
+ghost use Rattle.am_first_sets.specs.Budget.{IsSpent};
 ghost use Rattle.am_first_sets.specs.Solving.{IsAnswer, NoneAvoids, IsStep, IsTestOf, IsLeast};
-ghost use Rattle.am_first_sets.specs.Solving.{avoids};
+ghost use Rattle.am_first_sets.specs.Solving.{avoids, IsSolved};
 
+use crate::budget::Budget;
 use am_judged_lists::{Cube, Matching, Part, PositionBox};
 use am_universe::{Choice, Position, Universe};
 use std::alloc::{AllocError, Global};
@@ -40,6 +42,17 @@ struct Open {
     labels: usize,
 }
 
+/// What a search with a budget found.
+#[derive(Drop)]
+pub enum Solved {
+    /// A box with some choice, all of whose choices are answers.
+    Found(PositionBox),
+    /// There is no answer.
+    NoAnswer,
+    /// The budget was used up.
+    UsedUp,
+}
+
 /// Finds choices of a box that none of some cubes matches.
 ///
 /// Returns a box with some choice, all of whose choices are in the given box and matched by no
@@ -52,13 +65,35 @@ pub fn solve(
     ensures found { IfOk result (λ found. IfSome found (IsAnswer start unwanted.now)) }
     ensures none { IfOk result (λ found. IfNone found (NoneAvoids start unwanted.now)) }
 {
+    match solve_within(alloc, start, unwanted, &mut Budget::unlimited())? {
+        Solved::Found(positions) => Ok(Some(positions)),
+        Solved::NoAnswer => Ok(None),
+        Solved::UsedUp => unreachable!(),
+    }
+}
+
+/// The same with a budget: each box that is looked at is taken from it.
+///
+/// The answer is `UsedUp` only if nothing is left of the budget. Fails only if memory runs out.
+pub fn solve_within(
+    alloc: Global,
+    start: PositionBox,
+    unwanted: &[&Cube],
+    budget: &mut Budget,
+) -> Result<Solved, AllocError>
+    ensures solved { IfOk result (IsSolved start unwanted.now budget.new) }
+    ensures spent { IsSpent budget.old budget.new }
+{
     let mut stack = Vec::new(alloc);
     if start.has_choice() {
         stack.push(start)?;
     }
     while let Some(mut positions) = stack.pop() {
+        if !budget.take() {
+            return Ok(Solved::UsedUp);
+        }
         match next_step(&positions, unwanted) {
-            Step::Done => return Ok(Some(positions)),
+            Step::Done => return Ok(Solved::Found(positions)),
             Step::Refuted => {}
             Step::Narrow(index, label) => {
                 positions.keep(unwanted[index], label, Part::Outside);
@@ -73,7 +108,7 @@ pub fn solve(
             }
         }
     }
-    Ok(None)
+    Ok(Solved::NoAnswer)
 }
 
 /// Returns the next step for a box. Takes no memory.

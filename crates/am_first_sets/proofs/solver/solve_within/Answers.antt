@@ -4,26 +4,33 @@ use Rattle.std.proofs.lemmas.Option.{slice_get_read, same_Some}
 use Rattle.am_judged_lists.specs.declared.mask.Part.TheVariants.{Within, Outside}
 use Rattle.am_judged_lists.specs.Cube.{MaskedLabels}
 use Rattle.am_judged_lists.specs.Boxes.{IsOpen, HasChoice, count_positions}
+use Rattle.am_first_sets.proofs.BudgetLemmas.{spent_itself, spent_more}
 use Rattle.am_first_sets.proofs.SolverLemmas.{AreLeft, IsKept, left_start, left_nothing, left_done, left_narrowed, left_split, weight, lighter_none, lighter_one, lighter_two}
-use Rattle.am_first_sets.proofs.solver.solve.Goals.{then-has_choice+in_ok-push, else-has_choice}
-use Rattle.am_first_sets.proofs.solver.solve.Goals as goal
+use Rattle.am_first_sets.proofs.solver.solve_within.Goals.{then-has_choice+in_ok-push, else-has_choice}
+use Rattle.am_first_sets.proofs.solver.solve_within.Goals as goal
 
 pub loop-positions-init : goal.loop-positions-init
 loop-positions-init c = elim c.if-has_choice.branch [
   | then-has_choice+in_ok-push w ↦
-      rw (w.stack-is, w.in_ok-push.ensures.items, c.new-stack.ensures.items)
-      (left_start c.args.start c.args.unwanted.now (c.has_choice.ensures.0 w.if-has_choice.true))
+      rw (w.stack-is, w.in_ok-push.ensures.items, c.new-stack.ensures.items) (record {
+        left = left_start c.args.start c.args.unwanted.now
+            (c.has_choice.ensures.0 w.if-has_choice.true);
+        spent = spent_itself c.args.budget.now;
+      })
   | else-has_choice w ↦
-      rw (w.stack-is, c.new-stack.ensures.items)
-      (left_nothing c.args.start c.args.unwanted.now (λ some.
-      let apart : true ≡ false = sym (c.has_choice.ensures.1 some) ∙ w.if-has_choice.false in cc))
+      rw (w.stack-is, c.new-stack.ensures.items) (record {
+        left = left_nothing c.args.start c.args.unwanted.now (λ some.
+            let apart : true ≡ false = sym (c.has_choice.ensures.1 some) ∙ w.if-has_choice.false in
+            cc);
+        spent = spent_itself c.args.budget.now;
+      })
 ]
 
-pub returns-in-Done-clause-found : goal.returns-in-Done-clause-found
-returns-in-Done-clause-found c =
+pub returns-in-Done-clause-solved : goal.returns-in-Done-clause-solved
+returns-in-Done-clause-solved c =
     left_done c.args.start c.args.unwanted.now c.pop.new.self.items c.in-Some.positions
     (subst (AreLeft c.args.start c.args.unwanted.now) c.in-Some.ensures.items
-    c.loop-positions.invariant)
+    c.loop-positions.invariant.left)
     c.in-Done.ensures
 
 pub loop-positions-smaller-in-Refuted-1 : goal.loop-positions-smaller-in-Refuted-1
@@ -51,11 +58,15 @@ loop-positions-preserved-in-Continue-branch-2 c =
     let at : slice_get cubes c.in-Narrow.index ≡ Some cube =
     slice_get_read cubes (length cubes) c.in-Narrow.index cube refl c.in-Narrow.ensures.0
     c.index-unwanted-index.is in
-    subst (AreLeft c.args.start cubes) (sym c.in_ok-push-in-Narrow.ensures.items)
-    (left_narrowed c.args.start cubes c.pop.new.self.items c.in-Some.positions c.keep.new.self
-    c.in-Narrow.index c.in-Narrow.label cube
-    (subst (AreLeft c.args.start cubes) c.in-Some.ensures.items c.loop-positions.invariant)
-    at c.keep.ensures.some c.keep.ensures.choices (c.in-Narrow.ensures.1 cube at).1)
+    record {
+      left = subst (AreLeft c.args.start cubes) (sym c.in_ok-push-in-Narrow.ensures.items)
+          (left_narrowed c.args.start cubes c.pop.new.self.items c.in-Some.positions c.keep.new.self
+          c.in-Narrow.index c.in-Narrow.label cube
+          (subst (AreLeft c.args.start cubes) c.in-Some.ensures.items c.loop-positions.invariant.left)
+          at c.keep.ensures.some c.keep.ensures.choices (c.in-Narrow.ensures.1 cube at).1);
+      spent = spent_more c.args.budget.now c.loop-positions.budget c.take.new.self
+          c.loop-positions.invariant.spent c.take.ensures.spent;
+    }
 
 pub keep-requires-in-Split : goal.keep-requires-in-Split
 keep-requires-in-Split c =
@@ -103,15 +114,19 @@ loop-positions-preserved c =
     let same : again ≡ first = same_Some again first (sym too ∙ at) in
     let w = c.keep-in-Split.new.self in
     let o = c.keep-in-Split-2.new.self in
-    subst (AreLeft c.args.start cubes)
-    (sym (c.in_ok-push-in-Split-2.ensures.items
-    ∙ ap (λ xs. xs ++ o ∷ []) c.in_ok-push-in-Split.ensures.items))
-    (left_split c.args.start cubes c.pop.new.self.items b w o label first.now
-    (subst (AreLeft c.args.start cubes) c.in-Some.ensures.items c.loop-positions.invariant)
-    (subst (λ (x : List (List Bool)). HasChoice x → HasChoice w)
-    c.in_ok-within-in-Split.ensures.same c.keep-in-Split.ensures.some)
-    (subst (λ (x : List (List Bool)). IsKept x w first.now label Within)
-    c.in_ok-within-in-Split.ensures.same c.keep-in-Split.ensures.choices)
-    c.keep-in-Split-2.ensures.some
-    (subst (λ (x : Bor MaskedLabels). IsKept b o x.now label Outside) same
-    c.keep-in-Split-2.ensures.choices))
+    record {
+      left = subst (AreLeft c.args.start cubes)
+          (sym (c.in_ok-push-in-Split-2.ensures.items
+          ∙ ap (λ xs. xs ++ o ∷ []) c.in_ok-push-in-Split.ensures.items))
+          (left_split c.args.start cubes c.pop.new.self.items b w o label first.now
+          (subst (AreLeft c.args.start cubes) c.in-Some.ensures.items c.loop-positions.invariant.left)
+          (subst (λ (x : List (List Bool)). HasChoice x → HasChoice w)
+          c.in_ok-within-in-Split.ensures.same c.keep-in-Split.ensures.some)
+          (subst (λ (x : List (List Bool)). IsKept x w first.now label Within)
+          c.in_ok-within-in-Split.ensures.same c.keep-in-Split.ensures.choices)
+          c.keep-in-Split-2.ensures.some
+          (subst (λ (x : Bor MaskedLabels). IsKept b o x.now label Outside) same
+          c.keep-in-Split-2.ensures.choices));
+      spent = spent_more c.args.budget.now c.loop-positions.budget c.take.new.self
+          c.loop-positions.invariant.spent c.take.ensures.spent;
+    }

@@ -1,0 +1,14 @@
+use Rattle.am_first_sets.specs.Budget.{IsSpent}
+use Rattle.am_first_sets.proofs.SolverLemmas.{AreLeft, weight}
+use Rattle.am_first_sets.proofs.solver.solve_within.Given as goal
+
+-- what the boxes on the stack leave to look at, and what was looked at so far
+abbrev pub invariant-loop-positions : goal.invariant-loop-positions
+invariant-loop-positions l = record {
+  left : AreLeft l.fn.start l.unwanted l.stack.items;
+  spent : IsSpent l.fn.budget l.budget;
+}
+
+-- a box is replaced by others with fewer positions
+abbrev pub decreases-loop-positions : goal.decreases-loop-positions
+decreases-loop-positions l = weight l.stack.items
