@@ -1,4 +1,4 @@
-ghost use Rattle.std.specs.Prelude.{◌≡◌, true, ℕ, List, IsTrue};
+ghost use Rattle.std.specs.Prelude.{◌≡◌, ℕ, List, None, IsTrue};
 ghost use Rattle.am_judged_lists.specs.Boxes.{IsInBox};
 ghost use Rattle.am_first_sets.specs.Literals.{holds_at};
 
@@ -27,6 +27,21 @@ impl<'a> Candidate<'a> {
             Matching::Misses => !self.wanted,
             Matching::Covers => self.wanted,
             Matching::Opens(..) => false,
+        }
+    }
+
+    /// How many labels the literal asks about.
+    pub(crate) fn labels(&self) -> usize {
+        self.cube.mask_count()
+    }
+
+    /// Whether the literal asks about this number of labels. `None` stands for any number.
+    pub(crate) fn asks_about(&self, labels: Option<usize>) -> bool
+        ensures { labels ≡ None → IsTrue result }
+    {
+        match labels {
+            Some(labels) => self.labels() == labels,
+            None => true,
         }
     }
 }

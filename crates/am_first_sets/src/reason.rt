@@ -4,7 +4,7 @@
 //! that are named, and not with the number of all.
 
 ghost use Rattle.std.specs.Prelude.{◌≡◌, ◌⊎◌, ◌<◌, ℕ, List, true, false, length, slice_get, Some};
-ghost use Rattle.std.specs.Prelude.{IfSome, IfNone, OnOk, IsTrue};
+ghost use Rattle.std.specs.Prelude.{IfSome, IfNone, None, OnOk, IsTrue};
 ghost use Rattle.am_judged_lists.specs.Boxes.{IsInBox};
 ghost use Rattle.am_first_sets.specs.declared.candidate.Candidate.{Candidate};
 ghost use Rattle.am_first_sets.specs.Literals.{hold_all, meets, IsMet, IsUnmet, IsAnyMet};
@@ -26,8 +26,9 @@ use std::alloc::{AllocError, Global};
 /// literals may be named.
 ///
 /// The search begins with the first `fixed` alone. It looks for a box of choices that meet what is
-/// named, and then names the first other literal that not all of these meet, as far as its cube
-/// shows. Once there is no such box, it leaves out what is not needed, one literal after the other.
+/// named, and then names another literal that not all of these meet, as far as its cube shows: the
+/// first of those that ask about the fewest labels, because such a reason is easier to read. Once
+/// there is no such box, it leaves out what is not needed, one literal after the other.
 pub fn find_reason(
     alloc: Global,
     possible: &PossibleChoices,
@@ -68,7 +69,10 @@ fn name_enough(
 {
     while let Some(found) = some_meeting(alloc, possible, candidates)? {
         match first_unsettled(candidates, &found) {
-            Some(i) => set_named(candidates, i, true),
+            Some(first) => {
+                let i = fewest_unsettled(candidates, &found, first);
+                set_named(candidates, i, true);
+            }
             // No possible choice meets all literals.
             None => unreachable!(),
         }
@@ -94,7 +98,31 @@ fn first_unsettled(candidates: &[Candidate<'_>], found: &PositionBox) -> Option<
     None
 }
 
-/// Takes the names off literals that are not needed, from a position on, one after the other.
+/// Returns the position of such a literal, from that of the first on, that asks about the fewest
+/// labels.
+fn fewest_unsettled(candidates: &[Candidate<'_>], found: &PositionBox, first: usize) -> usize
+    requires within { first < length candidates.now }
+    requires unnamed { (k : Candidate) → slice_get candidates.now first ≡ Some k
+        → k.named ≡ false }
+    ensures within { result < length candidates.now }
+    ensures unnamed { (k : Candidate) → slice_get candidates.now result ≡ Some k
+        → k.named ≡ false }
+{
+    let mut fewest = first;
+    for i in first..candidates.len() {
+        let candidate = &candidates[i];
+        if !candidate.named
+            && !candidate.is_settled(found)
+            && candidate.labels() < candidates[fewest].labels()
+        {
+            fewest = i;
+        }
+    }
+    fewest
+}
+
+/// Takes the names off literals that are not needed, from a position on, one after the other. Those
+/// that ask about few labels come last, so these rather stay.
 ///
 /// There must be no possible choice that meets the named literals, and those before the position
 /// must be named. Without any one of those that are left named behind it, some possible choice
@@ -111,29 +139,70 @@ pub fn leave_out(
     ensures same { AreSameLiterals candidates.old candidates.new }
     ensures reason { OnOk result (IsReason (IsPossible possible.now) from candidates.new) }
 {
+    // Literals that ask about the fewest labels need no turn of their own.
+    let (fewest, most) = label_counts(candidates.get(from..).unwrap_or(&[]));
+    for labels in (fewest..most).rev() {
+        leave_out_those(alloc, possible, candidates, from, Some(labels + 1))?;
+    }
+    leave_out_those(alloc, possible, candidates, from, None)
+}
+
+/// The fewest and the most labels that a named literal asks about.
+fn label_counts(candidates: &[Candidate<'_>]) -> (usize, usize) {
+    let (mut fewest, mut most) = (usize::MAX, 0);
+    for candidate in candidates {
+        if candidate.named {
+            fewest = candidate.labels().min(fewest);
+            most = candidate.labels().max(most);
+        }
+    }
+    (fewest, most)
+}
+
+/// The same for the literals that ask about a number of labels, or for all of them.
+fn leave_out_those(
+    alloc: Global,
+    possible: &PossibleChoices,
+    candidates: &mut [Candidate<'_>],
+    from: usize,
+    labels: Option<usize>,
+) -> Result<(), AllocError>
+    requires first { AreNamedBefore from candidates.old }
+    requires enough { IsUnmet (IsPossible possible.now) candidates.old }
+    ensures same { AreSameLiterals candidates.old candidates.new }
+    ensures first { OnOk result (AreNamedBefore from candidates.new) }
+    ensures enough { OnOk result (IsUnmet (IsPossible possible.now) candidates.new) }
+    ensures reason { labels ≡ None
+        → OnOk result (IsReason (IsPossible possible.now) from candidates.new) }
+{
     for i in from..candidates.len() {
-        leave_out_at(alloc, possible, candidates, i)?;
+        leave_out_at(alloc, possible, candidates, i, labels)?;
     }
     Ok(())
 }
 
-/// Takes the name off the literal at a position, if it is not needed. Fails only if memory runs
-/// out.
+/// Takes the name off the literal at a position, if it is not needed, and if it asks about a number
+/// of labels or that may be any. Fails only if memory runs out.
 fn leave_out_at(
     alloc: Global,
     possible: &PossibleChoices,
     candidates: &mut [Candidate<'_>],
     i: usize,
+    labels: Option<usize>,
 ) -> Result<(), AllocError>
     requires there { i < length candidates.old }
     requires enough { IsUnmet (IsPossible possible.now) candidates.old }
     ensures either { (candidates.new ≡ candidates.old)
         ⊎ (candidates.new ≡ without i candidates.old) }
     ensures enough { OnOk result (IsUnmet (IsPossible possible.now) candidates.new) }
-    ensures needed { OnOk result ((k : Candidate) → slice_get candidates.new i ≡ Some k
-        → IsTrue k.named → IsMet (IsPossible possible.now) (without i candidates.new)) }
+    ensures needed { labels ≡ None → OnOk result ((k : Candidate)
+        → slice_get candidates.new i ≡ Some k → IsTrue k.named
+        → IsMet (IsPossible possible.now) (without i candidates.new)) }
 {
     if !candidates[i].named {
+        return Ok(());
+    }
+    if !candidates[i].asks_about(labels) {
         return Ok(());
     }
     set_named(candidates, i, false);

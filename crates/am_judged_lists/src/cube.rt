@@ -199,6 +199,11 @@ impl Cube {
         None
     }
 
+    /// The number of labels that have a mask.
+    pub fn mask_count(&self) -> usize {
+        self.masks.len()
+    }
+
     /// Whether a label has a mask.
     pub(crate) fn has_mask_of(&self, label: usize) -> bool {
         self.masks.iter().any(|m| m.label == label)

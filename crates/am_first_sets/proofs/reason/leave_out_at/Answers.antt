@@ -30,7 +30,7 @@ returns-then-is_some-clause-enough c =
     c.requires.enough
 
 pub returns-then-is_some-clause-needed : goal.returns-then-is_some-clause-needed
-returns-then-is_some-clause-needed c = λ k at named.
+returns-then-is_some-clause-needed c = λ all k at named.
     let Is = IsPossible c.args.possible.now in
     let back = put_back (goal.at.returns-then-is_some-clause-needed c).After-set_named-then-is_some in
     subst (IsMet Is)
@@ -44,6 +44,6 @@ returns-else-is_some-clause-enough c =
     c.in_ok-some_meeting.ensures.none (sym c.is_some.ensures ∙ c.if-is_some.false)
 
 pub returns-else-is_some-clause-needed : goal.returns-else-is_some-clause-needed
-returns-else-is_some-clause-needed c = λ k at named.
+returns-else-is_some-clause-needed c = λ all k at named.
     at_place c.args.i c.args.candidates.now k
     (subst (λ (ks : List Candidate). slice_get ks c.args.i ≡ Some k) c.set_named.ensures at) named

@@ -14,17 +14,17 @@ loop-found-preserved c =
     let ks = c.args.candidates.now in
     let before = c.loop-found.candidates in (
       subst (AreSameLiterals ks) (sym c.set_named.ensures)
-          (same_renamed c.in-Some-first_unsettled.i _ ks before c.loop-found.invariant.0),
+          (same_renamed c.fewest_unsettled-i.result _ ks before c.loop-found.invariant.0),
       λ n h. subst (AreNamedBefore n) (sym c.set_named.ensures)
-          (named_more n c.in-Some-first_unsettled.i before (c.loop-found.invariant.1 n h)),
+          (named_more n c.fewest_unsettled-i.result before (c.loop-found.invariant.1 n h)),
     )
 
 pub loop-found-smaller : goal.loop-found-smaller
 loop-found-smaller c =
     subst (λ (ks : List Candidate). count_unnamed ks < count_unnamed c.loop-found.candidates)
     (sym c.set_named.ensures)
-    (one_more c.loop-found.candidates c.in-Some-first_unsettled.i
-    c.in-Some-first_unsettled.ensures.within c.in-Some-first_unsettled.ensures.some)
+    (one_more c.loop-found.candidates c.fewest_unsettled-i.result
+    c.fewest_unsettled-i.ensures.within c.fewest_unsettled-i.ensures.unnamed)
 
 pub unreachable-requires : goal.unreachable-requires
 unreachable-requires c =
