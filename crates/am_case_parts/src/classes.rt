@@ -2,9 +2,8 @@
 
 use crate::texts::Refusal;
 use am_classes::{Alphabet, classes};
-use am_labels::{Matcher, Matchers, parse_matchers};
-use am_universe::{Kind, LabelSet};
-use std::alloc::Global;
+use am_labels::{Matcher, parse_matchers};
+use std::alloc::{AllocError, Global};
 
 /// Returns for each class of texts over an alphabet, by one text that stands for it, which of the
 /// matchers are true. The names of the matchers are ignored. Returns `unproved` if the classes
@@ -39,25 +38,11 @@ pub fn of_classes(alloc: Global, alphabet: Alphabet, text: &str) -> Result<Vec<u
 }
 
 /// For each matcher, `1` if it is true of a text, and otherwise `0`.
-fn truths_on(alloc: Global, matchers: &[&Matcher], text: &str) -> Result<String, Kind> {
+fn truths_on(alloc: Global, matchers: &[&Matcher], text: &str) -> Result<String, AllocError> {
     let mut truths = String::new(alloc);
     for matcher in matchers {
-        let truth = is_true(alloc, matcher, text)?;
-        truths.push(if truth { '1' } else { '0' })?;
+        let mut prepared = matcher.prepare(alloc)?;
+        truths.push(if prepared.holds(text) { '1' } else { '0' })?;
     }
     Ok(truths)
-}
-
-/// Whether a matcher is true of a text, as the value of its label.
-fn is_true(alloc: Global, matcher: &Matcher, text: &str) -> Result<bool, Kind> {
-    let name = String::from_str(alloc, matcher.name())?;
-    let value = String::from_str(alloc, matcher.value())?;
-    let mut list = Matchers::empty(alloc);
-    list.push(Matcher::new(alloc, name, matcher.op(), value)?)?;
-    let mut set = LabelSet::empty(alloc);
-    if !text.is_empty() {
-        let name = String::from_str(alloc, matcher.name())?;
-        set.put(name, String::from_str(alloc, text)?)?;
-    }
-    Ok(list.matches(alloc, &set)?)
 }

@@ -3,7 +3,7 @@
 use crate::classes::of_classes;
 use crate::matchers::{of_match, of_matcher, of_matchers, of_row};
 use crate::readers::{of_config, of_instant, of_silences};
-use crate::search::{of_count, of_judge};
+use crate::search::{of_boxes, of_count, of_judge};
 use crate::texts::{Refusal, word};
 use crate::whole::of_whole;
 use am_case_runner::Problem;
@@ -29,6 +29,7 @@ pub fn call<R: Files + AllocGlobal>(
         "row" => of_row(files, one, two),
         "classes" => of_classes(alloc, Alphabet::Unicode, one),
         "classes-ascii" => of_classes(alloc, Alphabet::Ascii, one),
+        "boxes" => of_boxes(files, one, two),
         "judge" => of_judge(files, words),
         "count" => of_count(files, words),
         "whole" => of_whole(files, words),

@@ -1,4 +1,4 @@
-//! What the plan of a question says and is asked.
+//! What the plan of a question says and is asked, and what the search by boxes finds.
 
 ghost use Rattle.std.specs.Prelude.{◌≡◌, IfSome, IsTrue};
 ghost use Rattle.am_universe.specs.Choice.{admits};
@@ -6,9 +6,12 @@ ghost use Rattle.am_universe.specs.Universe.{sizes};
 ghost use Rattle.am_plans.specs.PlanWords.{plan_sizes, plan_truth, plan_verdict, plan_is_judge};
 ghost use Rattle.am_search.specs.Start.{IsStart};
 
-use crate::asked::read_words;
+use crate::asked::{read_file, read_words};
 use crate::texts::{Refusal, add_positions, word};
 use am_case_runner::Problem;
+use am_first_sets::{Budget, Solved, solve_within};
+use am_judged_lists::{PositionBox, impossible_cubes};
+use am_list_files::read_universe;
 use am_plans::Plan;
 use am_search::{Answers, Judge, Start, State, Verdict, first};
 use am_universe::{Choice, Universe};
@@ -149,4 +152,28 @@ fn count_text(
         add_positions(&prefix, &mut text)?;
     }
     Ok(text.into_bytes())
+}
+
+/// Returns whether the search by boxes finds a label set of a universe file that is possible. The
+/// second word is the most boxes that it may look at.
+pub fn of_boxes<R: rt::Files + AllocGlobal>(
+    files: &R,
+    universe: &str,
+    most: &str,
+) -> Result<Vec<u8>, Refusal> {
+    let alloc = files.alloc();
+    let space = read_universe(alloc, read_file(files, universe)?.as_slice())?;
+    let cubes = impossible_cubes(alloc, &space)?;
+    let mut unwanted = Vec::new(alloc);
+    for cube in &cubes {
+        unwanted.push(cube)?;
+    }
+    let start = PositionBox::all(alloc, space.universe())?;
+    let mut budget = Budget::of(most.parse::<usize>().unwrap_or(0));
+    let text = match solve_within(alloc, start, unwanted.as_slice(), &mut budget)? {
+        Solved::Found(_) => "some",
+        Solved::NoAnswer => "none",
+        Solved::UsedUp => "used up",
+    };
+    Ok(Vec::from_slice(alloc, text.as_bytes())?)
 }

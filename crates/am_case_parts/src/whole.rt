@@ -22,13 +22,6 @@ use std::rt::Files;
 /// The most choices that are looked at.
 const MOST_CHOICES: usize = 999;
 
-/// A whole choice, and whether its label set is an answer.
-#[derive(Clone, Copy)]
-struct Whole {
-    choice: Choice,
-    is_answer: bool,
-}
-
 /// Returns how many starts there are, at the first choice and behind each, and how many choices are
 /// given from them all. Fails if a search over the plan of the question gives others than those
 /// whose label sets satisfy the question.
@@ -39,8 +32,8 @@ pub fn of_whole<R: Files + AllocGlobal>(files: &R, words: &[String]) -> Result<V
     let plan = Plan::new(alloc, &inputs.space, &inputs.world, &inputs.question)?;
     let universe = inputs.space.universe();
     let mut items = compare(alloc, &plan, universe, inputs.start, all.as_slice())?;
-    for (i, one) in all.iter().enumerate() {
-        let Some(start) = start_after(universe, one.choice) else {
+    for (i, (choice, _)) in all.iter().enumerate() {
+        let Some(start) = start_after(universe, *choice) else {
             return Err(Refusal::wrong(alloc, "a choice that is not whole"));
         };
         let rest = all.as_slice().get(i.saturating_add(1)..).unwrap_or(&[]);
@@ -52,17 +45,13 @@ pub fn of_whole<R: Files + AllocGlobal>(files: &R, words: &[String]) -> Result<V
 }
 
 /// All whole choices in declared order, each with the truth of the question on its label set.
-fn all_choices(alloc: Global, inputs: &AcceptedInputs) -> Result<Vec<Whole>, Refusal> {
+fn all_choices(alloc: Global, inputs: &AcceptedInputs) -> Result<Vec<(Choice, bool)>, Refusal> {
     let any = Question::Is(Property::Any);
     let plan = Plan::new(alloc, &inputs.space, &inputs.world, &any)?;
     let mut all = Vec::new(alloc);
     let (choices, _) = given_from(alloc, &plan, Start::At(Choice::empty()), None, MOST_CHOICES)?;
     for choice in &choices {
-        let is_answer = is_answer(alloc, inputs, choice)?;
-        all.push(Whole {
-            choice: *choice,
-            is_answer,
-        })?;
+        all.push((*choice, is_answer(alloc, inputs, choice)?))?;
     }
     Ok(all)
 }
@@ -95,7 +84,7 @@ fn compare(
     plan: &Plan<'_>,
     universe: &Universe,
     start: Start,
-    left: &[Whole],
+    left: &[(Choice, bool)],
 ) -> Result<usize, Problem>
     requires sizes { plan_sizes plan.now ≡ sizes universe.now }
     requires start { IsStart (sizes universe.now) start }
@@ -106,8 +95,8 @@ fn compare(
         add_positions(choice, &mut given)?;
     }
     let mut wanted = String::new(alloc);
-    for one in left.iter().filter(|one| one.is_answer) {
-        add_positions(&one.choice, &mut wanted)?;
+    for (choice, _) in left.iter().filter(|(_, is_answer)| *is_answer) {
+        add_positions(choice, &mut wanted)?;
     }
     if given.as_str() == wanted.as_str() {
         return Ok(choices.len());

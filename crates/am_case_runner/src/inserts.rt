@@ -20,12 +20,8 @@ pub struct Named {
 
 /// Returns the text with this name, or the last of several.
 pub fn text_named<'n>(texts: &'n [Named], name: &[u8]) -> Option<&'n [u8]> {
-    for one in texts.iter().rev() {
-        if one.name.as_slice() == name {
-            return Some(one.text.as_slice());
-        }
-    }
-    None
+    let found = texts.iter().rev().find(|one| one.name.as_slice() == name)?;
+    Some(found.text.as_slice())
 }
 
 /// Returns a text with each insert replaced by what it stands for, the innermost and the leftmost

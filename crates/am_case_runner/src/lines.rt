@@ -48,22 +48,17 @@ fn add<'a>(alloc: Global, items: &mut Vec<Item<'a>>, line: Line<'a>) -> Result<(
 
 /// Returns what is before the last `mark` in a text, and what is after it.
 pub fn split_at_last<'a>(text: &'a [u8], mark: &[u8]) -> Option<(&'a [u8], &'a [u8])> {
-    for at in (0..text.len()).rev() {
-        if let Some(behind) = text[at..].strip_prefix(mark) {
-            return Some((&text[..at], behind));
-        }
-    }
-    None
+    let mut places = (0..text.len()).rev();
+    places.find_map(|at| split_at(text, mark, at))
 }
 
 /// Returns what is before the first `mark` in a text, and what is after it.
 pub fn split_at_first<'a>(text: &'a [u8], mark: &[u8]) -> Option<(&'a [u8], &'a [u8])> {
-    for at in 0..text.len() {
-        if let Some(behind) = text[at..].strip_prefix(mark) {
-            return Some((&text[..at], behind));
-        }
-    }
-    None
+    (0..text.len()).find_map(|at| split_at(text, mark, at))
+}
+
+fn split_at<'a>(text: &'a [u8], mark: &[u8], at: usize) -> Option<(&'a [u8], &'a [u8])> {
+    Some((text.get(..at)?, text.get(at..)?.strip_prefix(mark)?))
 }
 
 /// Reads a number in decimal. Returns `None` if the text is not such a number.

@@ -2,7 +2,7 @@
 
 use am_case_parts::{call, digits_of_command};
 use am_case_runner::{Problem, Program};
-use am_program::{run, run_with_notes};
+use am_program::run_with_notes;
 use std::io::Write;
 use std::rt::Files;
 
@@ -18,11 +18,7 @@ impl Program for Amcover {
         err: &mut E,
         notes: bool,
     ) -> u8 {
-        if notes {
-            run_with_notes(files, words, out, err, true)
-        } else {
-            run(files, words, out, err)
-        }
+        run_with_notes(files, words, out, err, notes)
     }
 
     fn digits<R: Files + AllocGlobal>(
