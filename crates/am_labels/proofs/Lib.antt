@@ -1,9 +1,5 @@
 mod PatternLemmas
-mod PatternCuts
-mod PatternForms
 mod PatternJoins
-mod PatternUnique
-mod PatternWords
 pub mod MatcherTextIndices
 pub mod MatcherTextUtf8
 pub mod MatcherTextSteps

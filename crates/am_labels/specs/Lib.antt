@@ -1,5 +1,4 @@
 pub mod PatternProfile
-pub mod PatternCut
 pub mod Pattern
 pub mod PatternView
 pub mod Matcher

@@ -6,7 +6,7 @@ use Rattle.std.specs.List.{list_all}
 use Rattle.am_universe.specs.declared.kind.Kind.{Kind}
 use Rattle.am_universe.specs.declared.kind.Kind.TheVariants as kinds
 use Rattle.am_labels.specs.Pattern.{is_pattern}
-use Rattle.am_labels.specs.PatternCut.{in_profile}
+use Rattle.am_labels.specs.PatternProfile.{in_profile}
 use Rattle.am_labels.specs.declared.limits.TheConstants.{MAX_MATCHERS}
 use Rattle.am_labels.specs.Matcher.{Condition, takes_pattern}
 use Rattle.am_labels.specs.MatcherText.{WordsSpell}

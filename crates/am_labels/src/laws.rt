@@ -9,8 +9,8 @@ ghost use Rattle.am_universe.specs.LabelSet.{label_set_of, value_of};
 ghost use Rattle.am_labels.specs.Space.{Space, all_choices, IsChoiceOf};
 ghost use Rattle.am_labels.specs.declared.limits.TheConstants.{MAX_MATCHERS, MAX_IMPOSSIBLE};
 ghost use Rattle.am_labels.specs.Matcher.{Condition, condition_holds, all_hold};
-ghost use Rattle.am_labels.specs.PatternProfile.{Piece, IsJoinOf, IsInProfile};
-ghost use Rattle.am_labels.specs.PatternCut.{in_profile};
+ghost use Rattle.am_labels.specs.declared.pattern_profile.Piece.{Piece};
+ghost use Rattle.am_labels.specs.PatternProfile.{IsJoinOf, IsInProfile, in_profile};
 ghost use Rattle.am_labels.specs.Row.{row_of, row_holds, rows_hold};
 ghost use Rattle.am_labels.specs.MatcherText.{Spells, WordsSpell};
 ghost use Rattle.am_labels.specs.MatcherReading.{read_list};
@@ -34,7 +34,7 @@ pub fn each_pattern_is_a_join()
 {}
 
 /// A pattern is the join of one list of pieces only.
-#[tactic(auto, using(crate::proofs::PatternUnique::one_join))]
+#[tactic(auto, using(crate::proofs::PatternJoins::one_join))]
 pub fn one_join_a_pattern()
     ensures same_pieces { (pattern : List ℕ) (a b : List Piece)
         → IsJoinOf pattern a → IsJoinOf pattern b → a ≡ b }

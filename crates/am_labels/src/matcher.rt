@@ -1,6 +1,6 @@
 ghost use Rattle.std.specs.Prelude.{◌≡◌, ◌≢◌, [], false, true, IsTrue, IfOk, IfErr, OnOk};
 ghost use Rattle.std.specs.Prelude.{string_bytes};
-ghost use Rattle.am_labels.specs.PatternCut.{in_profile};
+ghost use Rattle.am_labels.specs.PatternProfile.{in_profile};
 ghost use Rattle.am_labels.specs.Matcher.{holds, takes_pattern};
 ghost use Rattle.am_labels.specs.MatcherRefusals.{has_valid_pattern, MatcherRefusedFor};
 ghost use Rattle.am_universe.specs.declared.kind.Kind.TheVariants as kinds;

@@ -11,7 +11,7 @@ ghost use Rattle.regex_hir.specs.Text.{is_boundary};
 ghost use Rattle.regex_nfa.specs.declared.nfa.Nfa.{Nfa};
 ghost use Rattle.regex_syntax.specs.Verdict.{Reads, default_config};
 ghost use Rattle.am_labels.specs.Pattern.{anchored_pattern, finds, is_pattern};
-ghost use Rattle.am_labels.specs.PatternCut.{in_profile};
+ghost use Rattle.am_labels.specs.PatternProfile.{in_profile};
 ghost use Rattle.am_labels.specs.PatternView.{IsSearchFor, start_at};
 ghost use Rattle.am_universe.specs.declared.kind.Kind.TheVariants as kinds;
 

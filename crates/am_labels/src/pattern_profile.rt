@@ -1,13 +1,12 @@
-ghost use Rattle.std.specs.Prelude.{◌≡◌, ◌≤◌, ◌<◌, length, option_map, map, IfSome, ◌==◌, nat_eq};
-ghost use Rattle.std.specs.Prelude.{◌+◌, not};
-ghost use Rattle.std.specs.List.{list_any, find, starts_with, position};
-ghost use Rattle.am_labels.specs.declared.pattern_profile.ClassContext.TheVariants as contexts;
+ghost use Rattle.std.specs.Prelude.{◌≡◌, ◌≤◌, ◌<◌, ◌+◌, length, option_map, map, IfSome, ◌==◌};
+ghost use Rattle.std.specs.Prelude.{nat_eq};
+ghost use Rattle.std.specs.List.{find, starts_with, position};
 ghost use Rattle.am_universe.specs.Bytes.{right_brace};
-ghost use Rattle.am_labels.specs.PatternProfile.{is_refused_escape, is_refused_flag};
-ghost use Rattle.am_labels.specs.PatternCut.{in_profile, first_step, unescaped_step, escape_len};
-ghost use Rattle.am_labels.specs.PatternCut.{flag_run, flag_run_len, begins_count, digits_len};
-ghost use Rattle.am_labels.specs.PatternCut.{class_start_len, named_class_at, up_to_brace};
-ghost use Rattle.am_labels.specs.PatternCut.{braces_len};
+ghost use Rattle.am_labels.specs.PatternProfile.{in_profile, first_piece, escape_piece};
+ghost use Rattle.am_labels.specs.PatternProfile.{is_refused_escape, braces_len, up_to_brace};
+ghost use Rattle.am_labels.specs.PatternProfile.{outside_piece, has_refused_flag, is_refused_flag};
+ghost use Rattle.am_labels.specs.PatternProfile.{begins_count, digits_len, class_start_len};
+ghost use Rattle.am_labels.specs.PatternProfile.{inside_piece, named_class_len};
 
 /// Where a piece of a pattern is: outside or inside a class, which is in brackets.
 #[derive(Clone, Copy)]
@@ -16,18 +15,24 @@ enum ClassContext {
     InsideClass,
 }
 
-/// A step through a pattern: its length in bytes, and the context of what follows.
+/// A piece of a pattern: how many bytes it has after its first, the context of what follows, and
+/// whether the profile refuses it.
 #[derive(Clone, Copy)]
-struct PieceStep {
-    width: usize,
+struct Piece {
+    more: usize,
     next: ClassContext,
+    is_refused: bool,
 }
 
-impl PieceStep {
-    fn to(width: usize, next: ClassContext) -> PieceStep
-        ensures { result ≡ record { width = width; next = next } }
+impl Piece {
+    fn of(more: usize, next: ClassContext, is_refused: bool) -> Piece
+        ensures { result ≡ record { more = more; next = next; is_refused = is_refused } }
     {
-        PieceStep { width, next }
+        Piece {
+            more,
+            next,
+            is_refused,
+        }
     }
 }
 
@@ -38,93 +43,80 @@ pub(crate) fn is_in_profile(pattern: &str) -> bool
 {
     let mut context = ClassContext::OutsideClass;
     let mut rest = pattern.as_bytes();
-    while !rest.is_empty() {
-        let Some(step) = first_step(context, rest) else {
+    while let [byte, after @ ..] = rest {
+        let piece = first_piece(context, *byte, after);
+        if piece.is_refused {
             return false;
-        };
-        context = step.next;
-        rest = &rest[step.width..];
+        }
+        context = piece.next;
+        rest = &after[piece.more..];
     }
     true
 }
 
-/// The first step through a text; `None` if the text is refused there.
-#[tactic(auto, unfolding(crate::specs::PatternCut::first_step))]
-fn first_step(context: ClassContext, text: &[u8]) -> Option<PieceStep>
-    requires { 0 < length text.now }
-    ensures value { result ≡ first_step context text.now }
-    ensures within { IfSome result (λ step. step.width ≤ length text.now) }
-    ensures some { IfSome result (λ step. 0 < step.width) }
+/// The first piece of a text, given its first byte and what follows that.
+#[tactic(auto, unfolding(crate::specs::PatternProfile::first_piece))]
+fn first_piece(context: ClassContext, byte: u8, after: &[u8]) -> Piece
+    ensures value { result ≡ first_piece context byte after.now }
+    ensures within { result.more ≤ length after.now }
 {
-    if text.starts_with(b"\\") {
-        let width = escape_len(&text[1..])?;
-        return Some(PieceStep::to(width, context));
+    if byte == b'\\' {
+        return escape_piece(context, after);
     }
     match context {
-        ClassContext::OutsideClass => outside_step(text),
-        ClassContext::InsideClass => inside_step(text),
+        ClassContext::OutsideClass => outside_piece(byte, after),
+        ClassContext::InsideClass => inside_piece(byte, after),
     }
 }
 
-/// The first step outside a class, through a text that does not begin with a backslash.
-#[tactic(auto, unfolding(crate::specs::PatternCut::unescaped_step))]
-fn outside_step(text: &[u8]) -> Option<PieceStep>
-    requires { 0 < length text.now }
-    ensures value { result ≡ unescaped_step contexts.OutsideClass text.now }
-    ensures within { IfSome result (λ step. step.width ≤ length text.now) }
-    ensures some { IfSome result (λ step. 0 < step.width) }
-{
-    if text.starts_with(b"(?") {
-        return has_only_common_flags(&text[2..]).then_some(PieceStep::to(
-            2,
-            ClassContext::OutsideClass,
-        ));
-    }
-    if text.starts_with(b"{") {
-        return begins_count(&text[1..]).then_some(PieceStep::to(1, ClassContext::OutsideClass));
-    }
-    if text.starts_with(b"[") {
-        return Some(PieceStep::to(class_start_len(text), ClassContext::InsideClass));
-    }
-    Some(PieceStep::to(1, ClassContext::OutsideClass))
-}
-
-/// The first step inside a class, through a text that does not begin with a backslash.
-#[tactic(auto, unfolding(crate::specs::PatternCut::unescaped_step))]
-fn inside_step(text: &[u8]) -> Option<PieceStep>
-    requires { 0 < length text.now }
-    ensures value { result ≡ unescaped_step contexts.InsideClass text.now }
-    ensures within { IfSome result (λ step. step.width ≤ length text.now) }
-    ensures some { IfSome result (λ step. 0 < step.width) }
-{
-    if text.starts_with(b"[") {
-        let width = named_class_len(text)?;
-        return Some(PieceStep::to(width, ClassContext::InsideClass));
-    }
-    if text.starts_with(b"&&") || text.starts_with(b"--") || text.starts_with(b"~~") {
-        return None;
-    }
-    if text.starts_with(b"]") {
-        return Some(PieceStep::to(1, ClassContext::OutsideClass));
-    }
-    Some(PieceStep::to(1, ClassContext::InsideClass))
-}
-
-/// The length of an escape, given the text after its backslash; `None` if the escape is refused.
-fn escape_len(after: &[u8]) -> Option<usize>
-    ensures value { result ≡ escape_len after.now }
-    ensures within { IfSome result (λ n. n ≤ length after.now + 1) }
-    ensures some { IfSome result (λ n. 0 < n) }
+/// The piece at a backslash.
+fn escape_piece(context: ClassContext, after: &[u8]) -> Piece
+    ensures value { result ≡ escape_piece context after.now }
+    ensures within { result.more ≤ length after.now }
 {
     match after {
-        [] => Some(1),
-        [byte, rest @ ..] => {
-            if is_refused_escape(*byte) {
-                return None;
-            }
-            Some(2 + braces_len(*byte, rest))
-        }
+        [] => Piece::of(0, context, false),
+        [byte, rest @ ..] => Piece::of(
+            1 + braces_len(*byte, rest),
+            context,
+            is_refused_escape(*byte),
+        ),
     }
+}
+
+/// The piece at any other byte outside a class.
+#[tactic(auto, unfolding(crate::specs::PatternProfile::outside_piece))]
+fn outside_piece(byte: u8, after: &[u8]) -> Piece
+    ensures value { result ≡ outside_piece byte after.now }
+    ensures within { result.more ≤ length after.now }
+{
+    if byte == b'(' && after.starts_with(b"?") {
+        return Piece::of(1, ClassContext::OutsideClass, has_refused_flag(&after[1..]));
+    }
+    if byte == b'{' {
+        return Piece::of(0, ClassContext::OutsideClass, !begins_count(after));
+    }
+    if byte == b'[' {
+        return Piece::of(class_start_len(after), ClassContext::InsideClass, false);
+    }
+    Piece::of(0, ClassContext::OutsideClass, false)
+}
+
+/// The piece at any other byte inside a class.
+#[tactic(auto, unfolding(crate::specs::PatternProfile::inside_piece))]
+fn inside_piece(byte: u8, after: &[u8]) -> Piece
+    ensures value { result ≡ inside_piece byte after.now }
+    ensures within { result.more ≤ length after.now }
+{
+    if byte == b'[' {
+        let named = named_class_len(after);
+        return Piece::of(named.unwrap_or(0), ClassContext::InsideClass, named.is_none());
+    }
+    if byte == b']' {
+        return Piece::of(0, ClassContext::OutsideClass, false);
+    }
+    let is_pair = matches!(byte, b'&' | b'-' | b'~') && after.starts_with(&[byte]);
+    Piece::of(0, ClassContext::InsideClass, is_pair)
 }
 
 /// Whether the profile refuses the byte after a backslash.
@@ -166,33 +158,19 @@ fn brace_at(text: &[u8]) -> Option<usize>
     text.iter().position(|b| *b == b'}')
 }
 
-/// Whether the run of flags after `(?` has no refused flag.
-fn has_only_common_flags(after: &[u8]) -> bool
-    ensures { result ≡ not (list_any is_refused_flag (flag_run after.now)) }
+/// Whether the text begins with a run of flags that has a refused flag.
+fn has_refused_flag(text: &[u8]) -> bool
+    ensures { result ≡ has_refused_flag text.now }
 {
-    !has_refused_flag(&after[..flag_run_len(after)])
-}
-
-fn has_refused_flag(run: &[u8]) -> bool
-    ensures { result ≡ list_any is_refused_flag run.now }
-{
-    run.iter().any(|b| is_refused_flag(*b))
+    text.iter()
+        .take_while(|b| b.is_ascii_alphabetic() || **b == b'-')
+        .any(|b| is_refused_flag(*b))
 }
 
 fn is_refused_flag(byte: u8) -> bool
     ensures { result ≡ is_refused_flag byte }
 {
     matches!(byte, b'x' | b'u' | b'R')
-}
-
-/// The length of the run of letters and `-` at the beginning.
-fn flag_run_len(text: &[u8]) -> usize
-    ensures value { result ≡ flag_run_len text.now }
-    ensures within { result ≤ length text.now }
-{
-    text.iter()
-        .take_while(|b| b.is_ascii_alphabetic() || **b == b'-')
-        .count()
 }
 
 /// Whether a count of repetitions begins after the `{`.
@@ -221,59 +199,56 @@ fn digits_len(text: &[u8]) -> usize
     text.iter().take_while(|b| b.is_ascii_digit()).count()
 }
 
-/// The length of the beginning of a class: `[`, then `^` if it follows directly, then `]` if it
-/// follows directly.
+/// How many bytes follow the `[` that begins a class: `^` or not, and then `]` or not.
 fn class_start_len(text: &[u8]) -> usize
-    requires { 0 < length text.now }
     ensures value { result ≡ class_start_len text.now }
     ensures within { result ≤ length text.now }
 {
-    if text.starts_with(b"[^]") {
-        3
-    } else if text.starts_with(b"[^") || text.starts_with(b"[]") {
+    if text.starts_with(b"^]") {
         2
-    } else {
+    } else if text.starts_with(b"^") || text.starts_with(b"]") {
         1
+    } else {
+        0
     }
 }
 
-/// The named classes that may be inside a class.
+/// What may follow the `[` of a named class.
 const NAMED_CLASSES: [&str; 28] = [
-    "[:alnum:]",
-    "[:^alnum:]",
-    "[:alpha:]",
-    "[:^alpha:]",
-    "[:ascii:]",
-    "[:^ascii:]",
-    "[:blank:]",
-    "[:^blank:]",
-    "[:cntrl:]",
-    "[:^cntrl:]",
-    "[:digit:]",
-    "[:^digit:]",
-    "[:graph:]",
-    "[:^graph:]",
-    "[:lower:]",
-    "[:^lower:]",
-    "[:print:]",
-    "[:^print:]",
-    "[:punct:]",
-    "[:^punct:]",
-    "[:space:]",
-    "[:^space:]",
-    "[:upper:]",
-    "[:^upper:]",
-    "[:word:]",
-    "[:^word:]",
-    "[:xdigit:]",
-    "[:^xdigit:]",
+    ":alnum:]",
+    ":^alnum:]",
+    ":alpha:]",
+    ":^alpha:]",
+    ":ascii:]",
+    ":^ascii:]",
+    ":blank:]",
+    ":^blank:]",
+    ":cntrl:]",
+    ":^cntrl:]",
+    ":digit:]",
+    ":^digit:]",
+    ":graph:]",
+    ":^graph:]",
+    ":lower:]",
+    ":^lower:]",
+    ":print:]",
+    ":^print:]",
+    ":punct:]",
+    ":^punct:]",
+    ":space:]",
+    ":^space:]",
+    ":upper:]",
+    ":^upper:]",
+    ":word:]",
+    ":^word:]",
+    ":xdigit:]",
+    ":^xdigit:]",
 ];
 
-/// The length of the named class that a text begins with.
+/// How many bytes follow the `[` of a named class; `None` if none begins there.
 fn named_class_len(text: &[u8]) -> Option<usize>
-    ensures value { result ≡ option_map (λ named. length named) (named_class_at text.now) }
+    ensures value { result ≡ named_class_len text.now }
     ensures within { IfSome result (λ n. n ≤ length text.now) }
-    ensures some { IfSome result (λ n. 0 < n) }
 {
     first_prefix_len(text, &NAMED_CLASSES)
 }

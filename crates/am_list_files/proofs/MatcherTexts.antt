@@ -7,7 +7,7 @@ use Rattle.am_universe.specs.declared.kind.Kind.{Kind}
 use Rattle.am_universe.specs.declared.kind.Kind.TheVariants as kinds
 use Rattle.am_labels.specs.declared.limits.TheConstants.{MAX_MATCHERS}
 use Rattle.am_labels.specs.Matcher.{Condition}
-use Rattle.am_labels.specs.PatternCut.{in_profile}
+use Rattle.am_labels.specs.PatternProfile.{in_profile}
 use Rattle.am_labels.specs.MatcherText.{Spells}
 use Rattle.am_labels.specs.MatcherReading.{read_list}
 use Rattle.am_labels.specs.MatcherRefusals.{have_valid_patterns, pattern_refusal, TextRefusedFor}

@@ -6,7 +6,7 @@ use Rattle.am_universe.specs.declared.kind.Kind.{Kind}
 use Rattle.am_labels.specs.declared.op.Op.{Op}
 use Rattle.am_labels.specs.Matcher.{Condition, takes_pattern}
 use Rattle.am_labels.specs.Pattern.{is_pattern}
-use Rattle.am_labels.specs.PatternCut.{in_profile}
+use Rattle.am_labels.specs.PatternProfile.{in_profile}
 use Rattle.am_labels.specs.MatcherRefusals.{has_valid_pattern, have_valid_patterns, pattern_refusal}
 use Rattle.am_labels.specs.MatcherRefusals.{PatternsRefusedFor}
 use Rattle.am_json.specs.Objections.{Objection, a_fault, a_pattern, first_fault, patterns_before}

@@ -7,7 +7,7 @@ use Rattle.am_universe.specs.declared.kind.Kind.{Kind}
 use Rattle.am_universe.specs.declared.kind.Kind.TheVariants as kinds
 use Rattle.am_labels.specs.Matcher.{Condition, takes_pattern}
 use Rattle.am_labels.specs.MatcherRefusals.{has_valid_pattern, pattern_refusal}
-use Rattle.am_labels.specs.PatternCut.{in_profile}
+use Rattle.am_labels.specs.PatternProfile.{in_profile}
 use Rattle.am_json.specs.Objections.{Objection, a_fault, a_pattern}
 use Rattle.am_json.specs.Pointer.{refusal_here}
 use Rattle.am_json.specs.Reading.{Reading, ◌>>=◌, accept, stopped_at_first}

@@ -1,4 +1,4 @@
-use Rattle.std.proofs.Common.{◌≡◌, ◌∙◌, ap, sym, None, is_some, cond, length}
+use Rattle.std.proofs.Common.{◌∙◌, ap, sym, None, is_some, cond, length}
 use Rattle.regex_nfa.specs.Run.{run}
 use Rattle.am_labels.proofs.PatternLemmas.{at_one}
 use Rattle.am_labels.proofs.pattern.starts_match.Goals as goal

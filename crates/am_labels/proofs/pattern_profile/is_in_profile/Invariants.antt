@@ -1,5 +1,5 @@
 use Rattle.std.proofs.Common.{◌≡◌, length}
-use Rattle.am_labels.specs.PatternCut.{in_profile, has_no_refused_piece}
+use Rattle.am_labels.specs.PatternProfile.{in_profile, has_no_refused_piece}
 use Rattle.am_labels.proofs.pattern_profile.is_in_profile.Given as goal
 
 abbrev pub invariant-loop-rest : goal.invariant-loop-rest

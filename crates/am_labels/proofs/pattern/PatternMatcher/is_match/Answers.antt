@@ -1,5 +1,5 @@
 -- The text is searched from its first position on.
-use Rattle.std.proofs.Common.{◌≡◌, ◌∙◌, sym, subst, refl, arith, ◌<◌, length, is_some}
+use Rattle.std.proofs.Common.{◌≡◌, ◌∙◌, sym, subst, arith, ◌<◌, length, is_some}
 use Rattle.std.proofs.lemmas.List.Elements.{All-from_get_or}
 use Rattle.regex_hir.specs.Find.{first_between}
 use Rattle.am_labels.specs.Pattern.{finds}
