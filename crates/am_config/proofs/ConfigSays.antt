@@ -1,208 +1,324 @@
 -- A value says a configuration exactly if reading it finds no fault, and then it says the
 -- configuration that reading gives.
-use Rattle.std.proofs.Common.{◌≡◌, ℕ, zero, suc, ◌+◌, ◌≤◌, List, [], ◌∷◌, ◌++◌, true, Option}
-use Rattle.std.proofs.Common.{Some, None, Ok, refl, sym, ap, subst, ◌∙◌, append_assoc, append-nil}
-use Rattle.std.proofs.Common.{arith}
-use Rattle.std.specs.Prelude.{codes, is_none}
+use Rattle.std.proofs.Common.{◌≡◌, ℕ, zero, suc, ◌+◌, ◌<◌, ◌≤◌, List, [], ◌∷◌, ◌++◌, length, true}
+use Rattle.std.proofs.Common.{false, Option, Some, None, Ok, inl, inr, refl, ap, subst, arith}
+use Rattle.std.specs.Prelude.{codes, is_none, IfSome}
+use Rattle.std.specs.List.{AllZip}
+use Rattle.std.proofs.lemmas.Bool.{and_from}
+use Rattle.std.proofs.lemmas.List.Quantifiers.{position-Some}
+use borrow.Author.Tests.{lt-ltb}
 use Rattle.serde_json.specs.Data.{Data}
+use Rattle.am_universe.specs.Text.{same_text}
+use Rattle.am_universe.specs.declared.kind.Kind.TheVariants as kinds
 use Rattle.am_config.specs.declared.limits.TheConstants.{MAX_ROUTES, MAX_LEVELS}
 use Rattle.am_json.specs.Json.{field}
-use Rattle.am_json.specs.Pointer.{to_field}
-use Rattle.am_json.specs.Reading.{reading_within, as_object, required_field, read_each}
-use Rattle.am_json.specs.Reading.{read_next_item, read_items}
-use Rattle.am_config.specs.ConfigFile.{RouteTree, route, Routes, no_routes}
-use Rattle.am_config.specs.ConfigFile.{next_route, Configuration}
-use Rattle.am_config.specs.ConfigFile.{routes_of, matchers_of, route_count}
-use Rattle.am_config.specs.ConfigFile.{routes_count, route_levels, routes_levels}
-use Rattle.am_config.specs.ConfigFile.{SaysSettings, SaysRoute}
-use Rattle.am_config.specs.ConfigFile.{SaysRoutes, SaysConfig}
-use Rattle.am_config.specs.ConfigForm.{RouteFields, receivers_form, route_fields_form, route_form}
-use Rattle.am_config.specs.Path.{list_of}
-use Rattle.am_config.specs.ConfigForm.{next_child_form, rules_form, config_form}
-use Rattle.am_json.proofs.Readings.{bind_ok, within_ok, ok_or_some, same_read, check_count_fits}
-use Rattle.am_json.proofs.Readings.{Decides}
-use Rattle.am_json.proofs.Fields.{object_of}
-use Rattle.am_json.proofs.Items.{item_first}
-use Rattle.am_config.proofs.Routing.{are_read, count_push}
-use Rattle.am_config.proofs.Sound.{is_read, no_level, root_unmatched, route_sound}
-use Rattle.am_config.proofs.ConfigParts.{names_decide}
-use Rattle.am_config.proofs.SettingsSay.{settings_say, settings_read}
-use Rattle.am_config.proofs.RuleSays.{rules_decide}
-use Rattle.am_json.proofs.OptionalArrays.{optional_array_says, optional_array_reads}
 use Rattle.am_json.specs.OptionalItems.{HasItems}
+use Rattle.am_json.specs.Pointer.{refusal_here, refusal_within, to_field}
+use Rattle.am_config.specs.ConfigFile.{RouteSettings, RouteTree, route, Routes, no_routes}
+use Rattle.am_config.specs.ConfigFile.{next_route, Configuration, IsConfig, Rule}
+use Rattle.am_config.specs.ConfigFile.{routes_of, matchers_of, route_count, routes_count}
+use Rattle.am_config.specs.ConfigFile.{route_levels, routes_levels, route_fields}
+use Rattle.am_config.specs.ConfigFile.{has_receivers_below, have_receivers_below}
+use Rattle.am_config.specs.ConfigFile.{route_matcher_fields, SaysReceiver, SaysSettings}
+use Rattle.am_config.specs.ConfigFile.{SaysRoute, SaysRoutes, SaysConfig}
+use Rattle.am_config.specs.ConfigForm.{RouteFields, route_fields_form, route_form}
+use Rattle.am_config.specs.ConfigForm.{next_child_form, config_form, route_settings_form}
+use Rattle.am_config.specs.Path.{list_of}
+use Rattle.am_json.proofs.Deciding.{accept_decides, behind_decides, boolean_decides, count_decides}
+use Rattle.am_json.proofs.Deciding.{found_decides, object_of, only_fields_decide}
+use Rattle.am_json.proofs.Deciding.{optional_items_decide, said_as, then_decides, within_decides}
+use Rattle.am_json.proofs.Items.{AllFit, read_items_decide}
+use Rattle.am_json.proofs.Readings.{Decides}
+use Rattle.am_config.proofs.ConfigParts.{names_decide, receiver_decides}
+use Rattle.am_config.proofs.MatchersSay.{matchers_decide}
+use Rattle.am_config.proofs.Paths.{some_levels}
+use Rattle.am_config.proofs.Routing.{count_push}
+use Rattle.am_config.proofs.RuleSays.{rules_decide}
 
 -- ---- The fields of a route.
 
-fields_read : (names : List (List ℕ)) (parent : Option ℕ) (before : ℕ) (d : Data)
-    (fields : RouteFields) → SaysSettings names parent d fields.settings
-    → HasItems (codes "routes") d fields.items → before + 1 ≤ MAX_ROUTES
-    → (is_none parent ≡ true → fields.settings.matchers ≡ [])
-    → (route_fields_form names parent before d).result ≡ Ok fields
+-- the settings that are said; those of the top-level route have no matchers
+abbrev AreSettings : List (List ℕ) → Option ℕ → Data → RouteSettings → Type 0
+AreSettings names parent d settings =
+    SaysSettings names parent d settings × (is_none parent ≡ true → settings.matchers ≡ [])
+
+settings_decide : (names : List (List ℕ)) (parent : Option ℕ) (d : Data)
+    → Decides (AreSettings names parent d) ((route_settings_form names parent d).result)
+unfolding route_settings_form
+settings_decide names parent d =
+    said_as
+    (then_decides (only_fields_decide route_fields d)
+    (λ _. then_decides (receiver_decides names parent d)
+    (λ receiver. then_decides (matchers_decide route_matcher_fields (is_none parent) d)
+    (λ matchers. then_decides (boolean_decides false (codes "continue") d)
+    (λ continues. accept_decides
+    (record { receiver = receiver; matchers = matchers; continues = continues }))))))
+    (λ settings (_, only, (receiver, r, (matchers, (m, none), (continues, c, is)))).
+    subst (λ (s : RouteSettings). AreSettings names parent d s) is
+    (record { only = only; receiver_is = r; matchers_are = m; continues_is = c }, none))
+    (λ settings (said, none). (
+      tt,
+      said.only,
+      (
+        settings.receiver,
+        said.receiver_is,
+        (settings.matchers, (said.matchers_are, none), (settings.continues, said.continues_is, refl)),
+      ),
+    ))
+
+-- there is room for a route, and these are its settings and the values of its children
+pub record AreFields (names : List (List ℕ)) (parent : Option ℕ) (before : ℕ) (d : Data)
+    (fields : RouteFields) : Type 0 where
+  pub room : before + 1 ≤ MAX_ROUTES
+  pub settings : AreSettings names parent d fields.settings
+  pub items : HasItems (codes "routes") d fields.items
+
+pub fields_decide : (names : List (List ℕ)) (parent : Option ℕ) (before : ℕ) (d : Data)
+    → Decides (AreFields names parent before d) ((route_fields_form names parent before d).result)
 unfolding route_fields_form
-fields_read names parent before d fields said items room none =
-    rw (
-      check_count_fits MAX_ROUTES (before + 1) room,
-      settings_read names parent d fields.settings said none,
-      optional_array_reads (codes "routes") d fields.items items,
-    ) refl
+fields_decide names parent before d =
+    said_as
+    (then_decides (count_decides MAX_ROUTES (before + 1))
+    (λ _. then_decides (settings_decide names parent d)
+    (λ settings. then_decides (optional_items_decide (codes "routes") d)
+    (λ items. accept_decides (record { settings = settings; items = items })))))
+    (λ fields (_, room, (settings, said, (items, has, is))).
+    subst (λ (f : RouteFields). AreFields names parent before d f) is
+    (record { room = room; settings = said; items = has }))
+    (λ fields said.
+    (tt, said.room, (fields.settings, said.settings, (fields.items, said.items, refl))))
 
 -- ---- Routes.
 
-children_say_all : (names : List (List ℕ)) (left receiver before : ℕ)
-    → ((n : ℕ) (d : Data) (t : RouteTree)
-    → (route_form names left (Some receiver) n d).result ≡ Ok t
-    → SaysRoute names (Some receiver) d t)
-    → (earlier : List RouteTree) (ds : List Data) (all : List RouteTree)
-    → (read_items (next_child_form names left receiver before) earlier ds).result ≡ Ok all
-    → (more : List RouteTree) × (all ≡ earlier ++ more)
-    × SaysRoutes names receiver ds (routes_of more)
-unfolding read_each read_next_item
-children_say_all names left receiver before one earlier [] all h =
-    ([], sym (same_read earlier all h) ∙ sym (append-nil earlier), tt)
-children_say_all names left receiver before one earlier (d ∷ ds) all h =
-    let child = item_first (next_child_form names left receiver before) earlier d ds all h in
-    let said = one (before + routes_count (routes_of earlier)) d child.0 child.1 in
-    let rest =
-    children_say_all names left receiver before one (earlier ++ child.0 ∷ []) ds all child.2 in
-    (child.0 ∷ rest.0, rest.1 ∙ append_assoc earlier (child.0 ∷ []) rest.0, (said, rest.2))
+-- a route that is said, with `left` levels left and `before` routes before it
+pub record IsSaid (names : List (List ℕ)) (left : ℕ) (parent : Option ℕ) (before : ℕ) (d : Data)
+    (t : RouteTree) : Type 0 where
+  pub says : SaysRoute names parent d t
+  pub levels : route_levels t ≤ left
+  pub number : before + route_count t ≤ MAX_ROUTES
+  pub unmatched : is_none parent ≡ true → matchers_of t ≡ []
 
-pub route_says : (names : List (List ℕ)) (left : ℕ) (parent : Option ℕ) (before : ℕ) (d : Data)
-    (t : RouteTree) → (route_form names left parent before d).result ≡ Ok t
-    → SaysRoute names parent d t
-route_says names zero parent before d t h = absurd (no_level names parent before d t h)
-route_says names (suc left) parent before d t h =
-    let read = is_read names left parent before d t h in
-    let settings = read.fields.settings in
-    let fields = are_read names parent before d read.fields read.fields_are in
-    let all =
-    children_say_all names left settings.receiver (before + 1)
-    (λ n e s. route_says names left (Some settings.receiver) n e s) [] read.fields.items
-    read.children read.children_are in
-    let are : SaysRoutes names settings.receiver read.fields.items (routes_of read.children) =
-    subst (λ (ts : List RouteTree). SaysRoutes names settings.receiver read.fields.items
-    (routes_of ts)) (sym all.1) all.2 in
-    let whole : SaysRoute names parent d (route settings (routes_of read.children)) = record {
-      settings_are = settings_say names parent d settings fields.settings;
-      items = read.fields.items;
-      is_array = optional_array_says (codes "routes") d read.fields.items fields.items;
-      children = are;
-    } in
-    subst (λ (s : RouteTree). SaysRoute names parent d s) read.is whole
+-- a child fits behind the earlier ones
+record ChildFits (left before : ℕ) (earlier : List RouteTree) (t : RouteTree) : Type 0 where
+  levels : route_levels t ≤ left
+  number : before + routes_count (routes_of earlier) + route_count t ≤ MAX_ROUTES
+
+module _ (left before : ℕ) where
+  fitted : (earlier ts : List RouteTree) → before + routes_count (routes_of earlier) ≤ MAX_ROUTES
+      → AllFit (ChildFits left before) earlier ts
+      → (routes_levels (routes_of ts) ≤ left)
+      × (before + routes_count (routes_of earlier) + routes_count (routes_of ts) ≤ MAX_ROUTES)
+  fitted earlier [] room fits = (omega arith, omega arith)
+  fitted earlier (t ∷ ts) room fits =
+      let push = count_push earlier t in
+      let rest =
+      fitted (earlier ++ t ∷ []) ts (omega (arith, push, fits.0.number)) fits.1 in
+      (omega (arith, fits.0.levels, rest.0), omega (arith, push, rest.1))
+
+  fitting : (earlier ts : List RouteTree) → routes_levels (routes_of ts) ≤ left
+      → before + routes_count (routes_of earlier) + routes_count (routes_of ts) ≤ MAX_ROUTES
+      → AllFit (ChildFits left before) earlier ts
+  fitting earlier [] levels total = tt
+  fitting earlier (t ∷ ts) levels total = (
+    record { levels = omega (arith, levels); number = omega (arith, total) },
+    fitting (earlier ++ t ∷ []) ts (omega (arith, levels))
+        (omega (arith, total, count_push earlier t)),
+  )
+
+module _ (names : List (List ℕ)) (receiver : ℕ) where
+  each_said : (ds : List Data) (ts : List RouteTree) → AllZip (SaysRoute names (Some receiver)) ds ts
+      → SaysRoutes names receiver ds (routes_of ts)
+  each_said [] [] said = tt
+  each_said [] (t ∷ ts) said = absurd said
+  each_said (d ∷ ds) [] said = absurd said
+  each_said (d ∷ ds) (t ∷ ts) said = (said.0, each_said ds ts said.1)
+
+  said_each : (ds : List Data) (ts : Routes) → SaysRoutes names receiver ds ts
+      → AllZip (SaysRoute names (Some receiver)) ds (list_of ts)
+  said_each [] no_routes said = tt
+  said_each [] (next_route t ts) said = absurd said
+  said_each (d ∷ ds) no_routes said = absurd said
+  said_each (d ∷ ds) (next_route t ts) said = (said.0, said_each ds ts said.1)
 
 of_list : (ts : Routes) → routes_of (list_of ts) ≡ ts
 of_list no_routes = refl
 of_list (next_route t ts) = ap (λ (us : Routes). next_route t us) (of_list ts)
 
-children_read_all : (names : List (List ℕ)) (left receiver before : ℕ)
-    → ((n : ℕ) (d : Data) (t : RouteTree) → SaysRoute names (Some receiver) d t
-    → route_levels t ≤ left → n + route_count t ≤ MAX_ROUTES
-    → (route_form names left (Some receiver) n d).result ≡ Ok t)
-    → (earlier : List RouteTree) (ds : List Data) (ts : Routes) → SaysRoutes names receiver ds ts
-    → routes_levels ts ≤ left
-    → before + routes_count (routes_of earlier) + routes_count ts ≤ MAX_ROUTES
-    → (read_items (next_child_form names left receiver before) earlier ds).result ≡ Ok
-    (earlier ++ list_of ts)
-unfolding read_each read_next_item
-children_read_all names left receiver before one earlier [] no_routes said levels total =
-    ap (λ (xs : List RouteTree). Ok xs) (sym (append-nil earlier))
-children_read_all names left receiver before one earlier [] (next_route t ts) said levels total =
-    absurd said
-children_read_all names left receiver before one earlier (d ∷ ds) no_routes said levels total =
-    absurd said
-children_read_all names left receiver before one earlier (d ∷ ds) (next_route t ts) said levels
-    total =
-    let first : (next_child_form names left receiver before earlier d).result ≡ Ok t =
-    one (before + routes_count (routes_of earlier)) d t said.0 (omega (arith, levels))
-    (omega (arith, total)) in
-    let rest =
-    children_read_all names left receiver before one (earlier ++ t ∷ []) ds ts said.1
-    (omega (arith, levels)) (omega (arith, total, count_push earlier t)) in
-    rw (first, rest) (ap (λ (xs : List RouteTree). Ok xs)
-    (append_assoc earlier (t ∷ []) (list_of ts)))
+-- the children that are read of the values of a route
+abbrev AreChildren : List (List ℕ) → ℕ → ℕ → RouteFields → List RouteTree → Type 0
+AreChildren names left before fields ts =
+    AllZip (SaysRoute names (Some fields.settings.receiver)) fields.items ts
+    × AllFit (ChildFits left (before + 1)) [] ts
 
-pub route_reads : (names : List (List ℕ)) (left : ℕ) (parent : Option ℕ) (before : ℕ) (d : Data)
-    (t : RouteTree) → SaysRoute names parent d t → route_levels t ≤ left
-    → before + route_count t ≤ MAX_ROUTES → (is_none parent ≡ true → matchers_of t ≡ [])
-    → (route_form names left parent before d).result ≡ Ok t
+in_parts : (names : List (List ℕ)) (left : ℕ) (parent : Option ℕ) (before : ℕ) (d : Data)
+    (t : RouteTree) → IsSaid names (suc left) parent before d t
+    → (fields : RouteFields) × AreFields names parent before d fields
+    × ((ts : List RouteTree) × AreChildren names left before fields ts
+    × (route fields.settings (routes_of ts) ≡ t))
+in_parts names left parent before d (route settings children) said =
+    let same = of_list children in (
+      record { settings = settings; items = said.says.items },
+      record {
+        room = omega (arith, said.number);
+        settings = (said.says.settings_are, said.unmatched);
+        items = said.says.is_array;
+      },
+      (
+        list_of children,
+        (
+          said_each names settings.receiver said.says.items children said.says.children,
+          fitting left (before + 1) [] (list_of children)
+              (omega (arith, said.levels, ap routes_levels same))
+              (omega (arith, said.number, ap routes_count same)),
+        ),
+        ap (λ (ts : Routes). route settings ts) same,
+      ),
+    )
+
+route_decides : (names : List (List ℕ)) (left : ℕ) (parent : Option ℕ) (before : ℕ) (d : Data)
+    → Decides (IsSaid names left parent before d) ((route_form names left parent before d).result)
 unfolding route_form
-route_reads names zero parent before d (route settings children) said levels total none =
-    absurd (omega (arith, levels))
-route_reads names (suc left) parent before d (route settings children) said levels total none =
-    let fields =
-    fields_read names parent before d (record { settings = settings; items = said.items })
-    said.settings_are said.is_array (omega (arith, total)) none in
-    let no_root : is_none (Some settings.receiver) ≡ true → ⊥ = λ e. cc in
-    let all =
-    children_read_all names left settings.receiver (before + 1)
-    (λ n e s said_s few count. route_reads names left (Some settings.receiver) n e s said_s
-    few count (λ x. absurd (no_root x))) [] said.items children said.children
-    (omega (arith, levels)) (omega (arith, total)) in
-    rw (fields, all) (ap (λ (ts : Routes). Ok (route settings ts)) (of_list children))
+route_decides names zero parent before d = record {
+  says = λ t h. absurd cc;
+  reads = λ t said. absurd (omega (arith, said.levels, some_levels t));
+}
+route_decides names (suc left) parent before d =
+    said_as
+    (then_decides (fields_decide names parent before d)
+    (λ fields. then_decides
+    (within_decides (to_field (codes "routes"))
+    (read_items_decide (SaysRoute names (Some fields.settings.receiver))
+    (ChildFits left (before + 1)) (next_child_form names left fields.settings.receiver (before + 1))
+    (λ earlier e. said_as
+    (route_decides names left (Some fields.settings.receiver)
+    (before + 1 + routes_count (routes_of earlier)) e)
+    (λ t said. (said.says, record { levels = said.levels; number = said.number }))
+    (λ t (said, fits). record {
+      says = said;
+      levels = fits.levels;
+      number = fits.number;
+      unmatched = λ none. absurd cc;
+    })) fields.items))
+    (λ children. accept_decides (route fields.settings (routes_of children)))))
+    (λ t (fields, are, (ts, (each, fits), is)).
+    let fit = fitted left (before + 1) [] ts (omega (arith, are.room)) fits in
+    subst (λ (s : RouteTree). IsSaid names (suc left) parent before d s) is (record {
+      says = record {
+        settings_are = are.settings.0;
+        items = fields.items;
+        is_array = are.items;
+        children = each_said names fields.settings.receiver fields.items ts each;
+      };
+      levels = omega (arith, fit.0);
+      number = omega (arith, fit.1);
+      unmatched = are.settings.1;
+    }))
+    (λ t said. in_parts names left parent before d t said)
 
--- ---- The file.
+-- ---- The receivers of routes.
 
-pub config_says : (d : Data) (c : Configuration) → (config_form d).result ≡ Ok c → SaysConfig d c
+module _ (names : List (List ℕ)) where
+  abbrev IsBelow : Option ℕ → Type 0
+  IsBelow parent = IfSome parent (λ p. p < length names)
+
+  receiver_below : (parent : Option ℕ) (d : Data) (r : ℕ) → IsBelow parent
+      → SaysReceiver names parent d r → r < length names
+  receiver_below parent d r below (inl said) =
+      (position-Some (λ other. same_text other said.name) names r [] said.declared).0
+  receiver_below parent d r below (inr said) = rw said.inherited at below
+
+  mutual
+    route_below : (parent : Option ℕ) (d : Data) (t : RouteTree) → IsBelow parent
+        → SaysRoute names parent d t → has_receivers_below (length names) t ≡ true
+    route_below parent d (route settings children) below said =
+        let here =
+        receiver_below parent d settings.receiver below said.settings_are.receiver_is in
+        and_from _ _ (lt-ltb settings.receiver (length names) here)
+        (routes_below settings.receiver said.items children here said.children)
+
+    routes_below : (receiver : ℕ) (ds : List Data) (ts : Routes) → receiver < length names
+        → SaysRoutes names receiver ds ts → have_receivers_below (length names) ts ≡ true
+    routes_below receiver ds no_routes below said = refl
+    routes_below receiver [] (next_route t ts) below said = absurd said
+    routes_below receiver (d ∷ ds) (next_route t ts) below said =
+        and_from _ _ (route_below (Some receiver) d t below said.0)
+        (routes_below receiver ds ts below said.1)
+
+-- ---- The configuration.
+
+pub config_sound : (names : List (List ℕ)) (d : Data) (t : RouteTree) (rules : List Rule)
+    → (route_form names MAX_LEVELS None 0 d).result ≡ Ok t
+    → IsConfig (record { receivers = names; root = t; rules = rules })
+config_sound names d t rules h =
+    let said = (route_decides names MAX_LEVELS None 0 d).says t h in
+    record {
+      receivers_declared = route_below names None d t tt said.says;
+      root_unmatched = ap length (said.unmatched refl);
+      routes_within_limit = omega (arith, said.number);
+      levels_within_limit = said.levels;
+    }
+
+pub config_decides : (d : Data) → Decides (SaysConfig d) ((config_form d).result)
 unfolding config_form
-config_says d c h =
-    let members = bind_ok ((as_object d).result) _ c h in
-    let names = bind_ok ((receivers_form d).result) _ c members.2 in
-    let value = bind_ok ((required_field (codes "route") d).result) _ c names.2 in
-    let root =
-    bind_ok ((reading_within (to_field (codes "route"))
-    (route_form names.0 MAX_LEVELS None 0 value.0)).result) _ c value.2 in
-    let rules = bind_ok ((rules_form d).result) _ c root.2 in
-    let read =
-    within_ok (to_field (codes "route")) ((route_form names.0 MAX_LEVELS None 0 value.0).result)
-    root.0 root.1 in
-    let said = (names_decide d).says names.0 names.1 in
-    let sound = route_sound names.0 MAX_LEVELS None 0 value.0 root.0 tt read in
-    let ruled = (rules_decide d).says rules.0 rules.1 in
-    let is : record { receivers = names.0; root = root.0; rules = rules.0 } ≡ c =
-    same_read _ c rules.2 in
-    let all : SaysConfig d (record { receivers = names.0; root = root.0; rules = rules.0 }) = record {
-      items = said.items;
-      is_array = said.is_array;
-      names = said.names_are;
-      few = said.few;
-      distinct = said.distinct;
-      root = value.0;
-      has_root = ok_or_some (field (codes "route") d) _ value.0 value.1;
-      says_root = route_says names.0 MAX_LEVELS None 0 value.0 root.0 read;
-      unmatched = root_unmatched names.0 MAX_LEVELS 0 value.0 root.0 read;
-      few_routes = omega (arith, sound.number);
-      few_levels = sound.levels;
+config_decides d =
+    behind_decides (λ c said. object_of (codes "route") d said.root said.has_root)
+    (said_as
+    (then_decides (names_decide d)
+    (λ names. then_decides
+    (found_decides (field (codes "route") d)
+    (refusal_within (to_field (codes "route")) (refusal_here kinds.Shape)))
+    (λ value. then_decides
+    (within_decides (to_field (codes "route")) (route_decides names MAX_LEVELS None 0 value))
+    (λ root. then_decides (rules_decide d)
+    (λ rules. accept_decides (record { receivers = names; root = root; rules = rules }))))))
+    (λ c (names, n, (value, there, (root, said, (rules, ruled, is)))).
+    subst (λ (x : Configuration). SaysConfig d x) is (record {
+      items = n.items;
+      is_array = n.is_array;
+      names = n.names_are;
+      few = n.few;
+      distinct = n.distinct;
+      root = value;
+      has_root = there;
+      says_root = said.says;
+      unmatched = said.unmatched refl;
+      few_routes = omega (arith, said.number);
+      few_levels = said.levels;
       rule_items = ruled.items;
       is_rule_array = ruled.is_array;
       few_rules = ruled.few;
       rules = ruled.each;
-    } in
-    subst (λ (x : Configuration). SaysConfig d x) is all
-
-config_reads : (d : Data) (c : Configuration) → SaysConfig d c → (config_form d).result ≡ Ok c
-unfolding config_form
-config_reads d c said =
-    let members = object_of (codes "route") d said.root said.has_root in
-    let names =
-    (names_decide d).reads c.receivers
-    (record {
-      items = said.items;
-      is_array = said.is_array;
-      names_are = said.names;
-      few = said.few;
-      distinct = said.distinct;
-    }) in
-    let root =
-    route_reads c.receivers MAX_LEVELS None 0 said.root c.root said.says_root said.few_levels
-    (omega (arith, said.few_routes)) (λ _. said.unmatched) in
-    let rules =
-    (rules_decide d).reads c.rules
-    (record {
-      items = said.rule_items;
-      is_array = said.is_rule_array;
-      few = said.few_rules;
-      each = said.rules;
-    }) in
-    rw (members.1, names, said.has_root, root, rules) refl
-
-pub config_decides : (d : Data) → Decides (SaysConfig d) ((config_form d).result)
-config_decides d = record { says = config_says d; reads = config_reads d }
+    }))
+    (λ c said. (
+      c.receivers,
+      record {
+        items = said.items;
+        is_array = said.is_array;
+        names_are = said.names;
+        few = said.few;
+        distinct = said.distinct;
+      },
+      (
+        said.root,
+        said.has_root,
+        (
+          c.root,
+          record {
+            says = said.says_root;
+            levels = said.few_levels;
+            number = omega (arith, said.few_routes);
+            unmatched = λ _. said.unmatched;
+          },
+          (
+            c.rules,
+            record {
+              items = said.rule_items;
+              is_array = said.is_rule_array;
+              few = said.few_rules;
+              each = said.rules;
+            },
+            refl,
+          ),
+        ),
+      ),
+    )))

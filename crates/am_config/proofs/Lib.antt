@@ -2,8 +2,6 @@ pub mod Positions
 pub mod Routing
 pub mod ConfigParts
 pub mod MatchersSay
-pub mod SettingsSay
-pub mod Sound
 pub mod RuleSays
 pub mod ConfigSays
 pub mod ConfigLaws

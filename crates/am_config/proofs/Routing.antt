@@ -1,22 +1,19 @@
 -- Routes: reading one reads its own fields and then its children.
-use Rattle.std.proofs.Common.{◌≡◌, ◌≢◌, ℕ, suc, ◌+◌, ◌-◌, ◌≤◌, List, [], ◌∷◌, ◌++◌, Option, Ok}
-use Rattle.std.proofs.Common.{refl, sym, subst, arith, inl}
+use Rattle.std.proofs.Common.{◌≡◌, ◌≢◌, ℕ, suc, ◌+◌, ◌-◌, List, [], ◌∷◌, ◌++◌, Option, Ok}
+use Rattle.std.proofs.Common.{refl, sym, arith, inl}
 use Rattle.std.specs.Prelude.{codes}
 use Rattle.serde_json.specs.Data.{Data}
 use Rattle.am_universe.specs.declared.kind.Kind.TheVariants as kinds
 use Rattle.am_json.specs.declared.read_error.ReadError.{ReadError}
-use Rattle.am_config.specs.declared.limits.TheConstants.{MAX_ROUTES}
 use Rattle.am_json.specs.Pointer.{refusal_here, to_field}
-use Rattle.am_json.specs.Reading.{Reading, ◌>>=◌, accept, reading_within, check_count}
+use Rattle.am_json.specs.Reading.{Reading, ◌>>=◌, accept, reading_within}
 use Rattle.am_json.specs.Reading.{read_items}
 use Rattle.am_json.specs.Reading.{IsRefusalOrMemory, Fails}
 use Rattle.am_config.specs.ConfigFile.{RouteTree, route, routes_of, route_count, routes_count}
-use Rattle.am_config.specs.ConfigForm.{RouteFields, route_settings_form}
-use Rattle.am_config.specs.ConfigForm.{route_fields_form, route_form}
+use Rattle.am_config.specs.ConfigForm.{RouteFields, route_fields_form, route_form}
 use Rattle.am_config.specs.ConfigForm.{next_child_form}
 use Rattle.am_json.proofs.Readings.{Leads, leads-refl, leads_on, fails_led, fails_first}
-use Rattle.am_json.proofs.Readings.{fails_refused, bind_ok, check_count_ok, same_read}
-use Rattle.am_json.specs.OptionalItems.{read_optional_items}
+use Rattle.am_json.proofs.Readings.{fails_refused}
 
 abbrev children_of : List (List ℕ) → ℕ → ℕ → RouteFields → Reading (List RouteTree)
 children_of names left before fields =
@@ -93,28 +90,6 @@ children_give names levels parent before d fields children some gives all =
     (route_form names levels parent before d) all
     (children_lead names levels parent before d fields some gives) in
     sym l.result
-
--- there is room for the route, and its settings and the values of its children were read
-pub record AreRead (names : List (List ℕ)) (parent : Option ℕ) (before : ℕ) (d : Data)
-    (fields : RouteFields) : Type 0 where
-  pub room : before + 1 ≤ MAX_ROUTES
-  pub settings : (route_settings_form names parent d).result ≡ Ok fields.settings
-  pub items : (read_optional_items (codes "routes") d).result ≡ Ok fields.items
-
-pub are_read : (names : List (List ℕ)) (parent : Option ℕ) (before : ℕ) (d : Data)
-    (fields : RouteFields) → (route_fields_form names parent before d).result ≡ Ok fields
-    → AreRead names parent before d fields
-unfolding route_fields_form
-are_read names parent before d fields h =
-    let room = bind_ok ((check_count MAX_ROUTES (before + 1)).result) _ fields h in
-    let settings = bind_ok ((route_settings_form names parent d).result) _ fields room.2 in
-    let items = bind_ok ((read_optional_items (codes "routes") d).result) _ fields settings.2 in
-    subst (λ (f : RouteFields). AreRead names parent before d f) (same_read _ fields items.2)
-    (record {
-      room = check_count_ok MAX_ROUTES (before + 1) room.0 room.1;
-      settings = settings.1;
-      items = items.1;
-    })
 
 pub count_push : (ts : List RouteTree) (t : RouteTree)
     → routes_count (routes_of (ts ++ t ∷ [])) ≡ routes_count (routes_of ts) + route_count t

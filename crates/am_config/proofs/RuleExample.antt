@@ -7,7 +7,7 @@ use Rattle.am_config.specs.ConfigForm.{matchers_form, pairs_form}
 use Rattle.am_config.specs.ConfigForm.{next_pair_form, matcher_pair_form, equal_name_form}
 use Rattle.am_config.specs.ConfigForm.{rule_form}
 use Rattle.am_config.specs.RuleExample.{rule_example, example_rule}
-use Rattle.am_config.proofs.RuleSays.{rule_says}
+use Rattle.am_config.proofs.RuleSays.{rule_decides}
 use Rattle.am_json.specs.OptionalItems.{read_optional_array, read_optional_items}
 
 is_read : (rule_form rule_example).result ≡ Ok example_rule
@@ -17,4 +17,4 @@ unfolding rule_form check_only_fields matchers_form pairs_form read_each next_pa
 is_read = refl
 
 pub says : SaysRule rule_example example_rule
-says = rule_says rule_example example_rule is_read
+says = (rule_decides rule_example).says example_rule is_read

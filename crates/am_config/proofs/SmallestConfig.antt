@@ -19,7 +19,7 @@ use Rattle.am_config.specs.ConfigForm.{next_receiver_form, route_form, route_fie
 use Rattle.am_config.specs.ConfigForm.{route_settings_form, receiver_form, matchers_form}
 use Rattle.am_config.specs.SmallestConfig.{smallest_config_file, smallest_config}
 use Rattle.am_json.proofs.Values.{json_of_text}
-use Rattle.am_config.proofs.ConfigSays.{config_says}
+use Rattle.am_config.proofs.ConfigSays.{config_decides}
 use Rattle.am_json.specs.OptionalItems.{read_optional_array, read_optional_items}
 
 abbrev value : Data
@@ -58,5 +58,5 @@ says = (
   omega (arith, few_bytes),
   value,
   has_value,
-  config_says value smallest_config says_smallest,
+  (config_decides value).says smallest_config says_smallest,
 )

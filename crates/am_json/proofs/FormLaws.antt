@@ -155,7 +155,7 @@ each_stops read law before (x ∷ xs) =
     then_stops (read before x) (λ next. read_each read next xs) (law before x)
     (λ next. each_stops read law next xs)
 
-next_stops : {A : Type 0} (read : List A → Data → Reading A)
+pub next_stops : {A : Type 0} (read : List A → Data → Reading A)
     → ((before : List A) (d : Data) → StopsAtFirst (read before d)) → (before : List A) (d : Data)
     → StopsAtFirst (read_next_item read before d)
 unfolding read_next_item
@@ -173,7 +173,7 @@ module _ {A : Type 0} (read : Form Data A) (law : IsLawful read) (limit : ℕ) w
   counted_stop items =
       search (stops, read_items_stop (λ _ item. read item) (λ _ item. law item))
 
-  array_stops : (d : Data) → StopsAtFirst (read_item_array limit read d)
+  pub array_stops : (d : Data) → StopsAtFirst (read_item_array limit read d)
   unfolding read_item_array
   array_stops d = search (stops, counted_stop)
 
@@ -184,6 +184,21 @@ module _ {A : Type 0} (read : Form Data A) (law : IsLawful read) (limit : ℕ) w
       → StopsAtFirst (read_optional_array key limit read d)
   unfolding read_optional_array
   optional_array_stops key d = search (stops, optional_items_stop, counted_stop)
+
+-- the rules for all of these parts
+pub ruleset all_stop = (
+  stops,
+  only_fields_stop,
+  text_stops,
+  items_stop,
+  optional_items_stop,
+  boolean_or_stops,
+  each_stops,
+  next_stops,
+  counted_stop,
+  array_stops,
+  optional_array_stops,
+)
 
 -- the form of a file is lawful if the form of its value is
 pub file_stops : {A : Type 0} (form : Form Data A) → IsLawful form

@@ -6,17 +6,16 @@ use Rattle.std.specs.Prelude.{⊤}
 use Rattle.std.specs.List.{AllZip}
 use Rattle.std.proofs.lemmas.List.{drop_all, append-nil}
 use Rattle.serde_json.specs.Data.{Data, null}
-use Rattle.am_universe.specs.declared.kind.Kind.TheVariants as kinds
 use Rattle.am_json.specs.declared.read_error.ReadError.{ReadError}
 use Rattle.am_json.specs.Json.{items_of}
-use Rattle.am_json.specs.OptionalItems.{AreItems, SaysItemsOrNull}
-use Rattle.am_json.specs.Pointer.{refusal_here, to_item}
-use Rattle.am_json.specs.Reading.{Reading, ◌>>=◌, accept, reading_within, read_each, as_items}
-use Rattle.am_json.specs.Reading.{check_count, read_next_item, read_items, read_item_array}
+use Rattle.am_json.specs.OptionalItems.{AreItems, HasItems, SaysItemsOrNull, read_optional_array}
+use Rattle.am_json.specs.Pointer.{to_field, to_item}
+use Rattle.am_json.specs.Reading.{Reading, ◌>>=◌, accept, reading_within, read_each}
+use Rattle.am_json.specs.Reading.{read_next_item, read_items, read_item_array}
 use Rattle.am_json.specs.Reading.{read_counted, read_items_or_null, Fails}
-use Rattle.am_json.proofs.Readings.{Leads, leads_on, fails_led, fails_first, bind_ok, within_ok}
-use Rattle.am_json.proofs.Readings.{check_count_ok, check_count_fits, ok_or_some, same_read}
-use Rattle.am_json.proofs.Readings.{Decides}
+use Rattle.am_json.proofs.Readings.{Leads, leads_on, fails_led, fails_first, Decides}
+use Rattle.am_json.proofs.Deciding.{accept_decides, as_items_decides, count_decides}
+use Rattle.am_json.proofs.Deciding.{optional_items_decide, said_as, then_decides, within_decides}
 
 -- ---- A loop, with what is left to read.
 
@@ -105,74 +104,65 @@ module _ {A X : Type 0} (view : X → Data) (read : List A → Data → Reading 
 
 -- ---- What is read is said, and what is said is read.
 
--- the first item is read, and then the items after it
-pub item_first : {A : Type 0} (read : List A → Data → Reading A) (before : List A) (d : Data)
-    (ds : List Data) (all : List A) → (read_items read before (d ∷ ds)).result ≡ Ok all
-    → (x : A) × ((read before d).result ≡ Ok x)
-    × ((read_items read (before ++ x ∷ []) ds).result ≡ Ok all)
-unfolding read_each read_next_item
-item_first {A} read before d ds all h =
-    let next =
-    bind_ok ((read_next_item read before d).result) (λ ys. (read_items read ys ds).result) all
-    h in
-    let x = bind_ok ((reading_within (to_item (length before)) (read before d)).result)
-    (λ y. Ok (before ++ y ∷ [])) next.0 next.1 in (
-      x.0,
-      within_ok (to_item (length before)) ((read before d).result) x.0 x.1,
-      subst (λ (ys : List A). (read_items read ys ds).result ≡ Ok all)
-          (sym (same_read (before ++ x.0 ∷ []) next.0 x.2)) next.2,
-    )
-
 -- each value fits after the values before it
 abbrev pub AllFit : {A : Type 0} → (List A → A → Type 0) → List A → List A → Type 0
 AllFit Fits before [] = ⊤
 AllFit Fits before (x ∷ xs) = Fits before x × AllFit Fits (before ++ x ∷ []) xs
 
-module _ {A : Type 0} (Says : Data → A → Type 0) (Fits : List A → A → Type 0) (read : List A → Data
-    → Reading A) where
-  items_say : ((before : List A) (d : Data) (x : A) → (read before d).result ≡ Ok x
-      → Says d x × Fits before x) → (before : List A) (ds : List Data) (all : List A)
-      → (read_items read before ds).result ≡ Ok all → (xs : List A) × (all ≡ before ++ xs)
-      × AllZip Says ds xs × AllFit Fits before xs
-  unfolding read_each read_next_item
-  items_say says before [] all h =
-      ([], sym (same_read before all h) ∙ sym (append-nil before), tt, tt)
-  items_say says before (d ∷ ds) all h =
-      let first = item_first read before d ds all h in
-      let here = says before d first.0 first.1 in
-      let rest = items_say says (before ++ first.0 ∷ []) ds all first.2 in (
-        first.0 ∷ rest.0,
-        rest.1 ∙ append_assoc before (first.0 ∷ []) rest.0,
-        (here.0, rest.2),
-        (here.1, rest.3),
-      )
+module _ {A : Type 0} (Says : Data → A → Type 0) (Fits : List A → A → Type 0)
+    (read : List A → Data → Reading A) (decides : (before : List A) (d : Data)
+    → Decides (λ x. Says d x × Fits before x) ((read before d).result)) where
+  -- the values before these items, and the values of these items behind them
+  abbrev AreBehind : List A → List Data → List A → Type 0
+  AreBehind before ds all =
+      (xs : List A) × (before ++ xs ≡ all) × AllZip Says ds xs × AllFit Fits before xs
 
-  pub items_read : ((before : List A) (d : Data) (x : A) → Says d x → Fits before x
-      → (read before d).result ≡ Ok x) → (before : List A) (ds : List Data) (xs : List A)
-      → AllZip Says ds xs → AllFit Fits before xs
-      → (read_items read before ds).result ≡ Ok (before ++ xs)
-  unfolding read_each read_next_item
-  items_read reads before [] [] said fits = ap (λ (ys : List A). Ok ys) (sym (append-nil before))
-  items_read reads before [] (x ∷ xs) said fits = absurd said
-  items_read reads before (d ∷ ds) [] said fits = absurd said
-  items_read reads before (d ∷ ds) (x ∷ xs) said fits =
-      let here : (read before d).result ≡ Ok x = reads before d x said.0 fits.0 in
-      let rest : (read_items read (before ++ x ∷ []) ds).result ≡ Ok ((before ++ x ∷ []) ++ xs) =
-      items_read reads (before ++ x ∷ []) ds xs said.1 fits.1 in
-      rw (here, rest) (ap (λ (ys : List A). Ok ys) (append_assoc before (x ∷ []) xs))
+  next_decides : (before : List A) (d : Data)
+      → Decides (λ all. (x : A) × (Says d x × Fits before x) × (before ++ x ∷ [] ≡ all))
+      ((read_next_item read before d).result)
+  unfolding read_next_item
+  next_decides before d =
+      then_decides (within_decides (to_item (length before)) (decides before d))
+      (λ x. accept_decides (before ++ x ∷ []))
 
-  pub read_items_decide : ((before : List A) (d : Data)
-      → Decides (λ x. Says d x × Fits before x) ((read before d).result)) → (ds : List Data)
+  none_behind : (before xs all : List A) → AllZip Says [] xs → before ++ xs ≡ all → before ≡ all
+  none_behind before [] all said is = sym (append-nil before) ∙ is
+  none_behind before (x ∷ xs) all said is = absurd said
+
+  first_behind : (before : List A) (d : Data) (ds : List Data) (xs all : List A)
+      → AllZip Says (d ∷ ds) xs → AllFit Fits before xs → before ++ xs ≡ all
+      → (next : List A) × ((x : A) × (Says d x × Fits before x) × (before ++ x ∷ [] ≡ next))
+      × AreBehind next ds all
+  first_behind before d ds [] all said fits is = absurd said
+  first_behind before d ds (x ∷ xs) all said fits is = (
+    before ++ x ∷ [],
+    (x, (said.0, fits.0), refl),
+    (xs, append_assoc before (x ∷ []) xs ∙ is, said.1, fits.1),
+  )
+
+  behind_decide : (before : List A) (ds : List Data)
+      → Decides (AreBehind before ds) ((read_items read before ds).result)
+  unfolding read_each
+  behind_decide before [] =
+      said_as (accept_decides before) (λ all is. ([], append-nil before ∙ is, tt, tt))
+      (λ all (xs, is, said, fits). none_behind before xs all said is)
+  behind_decide before (d ∷ ds) =
+      said_as (then_decides (next_decides before d) (λ next. behind_decide next ds))
+      (λ all (next, (x, here, same), (xs, is, said, fits)). (
+        x ∷ xs,
+        sym (append_assoc before (x ∷ []) xs) ∙ ap (λ (b : List A). b ++ xs) same ∙ is,
+        (here.0, said),
+        (here.1, subst (λ (b : List A). AllFit Fits b xs) (sym same) fits),
+      ))
+      (λ all (xs, is, said, fits). first_behind before d ds xs all said fits is)
+
+  pub read_items_decide : (ds : List Data)
       → Decides (λ xs. AllZip Says ds xs × AllFit Fits [] xs) ((read_items read [] ds).result)
-  read_items_decide decides ds = record {
-    says = λ xs h.
-        let found = items_say (λ before d. (decides before d).says) [] ds xs h in
-        subst (λ (ys : List A). AllZip Says ds ys × AllFit Fits [] ys) (sym found.1)
-        (found.2, found.3);
-    reads = λ xs said.
-        items_read (λ before d x says fits. (decides before d).reads x (says, fits)) [] ds xs said.0
-        said.1;
-  }
+  read_items_decide ds =
+      said_as (behind_decide [] ds)
+      (λ xs (ys, is, said, fits).
+      subst (λ (zs : List A). AllZip Says ds zs × AllFit Fits [] zs) is (said, fits))
+      (λ xs (said, fits). (xs, refl, said, fits))
 
 -- any value fits after any others
 abbrev AlwaysFits : {A : Type 0} → List A → A → Type 0
@@ -185,80 +175,64 @@ all_fit before (x ∷ xs) = (tt, all_fit (before ++ x ∷ []) xs)
 items_of_null : (items : List Data) → items_of null ≡ Some items → ⊥
 items_of_null items h = cc
 
+-- an array that may be absent has at most `limit` items, and each says the element at its position
+pub record SaysEach {A : Type 0} (Says : Data → A → Type 0) (key : List ℕ) (limit : ℕ) (d : Data)
+    (xs : List A) : Type 0 where
+  pub items : List Data
+  pub is_array : HasItems key d items
+  pub few : length items ≤ limit
+  pub each : AllZip Says items xs
+
 -- each item is read by itself
 module _ {A : Type 0} (Says : Data → A → Type 0) (read : Data → Reading A) (decides : (d : Data)
     → Decides (Says d) ((read d).result)) where
-  pub each_says : (ds : List Data) (xs : List A)
-      → (read_items (λ before d. read d) [] ds).result ≡ Ok xs → AllZip Says ds xs
-  each_says ds xs h =
-      let found =
-      items_say Says AlwaysFits (λ before d. read d)
-      (λ before d x gives. ((decides d).says x gives, tt)) [] ds xs h in
-      subst (λ (ys : List A). AllZip Says ds ys) (sym found.1) found.2
-
-  pub each_reads : (ds : List Data) (xs : List A) → AllZip Says ds xs
-      → (read_items (λ before d. read d) [] ds).result ≡ Ok xs
-  each_reads ds xs said =
-      items_read Says AlwaysFits (λ before d. read d)
-      (λ before d x says fits. (decides d).reads x says) [] ds xs said (all_fit [] xs)
-
   pub each_decide : (ds : List Data)
       → Decides (AllZip Says ds) ((read_items (λ before d. read d) [] ds).result)
-  each_decide ds = record { says = each_says ds; reads = each_reads ds }
+  each_decide ds =
+      said_as
+      (read_items_decide Says AlwaysFits (λ _ d. read d)
+      (λ _ d. said_as (decides d) (λ x said. (said, tt)) (λ x said. said.0)) ds)
+      (λ xs said. said.0) (λ xs said. (said, all_fit [] xs))
 
   -- with at most `limit` items
   module _ (limit : ℕ) where
-    pub counted_says : (ds : List Data) (xs : List A)
-        → (read_counted limit read ds).result ≡ Ok xs
-        → (length ds ≤ limit) × AllZip Says ds xs
+    counted_decides : (ds : List Data)
+        → Decides (λ xs. (length ds ≤ limit) × AllZip Says ds xs)
+        ((read_counted limit read ds).result)
     unfolding read_counted
-    counted_says ds xs h =
-        let few =
-        bind_ok ((check_count limit (length ds)).result)
-        (λ _. (read_items (λ before item. read item) [] ds).result) xs h in
-        (check_count_ok limit (length ds) few.0 few.1, each_says ds xs few.2)
+    counted_decides ds =
+        said_as (then_decides (count_decides limit (length ds)) (λ _. each_decide ds))
+        (λ xs (_, few, each). (few, each)) (λ xs (few, each). (tt, few, each))
 
-    pub counted_reads : (ds : List Data) (xs : List A) → length ds ≤ limit → AllZip Says ds xs
-        → (read_counted limit read ds).result ≡ Ok xs
-    unfolding read_counted
-    counted_reads ds xs few said =
-        rw (check_count_fits limit (length ds) few, each_reads ds xs said) refl
-
-    array_says : (d : Data) (xs : List A) → (read_item_array limit read d).result ≡ Ok xs
-        → AreItems Says limit d xs
+    array_decides : (d : Data)
+        → Decides (AreItems Says limit d) ((read_item_array limit read d).result)
     unfolding read_item_array
-    array_says d xs h =
-        let items = bind_ok ((as_items d).result) (λ ds. (read_counted limit read ds).result) xs h in
-        let counted = counted_says items.0 xs items.2 in
-        record {
-          items = items.0;
-          is_array = ok_or_some (items_of d) (refusal_here kinds.Shape) items.0 items.1;
-          few = counted.0;
-          each = counted.1;
-        }
-
-    array_reads : (d : Data) (xs : List A) → AreItems Says limit d xs
-        → (read_item_array limit read d).result ≡ Ok xs
-    unfolding read_item_array
-    array_reads d xs said =
-        rw (said.is_array, counted_reads said.items xs said.few said.each) refl
+    array_decides d =
+        said_as (then_decides (as_items_decides d) counted_decides)
+        (λ xs (items, is_array, (few, each)).
+        record { items = items; is_array = is_array; few = few; each = each })
+        (λ xs said. (said.items, said.is_array, (said.few, said.each)))
 
     -- an array or `null`, which says that there are no items
-    or_null_says : (d : Data) (xs : List A) → (read_items_or_null limit read d).result ≡ Ok xs
-        → SaysItemsOrNull Says limit d xs
-    or_null_says null xs h = inl (refl, sym (same_read [] xs h))
-    or_null_says d xs h = inr (array_says d xs h)
-
-    array_is_read : (d : Data) (xs : List A) → AreItems Says limit d xs
-        → (read_items_or_null limit read d).result ≡ Ok xs
-    array_is_read null xs said = absurd (items_of_null said.items said.is_array)
-    array_is_read d xs said = array_reads d xs said
-
-    or_null_reads : (d : Data) (xs : List A) → SaysItemsOrNull Says limit d xs
-        → (read_items_or_null limit read d).result ≡ Ok xs
-    or_null_reads d xs (inl said) = rw (said.0, said.1) refl
-    or_null_reads d xs (inr said) = array_is_read d xs said
-
     pub or_null_decides : (d : Data)
         → Decides (SaysItemsOrNull Says limit d) ((read_items_or_null limit read d).result)
-    or_null_decides d = record { says = or_null_says d; reads = or_null_reads d }
+    or_null_decides null =
+        said_as (accept_decides []) (λ xs is. inl (refl, sym is)) (λ xs. elim [
+          | inl none ↦ sym none.1
+          | inr said ↦ absurd (items_of_null said.items said.is_array)
+        ])
+    or_null_decides d =
+        said_as (array_decides d) (λ xs said. inr said)
+        (λ xs. elim [ inl none ↦ absurd cc | inr said ↦ said ])
+
+    -- an array in a field that may be absent
+    pub optional_array_decides : (key : List ℕ) (d : Data)
+        → Decides (SaysEach Says key limit d) ((read_optional_array key limit read d).result)
+    unfolding read_optional_array
+    optional_array_decides key d =
+        said_as
+        (then_decides (optional_items_decide key d)
+        (λ items. within_decides (to_field key) (counted_decides items)))
+        (λ xs (items, is_array, (few, each)).
+        record { items = items; is_array = is_array; few = few; each = each })
+        (λ xs said. (said.items, said.is_array, (said.few, said.each)))

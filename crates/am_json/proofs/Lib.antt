@@ -2,8 +2,6 @@ pub mod Values
 pub mod Pointers
 pub mod Readings
 pub mod Items
-pub mod Fields
 pub mod Keys
-pub mod OptionalArrays
 pub mod Deciding
 pub mod FormLaws

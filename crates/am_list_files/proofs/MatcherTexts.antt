@@ -17,15 +17,13 @@ use Rattle.am_json.specs.declared.read_error.ReadError.TheVariants as errors
 use Rattle.am_json.specs.Pointer.{Refusal, refusal_here, refusal_within}
 use Rattle.am_json.specs.Reading.{Reading, ◌>>=◌, accept, accept_or, reading_within, check_count}
 use Rattle.am_json.specs.Reading.{MayRefuse, IsRefusalOrMemory, Gives}
-use Rattle.am_json.specs.Objections.{first_fault}
-use Rattle.am_list_files.specs.MatcherFaults.{check_patterns, pattern_objections}
+use Rattle.am_list_files.specs.MatcherFaults.{check_patterns}
 use Rattle.am_list_files.specs.MatcherTexts.{matcher_text_form, text_refusal}
 use Rattle.am_json.proofs.Readings.{refuses_first, refuses_later, refuses_within, check_count_fits}
-use Rattle.am_json.proofs.Readings.{check_count_over, check_count_ok, bind_ok}
-use Rattle.am_json.proofs.Readings.{Decides, within_ok}
-use Rattle.am_json.proofs.Readings.{ok_or_some, same_read}
-use Rattle.am_json.proofs.FormLaws.{unless_ok}
-use Rattle.am_list_files.proofs.Matching.{sound_passes, passes_sound, patterns_refused}
+use Rattle.am_json.proofs.Readings.{Decides, check_count_over}
+use Rattle.am_json.proofs.Deciding.{accept_decides, count_decides, found_decides, said_as}
+use Rattle.am_json.proofs.Deciding.{then_decides, within_decides}
+use Rattle.am_list_files.proofs.Matching.{patterns_decide, patterns_refused}
 
 abbrev err_of : ReadError → Result (List Condition) ReadError
 err_of e = Err e
@@ -33,16 +31,22 @@ err_of e = Err e
 refused_is_no_memory : (found : Refusal) → err_of (errors.Refused found) ≡ err_of errors.Memory → ⊥
 refused_is_no_memory found h = cc
 
-pub text_gives : (part limit : List ℕ) (text : List ℕ) (ms : List Condition) → Spells text ms
-    → length ms ≤ MAX_MATCHERS → IsTrue (have_valid_patterns ms)
-    → (matcher_text_form part limit text).result ≡ Ok ms
+-- a text that is read says the list that it spells
+pub spelled_decides : (part limit : List ℕ) (text : List ℕ)
+    → Decides (λ ms. Spells text ms × (length ms ≤ MAX_MATCHERS) × IsTrue (have_valid_patterns ms))
+    ((matcher_text_form part limit text).result)
 unfolding matcher_text_form
-text_gives part limit text ms spells le sound =
-    rw (
-      list_is_read text ms spells,
-      check_count_fits MAX_MATCHERS (length ms) le,
-      sound_passes ms sound,
-    ) refl
+spelled_decides part limit text =
+    said_as
+    (then_decides
+    (within_decides part (found_decides (read_list text) (refusal_here kinds.BadMatcher)))
+    (λ ms. then_decides (within_decides limit (count_decides MAX_MATCHERS (length ms)))
+    (λ _. then_decides (within_decides part (patterns_decide ms)) (λ _. accept_decides ms))))
+    (λ all (ms, read, (_, few, (_, valid, is))).
+    subst (λ (ns : List Condition).
+    Spells text ns × (length ns ≤ MAX_MATCHERS) × IsTrue (have_valid_patterns ns)) is
+    (list_is_spelled text ms read, few, valid))
+    (λ all (spells, few, valid). (all, list_is_read text all spells, (tt, few, (tt, valid, refl))))
 
 none_read : (text : List ℕ) (found : Option (List Condition)) → read_list text ≡ found
     → ((ms : List Condition) → Spells text ms → ⊥) → read_list text ≡ None
@@ -124,42 +128,3 @@ pub text_refused_here : (text : List ℕ) (kind : Kind) → (kind ≢ kinds.Memo
 text_refused_here text kind refused other =
     subst (λ (r : Refusal). MayRefuse (matcher_text_form [] [] text) r) (refused_here kind)
     (text_refused [] [] text kind (refused other))
-
--- ---- What a text says that is read.
-
-pub text_says : (part limit : List ℕ) (text : List ℕ) (all : List Condition)
-    → (matcher_text_form part limit text).result ≡ Ok all
-    → Spells text all × (length all ≤ MAX_MATCHERS) × IsTrue (have_valid_patterns all)
-unfolding matcher_text_form
-text_says part limit text all h =
-    let ms =
-    bind_ok ((reading_within part
-    (accept_or [] (read_list text) (refusal_here kinds.BadMatcher))).result) _ all h in
-    let few =
-    bind_ok ((reading_within limit (check_count MAX_MATCHERS (length ms.0))).result) _ all
-    ms.2 in
-    let sound = bind_ok ((reading_within part (check_patterns ms.0)).result) _ all few.2 in
-    let is : ms.0 ≡ all = same_read ms.0 all sound.2 in
-    let spells =
-    list_is_spelled text ms.0
-    (ok_or_some (read_list text) (refusal_here kinds.BadMatcher) ms.0
-    (within_ok part ((accept_or [] (read_list text) (refusal_here kinds.BadMatcher)).result)
-    ms.0 ms.1)) in
-    let count =
-    check_count_ok MAX_MATCHERS (length ms.0) few.0
-    (within_ok limit ((check_count MAX_MATCHERS (length ms.0)).result) few.0 few.1) in
-    let fine =
-    passes_sound ms.0 (unless_ok (first_fault (pattern_objections ms.0)) tt sound.0
-    (within_ok part ((check_patterns ms.0).result) sound.0 sound.1)) in (
-      subst (λ (ns : List Condition). Spells text ns) is spells,
-      subst (λ (ns : List Condition). length ns ≤ MAX_MATCHERS) is count,
-      subst (λ (ns : List Condition). IsTrue (have_valid_patterns ns)) is fine,
-    )
-
-pub spelled_decides : (part limit : List ℕ) (text : List ℕ)
-    → Decides (λ ms. Spells text ms × (length ms ≤ MAX_MATCHERS) × IsTrue (have_valid_patterns ms))
-    ((matcher_text_form part limit text).result)
-spelled_decides part limit text = record {
-  says = text_says part limit text;
-  reads = λ ms said. text_gives part limit text ms said.0 said.1 said.2;
-}

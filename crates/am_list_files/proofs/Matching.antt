@@ -1,6 +1,6 @@
 -- Matchers whose name and pattern are accepted, and those that are refused.
 use Rattle.std.proofs.Common.{◌≡◌, ◌≢◌, ℕ, List, [], ◌∷◌, ◌++◌, Bool, true, false, cond, Option}
-use Rattle.std.proofs.Common.{Some, None, Ok, IsTrue, inl, inr, refl, sym, ap, ◌∙◌}
+use Rattle.std.proofs.Common.{Some, None, IsTrue, inl, inr, refl, sym, ◌∙◌}
 use Rattle.std.proofs.lemmas.Bool.{and_parts}
 use Rattle.am_universe.specs.declared.kind.Kind.{Kind}
 use Rattle.am_labels.specs.declared.op.Op.{Op}
@@ -15,8 +15,8 @@ use Rattle.am_json.specs.Reading.{IsPatternRefusal, MayRefuse, refuse_for}
 use Rattle.am_list_files.specs.MatcherFaults.{check_matcher, check_patterns, label_name_fault}
 use Rattle.am_list_files.specs.MatcherFaults.{has_profile_pattern, pattern_objections}
 use Rattle.am_json.proofs.FormLaws.{unless_ok}
-use Rattle.am_json.proofs.Deciding.{cause_decides, said_as}
-use Rattle.am_json.proofs.Readings.{Decides, pattern_right, bind_ok, same_read}
+use Rattle.am_json.proofs.Deciding.{accept_decides, cause_decides, said_as, then_decides}
+use Rattle.am_json.proofs.Readings.{Decides, pattern_right}
 
 -- ---- Patterns.
 
@@ -57,7 +57,7 @@ met_is m ms =
     (pattern_objections ms)
 
 -- valid patterns have no fault
-pub sound_passes : (ms : List Condition) → IsTrue (have_valid_patterns ms) → fault_in ms ≡ None
+sound_passes : (ms : List Condition) → IsTrue (have_valid_patterns ms) → fault_in ms ≡ None
 sound_passes [] h = refl
 sound_passes (m ∷ ms) h =
     let split = and_parts (has_valid_pattern m) (have_valid_patterns ms) h in
@@ -70,10 +70,17 @@ sound_by : (m : Condition) (ms : List Condition) (b : Bool) → has_valid_patter
 sound_by m ms true is h rest = rw (is, rest h) refl
 sound_by m ms false is h rest = absurd cc
 
-pub passes_sound : (ms : List Condition) → fault_in ms ≡ None → IsTrue (have_valid_patterns ms)
+passes_sound : (ms : List Condition) → fault_in ms ≡ None → IsTrue (have_valid_patterns ms)
 passes_sound [] h = refl
 passes_sound (m ∷ ms) h =
     sound_by m ms (has_valid_pattern m) refl (sym (fault_is m ms) ∙ h) (passes_sound ms)
+
+pub patterns_decide : (ms : List Condition)
+    → Decides (λ _. IsTrue (have_valid_patterns ms)) ((check_patterns ms).result)
+patterns_decide ms = record {
+  says = λ x h. passes_sound ms (unless_ok (fault_in ms) tt x h);
+  reads = λ x valid. rw (sound_passes ms valid) refl;
+}
 
 refused_first : (m : Condition) (after : List Condition) (takes profile pattern : Bool)
     → takes_pattern m.op ≡ takes → in_profile m.value ≡ profile → is_pattern m.value ≡ pattern
@@ -128,22 +135,12 @@ named_decides name =
 
 -- ---- One matcher.
 
-checked_says : (n m : Condition) → (check_matcher n).result ≡ Ok m
-    → (n ≡ m) × IsTrue (has_valid_pattern n)
-checked_says n m h =
-    let fine = bind_ok ((check_patterns (n ∷ [])).result) (λ _. Ok n) m h in
-    let valid = passes_sound (n ∷ []) (unless_ok (fault_in (n ∷ [])) tt fine.0 fine.1) in
-    (same_read n m fine.2, (and_parts (has_valid_pattern n) true valid).0)
-
-checked_reads : (m : Condition) → IsTrue (has_valid_pattern m) → (check_matcher m).result ≡ Ok m
-checked_reads m valid = rw (fault_is m [], valid) refl
-
 pub checked_matcher_decides : (n : Condition)
     → Decides (λ m. (n ≡ m) × IsTrue (has_valid_pattern n)) ((check_matcher n).result)
-checked_matcher_decides n = record {
-  says = checked_says n;
-  reads = λ m said. checked_reads n said.1 ∙ ap (λ (x : Condition). Ok x) said.0;
-}
+checked_matcher_decides n =
+    said_as (then_decides (patterns_decide (n ∷ [])) (λ _. accept_decides n))
+    (λ m (_, valid, is). (is, (and_parts (has_valid_pattern n) true valid).0))
+    (λ m (is, valid). (tt, rw valid refl, is))
 
 pub same_condition : (m : Condition) (name : List ℕ) (op : Op) → m.name ≡ name → m.op ≡ op
     → record { name = name; op = op; value = m.value } ≡ m

@@ -25,7 +25,7 @@ use Rattle.am_list_files.specs.SilencesForm.{silence_form, silences_form}
 use Rattle.am_json.proofs.Deciding.{accept_decides, behind_decides, boolean_decides}
 use Rattle.am_json.proofs.Deciding.{cause_decides, checked_decides, found_decides, items_decide}
 use Rattle.am_json.proofs.Deciding.{said_as, text_decides, then_decides, within_decides}
-use Rattle.am_json.proofs.Fields.{object_of}
+use Rattle.am_json.proofs.Deciding.{object_of}
 use Rattle.am_json.proofs.Items.{each_decide, or_null_decides}
 use Rattle.am_json.proofs.Readings.{Decides, check_count_ok}
 use Rattle.am_list_files.proofs.Matching.{checked_matcher_decides, named_decides, same_condition}

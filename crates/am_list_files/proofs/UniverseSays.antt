@@ -39,9 +39,8 @@ use Rattle.am_json.proofs.Deciding.{accept_decides, as_text_decides, cause_decid
 use Rattle.am_json.proofs.Deciding.{checked_decides, count_decides, items_decide}
 use Rattle.am_json.proofs.Deciding.{only_fields_decide, said_as, text_decides, then_decides}
 use Rattle.am_json.proofs.Deciding.{within_decides}
-use Rattle.am_json.proofs.Fields.{as_text_says}
 use Rattle.am_json.proofs.Items.{AllFit, read_items_decide}
-use Rattle.am_json.proofs.OptionalArrays.{SaysEach, array_decides}
+use Rattle.am_json.proofs.Items.{SaysEach, optional_array_decides}
 use Rattle.am_json.proofs.Readings.{Decides, bind_ok, same_read, within_ok}
 use Rattle.am_list_files.proofs.MatcherTexts.{spelled_decides}
 
@@ -56,7 +55,7 @@ some_text_says : (d : Data) (value : Option (List ℕ))
 some_text_says d value h =
     let text = bind_ok ((as_text d).result) (λ t. Ok (Some t)) value h in
     subst (λ (v : Option (List ℕ)). SaysValue d v) (same_read (Some text.0) value text.2)
-    (as_text_says d text.0 text.1)
+    ((as_text_decides d).says text.0 text.1)
 
 read_value_says : (d : Data) (value : Option (List ℕ)) → (value_form d).result ≡ Ok value
     → SaysValue d value
@@ -276,7 +275,8 @@ lists_decide : (d : Data)
     → Decides (SaysEach SaysImpossible (codes "impossible") MAX_IMPOSSIBLE d)
     ((all_lists_form d).result)
 lists_decide =
-    array_decides SaysImpossible impossible_form list_decides (codes "impossible") MAX_IMPOSSIBLE
+    optional_array_decides SaysImpossible impossible_form list_decides MAX_IMPOSSIBLE
+    (codes "impossible")
 
 -- ---- The file.
 

@@ -16,7 +16,7 @@ use Rattle.am_list_files.specs.UniverseFile.{SaysImpossible, SaysUniverse, FileS
 use Rattle.am_list_files.specs.UniverseFile.{AreTextsOfLists, HasImpossibleTexts}
 use Rattle.am_list_files.specs.UniverseFile.{FileHasImpossibleTexts}
 use Rattle.am_list_files.specs.UniverseForm.{universe_form}
-use Rattle.am_json.proofs.Fields.{json_says}
+use Rattle.am_json.proofs.Deciding.{json_decides}
 use Rattle.am_list_files.proofs.UniverseSays.{universe_decides}
 
 -- ---- The items of the array that may be absent.
@@ -49,7 +49,7 @@ pub texts_are_found : (bytes : List ℕ) (d : Data) (s : Space) (texts : List (L
     → texts ≡ filter_map as_str (items_in_field (field (codes "impossible") d))
     → FileHasImpossibleTexts bytes texts
 texts_are_found bytes d s texts json read is =
-    let said = json_says bytes d json in
+    let said = (json_decides bytes).says d json in
     (said.0, d, said.1, rw is (texts_found d s ((universe_decides d).says s read)))
 
 -- the texts of a file say its impossible lists

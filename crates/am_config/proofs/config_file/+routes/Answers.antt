@@ -12,8 +12,9 @@ use Rattle.am_config.specs.ConfigFile.{RouteTree, routes_count, routes_of, route
 use Rattle.am_config.specs.ConfigForm.{next_child_form}
 use Rattle.am_json.proofs.Readings.{leads-refl, within_gives, within_if_ok}
 use Rattle.am_json.proofs.Items.{item_goes_on, item_ends, items_done}
-use Rattle.am_config.proofs.Routing.{too_deep, fields_fail, children_fail, children_give, are_read}
+use Rattle.am_config.proofs.Routing.{too_deep, fields_fail, children_fail, children_give}
 use Rattle.am_config.proofs.Routing.{count_push}
+use Rattle.am_config.proofs.ConfigSays.{fields_decide}
 use Rattle.am_config.proofs.config_file.+routes.Goals as goal
 
 pub read_route-returns-then-levels-eq0-clause-reads :
@@ -33,7 +34,7 @@ read_route-returns-in_err-settings-clause-reads t c =
 pub read_route-read_routes-requires : goal.read_route-read_routes-requires
 read_route-read_routes-requires t c = (
   omega (arith, c.decreases, c.if-levels-eq0.false),
-  (are_read (names_of c.args.names.now) c.args.parent c.args.before (view c.args.value.now)
+  ((fields_decide (names_of c.args.names.now) c.args.parent c.args.before (view c.args.value.now)).says
       (fields_view c.in_ok-settings.field-0) c.in_ok-settings.ensures).room,
 )
 

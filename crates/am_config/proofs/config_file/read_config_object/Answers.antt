@@ -5,7 +5,7 @@ use Rattle.am_json.specs.Pointer.{to_field}
 use Rattle.am_config.specs.ConfigForm.{route_form}
 use Rattle.am_config.specs.RouteView.{route_view, names_of}
 use Rattle.am_json.proofs.Readings.{within_ok, within_gives}
-use Rattle.am_config.proofs.Sound.{config_sound}
+use Rattle.am_config.proofs.ConfigSays.{config_sound}
 use Rattle.am_config.proofs.config_file.read_config_object.Goals as goal
 
 pub invariant_of-result : goal.invariant_of-result

@@ -1,12 +1,12 @@
 use Rattle.std.proofs.Common.{[]}
 use Rattle.am_json.specs.Pointer.{to_item}
-use Rattle.am_list_files.proofs.MatcherTexts.{text_gives, text_fails}
+use Rattle.am_list_files.proofs.MatcherTexts.{spelled_decides, text_fails}
 use Rattle.am_config.proofs.route_matchers.read_matcher_text_at.Goals as goal
 
 pub returns-in-Ok : goal.returns-in-Ok
 returns-in-Ok c =
-    text_gives (to_item c.args.i) [] c.args.text.now c.in-Ok.found c.in-Ok.ensures.spelled
-    c.in-Ok.ensures.at_most c.in-Ok.ensures.valid_patterns
+    (spelled_decides (to_item c.args.i) [] c.args.text.now).reads c.in-Ok.found
+    (c.in-Ok.ensures.spelled, c.in-Ok.ensures.at_most, c.in-Ok.ensures.valid_patterns)
 
 pub returns-in-Err : goal.returns-in-Err
 returns-in-Err c =
