@@ -92,14 +92,6 @@ pub map_of_flat_map : {X : Type 0} (p : ℕ) (f : X → List (List ℕ)) (xs : L
 map_of_flat_map p f [] = refl
 map_of_flat_map p f (x ∷ xs) = map-append (λ c. p ∷ c) (f x) (flat_map f xs) ∙ ap (λ t. map (λ c. p ∷ c) (f x) ++ t) (map_of_flat_map p f xs)
 
--- Below a prefix is what is below the prefixes that are longer by one position.
-pub below_by_next : (sizes prefix : List ℕ) → length prefix < length sizes
-    → below sizes prefix ≡ flat_map (λ p. below sizes (prefix ++ p ∷ [])) (range_with_len 0 (slice_index sizes (length prefix)))
-below_by_next [] prefix h = absurd (omega arith)
-below_by_next (size ∷ sizes) [] h = refl
-below_by_next (size ∷ sizes) (q ∷ prefix) h =
-    ap (map (λ c. q ∷ c)) (below_by_next sizes prefix (omega arith)) ∙ map_of_flat_map q (λ p. below sizes (prefix ++ p ∷ [])) _
-
 -- A range that is longer by one number.
 pub range_more : (first count : ℕ) → range_with_len first (suc count) ≡ range_with_len first count ++ (first + count) ∷ []
 range_more first zero = ap (λ n. n ∷ []) (omega arith)

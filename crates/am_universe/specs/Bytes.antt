@@ -26,9 +26,6 @@ slash = 47
 abbrev pub colon : ℕ
 colon = 58
 
-abbrev pub question_mark : ℕ
-question_mark = 63
-
 abbrev pub left_bracket : ℕ
 left_bracket = 91
 

@@ -42,12 +42,14 @@ pub fn choices_are_the_whole_choices()
 {}
 
 /// The choices are in the order of a dictionary, so none occurs twice.
+#[tactic(auto, using(crate::proofs::ChoiceLemmas::choices_sorted))]
 pub fn choices_ascend()
     ensures ascending { (sizes : List ℕ) → IsStrictlySortedBy (slice_cmp nat_cmp) (choices sizes) }
 {}
 
 /// In the label set of a choice, a declared label has the value at its position, or the empty text
 /// if that is absence.
+#[tactic(auto, using(crate::proofs::LabelSetLemmas::value_of_declared))]
 pub fn declared_value()
     ensures value { (u : List Label) (c : List ℕ) (i : ℕ) (label : Label) (position : ℕ)
         → IsUniverse u → slice_get u i ≡ Some label → slice_get c i ≡ Some position
@@ -55,6 +57,7 @@ pub fn declared_value()
 {}
 
 /// In the label set of a choice, a label that is not declared has the empty text.
+#[tactic(auto, using(crate::proofs::LabelSetLemmas::value_of_undeclared))]
 pub fn undeclared_value()
     ensures value { (u : List Label) (c name : List ℕ)
         → ¬ Contains (names u) name → value_of (label_set_of u c) name ≡ [] }
@@ -69,6 +72,7 @@ pub fn a_label_is_added_exactly_to_a_universe()
 {}
 
 /// Two different choices of one universe have different lines.
+#[tactic(auto, using(crate::proofs::LineLemmas::same_line))]
 pub fn one_choice_a_line()
     ensures same_choice { (u : List Label) (c d : List ℕ) → IsUniverse u
         → IsWhole (sizes u) c → IsWhole (sizes u) d
