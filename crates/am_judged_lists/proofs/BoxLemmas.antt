@@ -2,15 +2,15 @@
 use Rattle.std.proofs.Common.{◌≡◌, ◌≢◌, ℕ, zero, suc, ◌+◌, ◌<◌, ◌≤◌, Bool, true, false, not, ◌&&◌, ◌||◌, ◌==◌, ◌⊎◌}
 use Rattle.std.proofs.Common.{List, [], ◌∷◌, ◌++◌, length, take, get_or, set, nat_lt, refl, ap, sym, subst, ◌∙◌, inl, inr, arith}
 use Rattle.std.specs.List.{list_all, AllByRecursion}
-use Rattle.std.proofs.lemmas.Bool.{cases_eq, and_parts, and_from, and_right, eq-eqb, ne_eqb, lt-ltb, le-ltb, ltb-true}
-use Rattle.std.proofs.lemmas.List.{take_more, get_or_read, get_or-set_same, get_or-set_other, get_or_append_left, get_or_push, length-set, length-append}
-use Rattle.std.proofs.lemmas.List.Folds.{list_all_more, list_all_at}
+use Rattle.std.proofs.lemmas.Bool.{cases_eq, and_parts, and_from, eq-eqb, ne_eqb, lt-ltb, ltb-true}
+use Rattle.std.proofs.lemmas.List.{take_more, get_or_read, get_or-set_same, get_or-set_other, length-set}
+use Rattle.std.proofs.lemmas.List.Folds.{list_all_more}
 use Rattle.am_universe.specs.Choice.{admits, IsWhole}
 use Rattle.am_universe.proofs.WholeChoiceLemmas.{admitted_at}
 use Rattle.am_judged_lists.specs.declared.cube.LabelMask.{LabelMask}
 use Rattle.am_judged_lists.specs.declared.mask.Part.{Part}
 use Rattle.am_judged_lists.specs.declared.mask.Part.TheVariants.{Within, Outside}
-use Rattle.am_judged_lists.specs.Cube.{MaskedLabels, may_at, matches, reaches, reaches_all, permits_position}
+use Rattle.am_judged_lists.specs.Cube.{MaskedLabels, may_at, reaches, permits_position}
 use Rattle.am_judged_lists.specs.CubeView.{AscendByLabel}
 use Rattle.am_judged_lists.specs.Boxes.{is_in_part, box_permits, IsInBox, HasChoice, IsOpen, count_true, count_positions}
 use Rattle.am_judged_lists.proofs.ListLemmas.{all_pass, at_index, each_map, each_pushed, and_true}
@@ -216,10 +216,6 @@ pub record AreMatching (start now : List (List Bool)) (masks : List LabelMask) :
   pub before : (c : List ℕ) → IsInBox now c → IsInBox start c × (list_all (fits c) masks ≡ true)
   pub still : (c : List ℕ) → IsInBox start c → list_all (fits c) masks ≡ true → IsInBox now c
 
--- at the start, all choices fit
-pub matching_none : (start : List (List Bool)) → AreMatching start start []
-matching_none start = record { same = refl; before = λ c h. (h, refl); still = λ c h e. h }
-
 module _ (start now : List (List Bool)) (masks : List LabelMask) (i : ℕ) (m : LabelMask) (so_far : AreMatching start now (take i masks)) (low : i < length masks) (read : m ≡ get_or masks i m) where
   -- one mask more
   one_more : (c : List ℕ) → list_all (fits c) (take (i + 1) masks) ≡ (list_all (fits c) (take i masks) && fits c m)
@@ -248,39 +244,6 @@ pub record AreSeen (b : List (List Bool)) (cube : MaskedLabels) (masks : List La
   pub some : (labels ≡ 0 → ⊥) → IsOpen b cube last
   pub one : labels ≡ 1 → (c : List ℕ) → IsInBox b c → list_all (fits c) masks ≡ permits_position cube last (get_or c last 0)
   pub reached : (c : List ℕ) → IsInBox b c → list_all (reaches c) masks ≡ true
-
--- at the start, no mask has been seen
-pub seen_none : (b : List (List Bool)) (cube : MaskedLabels) (last : ℕ) → AreSeen b cube [] last 0
-seen_none b cube last = record { all = λ e c h. refl; some = λ h. absurd (h refl); one = λ e. absurd (omega (arith, e)); reached = λ c h. refl }
-
--- a position that a mask forbids
-pub misses : (b : List (List Bool)) (cube : MaskedLabels) (masks : List LabelMask) (i : ℕ) (m : LabelMask) → masks ≡ cube.masks → i < length masks → m ≡ get_or masks i m
-    → m.label < length b → ((p : ℕ) → (box_permits b m.label p && get_or m.mask p false) ≡ false) → cube.empty ≡ false → (c : List ℕ) → IsInBox b c → matches cube c ≡ false
-misses b cube masks i m same low read within none some c h =
-    let at = get_or c m.label 0 in
-    let forbidden : get_or m.mask at false ≡ false =
-    sym (ap (λ x. x && get_or m.mask at false) (h.each m.label within)) ∙ none at in
-    ap (λ x. x && reaches_all cube c)
-    (may_of_fits cube c some ∙ ap (list_all (fits c)) (sym same)
-    ∙ list_all_at (fits c) masks i m low (ap (fits c) (sym read) ∙ fits_inside b c m h within ∙ forbidden))
-
--- a mask of a label after those of the box
-pub misses_past : (b : List (List Bool)) (cube : MaskedLabels) (masks : List LabelMask) (i : ℕ) (m : LabelMask) → masks ≡ cube.masks → i < length masks → m ≡ get_or masks i m
-    → length b ≤ m.label → (c : List ℕ) → IsInBox b c → matches cube c ≡ false
-misses_past b cube masks i m same low read past c h =
-    ap (λ x. may_at cube c && x)
-    (ap (list_all (reaches c)) (sym same)
-    ∙ list_all_at (reaches c) masks i m low (ap (reaches c) (sym read) ∙ le-ltb m.label (length c) (omega (arith, past, h.long))))
-    ∙ and_right (may_at cube c) false refl
-
--- a cube whose masks are all reached matches the choices that fit its masks
-pub matches_of_fits : (cube : MaskedLabels) (c : List ℕ) (fit : Bool) → cube.empty ≡ false → list_all (fits c) cube.masks ≡ fit → list_all (reaches c) cube.masks ≡ true → matches cube c ≡ fit
-matches_of_fits cube c fit some is reached =
-    ap (λ x. may_at cube c && x) reached ∙ and_true (may_at cube c) ∙ may_of_fits cube c some ∙ is
-
--- a cube that permits no choice matches none
-pub matches_of_empty : (cube : MaskedLabels) (c : List ℕ) → cube.empty ≡ true → matches cube c ≡ false
-matches_of_empty cube c none = ap (λ x. x && reaches_all cube c) (may_of_empty cube c none)
 
 module _ (b : List (List Bool)) (cube : MaskedLabels) (masks : List LabelMask) (i : ℕ) (m : LabelMask) (last labels : ℕ)
     (so_far : AreSeen b cube (take i masks) last labels) (low : i < length masks) (read : m ≡ get_or masks i m) where
@@ -358,25 +321,6 @@ admits_from (n ∷ ns) (p ∷ c) e below =
 pub record IsFull (ns : List ℕ) (b : List (List Bool)) (count : ℕ) : Type 0 where
   pub long : length b ≡ count
   pub each : (i p : ℕ) → i < count → box_permits b i p ≡ nat_lt p (get_or ns i 0)
-
--- at the start, there is no label
-pub full_none : (ns : List ℕ) → IsFull ns [] 0
-full_none ns = record { long = refl; each = λ i p h. absurd (omega (arith, h)) }
-
--- one label more with all its positions
-pub full_more : (ns : List ℕ) (b : List (List Bool)) (count size : ℕ) (mask : List Bool) → IsFull ns b count → size ≡ get_or ns count 0 → ((p : ℕ) → get_or mask p false ≡ nat_lt p size)
-    → IsFull ns (b ++ mask ∷ []) (count + 1)
-full_more ns b count size mask so_far is full = record {
-  long = length-append b (mask ∷ []) ∙ ap (λ n. n + 1) so_far.long;
-  each = λ i p h. elim (cases_eq i count) [
-    | inl same ↦
-        ap (λ m. get_or m p false) (get_or_push b mask [] i (so_far.long ∙ sym same))
-        ∙ full p ∙ ap (nat_lt p) (is ∙ ap (λ n. get_or ns n 0) (sym same))
-    | inr other ↦
-        ap (λ m. get_or m p false) (get_or_append_left b (mask ∷ []) [] i (omega (arith, h, other, so_far.long)))
-        ∙ so_far.each i p (omega (arith, h, other))
-  ];
-}
 
 module _ (ns : List ℕ) (b : List (List Bool)) (count : ℕ) (full : IsFull ns b count) (whole : count ≡ length ns) (c : List ℕ) where
   -- a choice of the box of all choices is whole

@@ -1,5 +1,4 @@
 pub mod ListLemmas
-pub mod BitLemmas
 pub mod WordLemmas
 pub mod Completed
 pub mod VerdictLemmas

@@ -1,31 +1,14 @@
 -- What rows say of a choice, row by row and label by label.
-use Rattle.std.proofs.Common.{◌≡◌, ℕ, ◌+◌, ◌<◌, Bool, true, false, not, ◌&&◌, ◌||◌, ◌==◌, List, [], ◌∷◌, ◌++◌, length, map, take, get_or, Option, Some, None, unwrap_or, slice_get, refl, ap, sym, ◌∙◌, eqb, add-one, zero-add}
-use Rattle.std.specs.Option.{option_eq}
+use Rattle.std.proofs.Common.{◌≡◌, ℕ, ◌+◌, ◌<◌, Bool, true, false, not, ◌&&◌, ◌||◌, ◌==◌, List, [], ◌∷◌, ◌++◌, length, map, take, get_or, Option, Some, None, unwrap_or, slice_get, refl, ap, sym, ◌∙◌, add-one, zero-add}
 use Rattle.std.specs.List.{list_all, list_any, range_with_len, AllByRecursion}
 use Rattle.std.proofs.lemmas.Bool.{and_from, or_parts, eq-eqb, ne_eqb, lt-ltb}
 use Rattle.std.proofs.lemmas.List.{take_more, map-append}
 use Rattle.std.proofs.lemmas.Option.{slice_get_within, get_or_from_slice_get}
-use Rattle.std.proofs.lemmas.List.Folds.{list_all_more, list_all-append}
+use Rattle.std.proofs.lemmas.List.Folds.{list_all-append}
 use Rattle.am_universe.proofs.CompletionLemmas.{range_more}
 use Rattle.am_labels.specs.Row.{TruthRow, truth_among, truth_at, is_reached, row_holds}
 use Rattle.am_judged_lists.specs.Rows.{is_label, is_any_of, allows, all_allow, is_false_without, is_never_true}
 use Rattle.am_judged_lists.proofs.ListLemmas.{all_both, all_but, all_others, and_true}
-
--- one more row
-pub all_allow_more : (rows : List TruthRow) (i : ℕ) (row : TruthRow) (label j : ℕ) → i < length rows → row ≡ get_or rows i row
-    → all_allow (take (i + 1) rows) label j ≡ (all_allow (take i rows) label j && allows row label j)
-all_allow_more rows i row label j h here =
-    list_all_more (λ r. allows r label j) rows i row h ∙ ap (λ r. all_allow (take i rows) label j && allows r label j) (sym here)
-
--- the test that the code makes of a row's label
-test_of_label : (o : Option ℕ) (label : ℕ) → option_eq eqb o (Some label) ≡ is_label o label
-test_of_label None label = refl
-test_of_label (Some k) label = refl
-
-pub allows_by_test : (row : TruthRow) (o : Option ℕ) (label j : ℕ) (test : Bool) → o ≡ row.label → test ≡ option_eq eqb o (Some label)
-    → allows row label j ≡ (not test || truth_at row j)
-allows_by_test row o label j test same e =
-    ap (λ b. not b || truth_at row j) (sym (e ∙ test_of_label o label ∙ ap (λ x. is_label x label) same))
 
 -- the rows of two lists
 pub all_allow_joined : (rows more : List TruthRow) (label j : ℕ)
@@ -45,24 +28,6 @@ others_allow (row ∷ rows) label j none =
 pub grouped : (a x y : Bool) → ((a && x) && y) ≡ (a && (x && y))
 grouped true x y = refl
 grouped false x y = refl
-
-module _ (rows : List TruthRow) (i : ℕ) (row : TruthRow) (label j : ℕ) (old now : Bool)
-    (within : i < length rows) (here : row ≡ get_or rows i row)
-    (so_far : now ≡ (old && all_allow (take i rows) label j)) where
-  narrowed_more : (b : Bool) → allows row label j ≡ b
-      → (now && b) ≡ (old && all_allow (take (i + 1) rows) label j)
-  narrowed_more b e =
-      ap (λ a. a && b) so_far ∙ grouped old (all_allow (take i rows) label j) b
-      ∙ ap (λ a. old && (all_allow (take i rows) label j && a)) (sym e)
-      ∙ ap (λ a. old && a) (sym (all_allow_more rows i row label j within here))
-
-  pub narrowed_by : allows row label j ≡ (not true || truth_at row j)
-      → (now && truth_at row j) ≡ (old && all_allow (take (i + 1) rows) label j)
-  narrowed_by e = narrowed_more (truth_at row j) e
-
-  pub narrowed_past : allows row label j ≡ (not false || truth_at row j)
-      → now ≡ (old && all_allow (take (i + 1) rows) label j)
-  narrowed_past e = sym (and_true now) ∙ narrowed_more true e
 
 -- ---- A choice by its labels.
 

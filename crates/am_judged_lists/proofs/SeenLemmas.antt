@@ -1,12 +1,12 @@
 -- Cubes seen through places.
-use Rattle.std.proofs.Common.{◌≡◌, ℕ, ◌+◌, ◌<◌, zero, suc, Bool, true, false, not, ◌&&◌, List, [], ◌∷◌, ◌++◌, length, map, take, get_or, nat_lt, refl, ap, sym, ◌∙◌, arith}
+use Rattle.std.proofs.Common.{◌≡◌, ℕ, ◌<◌, zero, suc, Bool, true, false, not, ◌&&◌, List, [], ◌∷◌, length, map, take, get_or, nat_lt, ap, sym, ◌∙◌, arith}
 use Rattle.std.specs.List.{list_all, AllByRecursion}
-use Rattle.std.proofs.lemmas.Bool.{and_right, lt-ltb, ltb-true}
-use Rattle.std.proofs.lemmas.List.{take_more, get_or_default, length-map, get_or-map, map-append}
+use Rattle.std.proofs.lemmas.Bool.{lt-ltb, ltb-true}
+use Rattle.std.proofs.lemmas.List.{get_or_default, length-map, get_or-map}
 use Rattle.std.proofs.lemmas.List.Folds.{list_all-map}
 use Rattle.am_judged_lists.specs.declared.cube.LabelMask.{LabelMask}
-use Rattle.am_judged_lists.specs.Cube.{MaskedLabels, reaches, may_at, reaches_all, matches}
-use Rattle.am_judged_lists.specs.CubeView.{AscendByLabel, with_mask}
+use Rattle.am_judged_lists.specs.Cube.{MaskedLabels, reaches, reaches_all, matches}
+use Rattle.am_judged_lists.specs.CubeView.{AscendByLabel}
 use Rattle.am_judged_lists.specs.BlockView.{is_within}
 use Rattle.am_judged_lists.specs.Boxes.{seen}
 use Rattle.am_judged_lists.specs.Pairs.{ArePlaces}
@@ -35,13 +35,6 @@ moved places m = record { label = get_or places m.label 0; mask = m.mask }
 -- a cube with the masks so far, moved
 abbrev pub moved_so_far : List ℕ → List LabelMask → ℕ → MaskedLabels
 moved_so_far places masks i = record { empty = false; masks = map (moved places) (take i masks) }
-
--- one mask more
-pub moved_more : (places : List ℕ) (masks : List LabelMask) (i : ℕ) (m : LabelMask) → i < length masks → m ≡ get_or masks i m
-    → with_mask (moved_so_far places masks i) (get_or places m.label 0) m.mask ≡ moved_so_far places masks (i + 1)
-moved_more places masks i m low read =
-    let cube_of : List LabelMask → MaskedLabels = λ ms. record { empty = false; masks = ms } in
-    ap cube_of (sym (map-append (moved places) (take i masks) (m ∷ [])) ∙ ap (map (moved places)) (ap (λ x. take i masks ++ x ∷ []) read ∙ sym (take_more masks i m low)))
 
 module _ (places : List ℕ) (are : ArePlaces places) where
   -- the moved masks are of lower labels too
@@ -95,10 +88,3 @@ module _ (places c : List ℕ) (below : AllByRecursion (λ place. place < length
       ∙ ap (λ x. list_all (fits (seen places c)) cube.masks && x)
       (all_moved (reaches c) (reaches (seen places c)) moved_reaches cube.masks within)
       ∙ ap (λ e. (not e && list_all (fits (seen places c)) cube.masks) && reaches_all cube (seen places c)) (sym some)
-
-  -- a cube with a label that has no place matches nothing that is seen
-  pub never_seen : (cube : MaskedLabels) → is_within cube (length places) ≡ false → matches cube (seen places c) ≡ false
-  never_seen cube past =
-      ap (λ x. may_at cube (seen places c) && x)
-      (ap (λ n. list_all (λ m. nat_lt m.label n) cube.masks) seen_long ∙ past)
-      ∙ and_right (may_at cube (seen places c)) false refl

@@ -1,8 +1,7 @@
-ghost use Rattle.std.specs.Prelude.{◌≡◌, ◌≢◌, ℕ, ◌+◌, ◌-◌, ◌*◌, ◌^◌, ◌<◌, ◌≤◌, ◌++◌, ◌∷◌, ◌&&◌};
-ghost use Rattle.std.specs.Prelude.{false, length, min, slice_index, slice_index_or, nat_lt, Some};
-ghost use Rattle.std.specs.Prelude.{IfOk, IfSome, IsTrue, All, ◌==◌};
-ghost use Rattle.am_labels.specs.Row.{truth_at};
-ghost use Rattle.am_judged_lists.specs.Rows.{all_allow};
+ghost use Rattle.std.specs.Prelude.{◌≡◌, ℕ, ◌*◌, ◌/◌, ◌%◌, ◌<◌, ◌≤◌, ◌++◌, ◌&&◌, ◌||◌, ◌==◌};
+ghost use Rattle.std.specs.Prelude.{false, not, length, slice_index_or, nat_lt, Some};
+ghost use Rattle.std.specs.Prelude.{IfOk, IfSome, IsTrue, All};
+ghost use Rattle.am_judged_lists.specs.Rows.{allows, all_allow};
 ghost use Rattle.am_judged_lists.specs.CubeView.{permits_none, permits_all};
 ghost use Rattle.am_judged_lists.specs.MaskView.{is_set};
 ghost use Rattle.am_judged_lists.specs.Boxes.{is_in_part};
@@ -25,14 +24,13 @@ pub enum Part {
 }
 
 impl Part {
-    /// The bits of a word that are in this part. `mask` is the word of the mask at the same index.
-    fn of_word(self, word: u64, mask: u64) -> u64
-        ensures { (k : ℕ) → k < WORD
-            → is_set result k ≡ (is_set word k && is_in_part self (is_set mask k)) }
+    /// The bits that are in this part. `mask` is a word of the mask.
+    fn of_word(self, mask: u64) -> u64
+        ensures { (k : ℕ) → k < WORD → is_set result k ≡ is_in_part self (is_set mask k) }
     {
         match self {
-            Part::Within => word & mask,
-            Part::Outside => word & !mask,
+            Part::Within => mask,
+            Part::Outside => !mask,
         }
     }
 }
@@ -82,10 +80,13 @@ impl Mask {
     pub(crate) fn full(alloc: Global, size: usize) -> Result<Mask, AllocError>
         ensures { IfOk result (λ mask. (j : ℕ) → slice_index_or mask j false ≡ nat_lt j size) }
     {
-        Ok(Mask {
-            first: ones(size),
-            more: words_behind_first(alloc, size)?,
-        })
+        let more = vec![in alloc; u64::MAX; size.saturating_sub(1) / WORD]?;
+        let mut mask = Mask {
+            first: u64::MAX,
+            more,
+        };
+        mask.keep_bits(size / WORD, (1u64 << (size % WORD)) - 1);
+        Ok(mask)
     }
 
     /// Takes out the positions of a label of this size at which some row of that label is false.
@@ -95,37 +96,31 @@ impl Mask {
             ≡ (slice_index_or self.old j false && all_allow rows.now label j) }
     {
         for row in rows {
-            if row.label() == Some(label) {
-                self.narrow(row, size);
-            }
+            self.narrow(row, label, size);
         }
     }
 
-    /// Takes out the positions below a size at which a row is false.
-    fn narrow(&mut self, row: &Row, size: usize)
-        requires row { IfSome row.now.label (λ _. size ≤ length row.now.truths) }
+    /// Takes out the positions of a label of this size at which a row is false. A row of another
+    /// label has no effect.
+    fn narrow(&mut self, row: &Row, label: usize, size: usize)
+        requires row { row.now.label ≡ Some label → length row.now.truths ≡ size }
         ensures permitted { (j : ℕ) → j < size → slice_index_or self.new j false
-            ≡ (slice_index_or self.old j false && truth_at row.now j) }
+            ≡ (slice_index_or self.old j false && allows row.now label j) }
     {
-        for j in 0..size {
-            if !row.holds(j) {
-                self.take_out(j);
+        if row.label() == Some(label) {
+            for j in 0..size {
+                self.keep_if(j, row.holds(j));
             }
         }
     }
 
-    /// Takes out a position.
-    fn take_out(&mut self, j: usize)
-        ensures gone { slice_index_or self.new j false ≡ false }
-        ensures others { (k : ℕ) → k ≢ j
-            → slice_index_or self.new k false ≡ slice_index_or self.old k false }
+    /// Takes out a position, unless it is to be kept.
+    fn keep_if(&mut self, j: usize, kept: bool)
+        ensures { (k : ℕ) → slice_index_or self.new k false
+            ≡ (slice_index_or self.old k false && (not (k == j) || kept)) }
     {
-        let others = !(1u64 << (j % WORD));
-        let i = j / WORD;
-        if i == 0 {
-            self.first &= others;
-        } else if i <= self.more.len() {
-            self.more[i - 1] &= others;
+        if !kept {
+            self.keep_bits(j / WORD, !(1u64 << (j % WORD)));
         }
     }
 
@@ -135,9 +130,8 @@ impl Mask {
         ensures kept { (j : ℕ) → slice_index_or self.new j false ≡ (slice_index_or self.old j false
             && is_in_part part (slice_index_or other.now j false)) }
     {
-        self.first = part.of_word(self.first, other.first);
-        for i in 0..self.more.len() {
-            self.more[i] = part.of_word(self.more[i], word_in(other.more.as_slice(), i));
+        for i in 0..self.words() {
+            self.keep_bits(i, part.of_word(other.word(i)));
         }
     }
 
@@ -147,9 +141,8 @@ impl Mask {
         ensures kept { (j : ℕ) → slice_index_or self.new j false
             ≡ (slice_index_or self.old j false && j == position) }
     {
-        self.first &= word_of_one(position, 0);
-        for i in 0..self.more.len() {
-            self.more[i] &= word_of_one(position, i + 1);
+        for i in 0..self.words() {
+            self.keep_bits(i, word_of_one(position, i));
         }
     }
 
@@ -160,11 +153,8 @@ impl Mask {
         ensures none { result ≡ false → (j : ℕ) → (slice_index_or self.now j false
             && is_in_part part (slice_index_or other.now j false)) ≡ false }
     {
-        if part.of_word(self.first, other.first) != 0 {
-            return true;
-        }
-        for i in 0..self.more.len() {
-            if part.of_word(self.more[i], word_in(other.more.as_slice(), i)) != 0 {
+        for i in 0..self.words() {
+            if self.word(i) & part.of_word(other.word(i)) != 0 {
                 return true;
             }
         }
@@ -175,13 +165,9 @@ impl Mask {
     pub(crate) fn try_clone(&self, alloc: Global) -> Result<Mask, AllocError>
         ensures same { IfOk result (λ mask. mask ≡ self.now) }
     {
-        let mut more = Vec::with_capacity(alloc, self.more.len())?;
-        for word in self.more.as_slice() {
-            more.push(*word)?;
-        }
         Ok(Mask {
             first: self.first,
-            more,
+            more: self.more.as_slice().to_vec(alloc)?,
         })
     }
 
@@ -217,62 +203,51 @@ impl Mask {
     pub(crate) fn contains(&self, j: usize) -> bool
         ensures { result ≡ slice_index_or self.now j false }
     {
-        (word_at(self.first, self.more.as_slice(), j / WORD) >> (j % WORD)) & 1 == 1
+        (self.word(j / WORD) >> (j % WORD)) & 1 == 1
     }
-}
 
-/// The word at `i`. `first` is the word at 0, and `more` has the words after it. After the last
-/// word, the result is 0.
-fn word_at(first: u64, more: &[u64], i: usize) -> u64
-    ensures { result ≡ slice_index (first ∷ more.now) i }
-{
-    if i == 0 {
-        return first;
+    /// The number of words.
+    fn words(&self) -> usize
+        ensures { WORD * result ≡ length self.now }
+    {
+        self.more.len() + 1
     }
-    word_in(more, i - 1)
-}
 
-/// The word at `i`, or 0 after the last word.
-fn word_in(words: &[u64], i: usize) -> u64
-    ensures { result ≡ slice_index words.now i }
-{
-    match words.get(i) {
-        Some(word) => *word,
-        None => 0,
+    /// The word at `i`, or 0 after the last word.
+    fn word(&self, i: usize) -> u64
+        ensures { (j : ℕ) → j / WORD ≡ i
+            → is_set result (j % WORD) ≡ slice_index_or self.now j false }
+    {
+        if i == 0 {
+            return self.first;
+        }
+        match self.more.get(i - 1) {
+            Some(word) => *word,
+            None => 0,
+        }
+    }
+
+    /// Takes out the positions of the word at `i` whose bits are not in `bits`.
+    fn keep_bits(&mut self, i: usize, bits: u64)
+        ensures same { length self.new ≡ length self.old }
+        ensures kept { (j : ℕ) → slice_index_or self.new j false ≡ (slice_index_or self.old j false
+            && (not (j / WORD == i) || is_set bits (j % WORD))) }
+    {
+        if i == 0 {
+            self.first &= bits;
+        } else if i <= self.more.len() {
+            self.more[i - 1] &= bits;
+        }
     }
 }
 
 /// The word at `i` of a mask that permits one position only.
 fn word_of_one(position: usize, i: usize) -> u64
-    ensures { (k : ℕ) → k < WORD → is_set result k ≡ (WORD * i + k == position) }
+    ensures { (j : ℕ) → j / WORD ≡ i → is_set result (j % WORD) ≡ (j == position) }
 {
     if position / WORD == i {
         1u64 << (position % WORD)
     } else {
         0
-    }
-}
-
-/// The words after the first one that permit all positions of a label of this size.
-fn words_behind_first(alloc: Global, size: usize) -> Result<Vec<u64>, AllocError>
-    ensures { IfOk result (λ words. (i : ℕ)
-        → slice_index words.items i ≡ 2 ^ min (size - WORD * (i + 1)) WORD - 1) }
-{
-    let count = size.saturating_sub(1) / WORD;
-    let mut words = Vec::with_capacity(alloc, count)?;
-    for i in 0..count {
-        words.push(ones(size - WORD * (i + 1)))?;
-    }
-    Ok(words)
-}
-
-/// A word with its `count` lowest bits set, or with all its bits set if it has fewer.
-fn ones(count: usize) -> u64
-    ensures { result ≡ 2 ^ min count WORD - 1 }
-{
-    if count < WORD {
-        (1u64 << count) - 1
-    } else {
-        u64::MAX
     }
 }

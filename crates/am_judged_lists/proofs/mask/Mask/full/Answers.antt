@@ -1,7 +1,10 @@
-use Rattle.am_judged_lists.proofs.BitLemmas.{full_at}
+use Rattle.std.proofs.Common.{◌/◌, ◌∙◌, ap}
+use Rattle.am_judged_lists.specs.declared.mask.TheConstants.{WORD}
+use Rattle.am_judged_lists.proofs.WordLemmas.{full_at}
 use Rattle.am_judged_lists.proofs.mask.Mask.full.Goals as goal
 
 pub returns : goal.returns
 returns c = λ j.
-    let more = c.in_ok-words_behind_first.field-0.items in
-    full_at c.ones.result c.args.size j more c.ones.ensures c.in_ok-words_behind_first.ensures
+    let ones = c.in_ok-more.ensures.items_if_clones_equal (λ y h. h) in
+    let enough = ap (λ n. n / WORD) c.saturating_sub.ensures in
+    rw ones at (c.keep_bits.ensures.kept j) ∙ full_at c.args.size (c.saturating_sub.result / WORD) j enough
