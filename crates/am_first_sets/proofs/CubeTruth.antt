@@ -1,7 +1,7 @@
 -- At a whole choice, a cube says whether the label set of the choice matches its list.
-use Rattle.std.proofs.Common.{◌≡◌, ℕ, Bool, true, false, not, cond, ◌&&◌, List, map, refl, ap, sym, ◌∙◌}
+use Rattle.std.proofs.Common.{◌≡◌, ℕ, Bool, true, false, not, cond, ◌&&◌, ◌||◌, List, [], ◌∷◌, map, refl, ap, sym, ◌∙◌}
 use Rattle.std.specs.Prelude.{IsTrue, if◌then◌else◌}
-use Rattle.std.specs.List.{list_any}
+use Rattle.std.specs.List.{list_all, list_any}
 use Rattle.am_universe.proofs.UniverseLemmas.{list_any-map}
 use Rattle.am_universe.specs.Universe.{Label, sizes}
 use Rattle.am_labels.specs.Space.{Space}
@@ -46,8 +46,13 @@ pub knows_possible : (s : Space) (cubes : List MaskedLabels)
     ≡ map (λ ms. verdict_of_list s.labels ms prefix) s.impossible)
     → KnowsPossible s cubes
 knows_possible s cubes same c whole =
-    ap not ((λ i. list_any (λ (cube : MaskedLabels). matches_is cube c i) cubes)
+    none_is (λ (cube : MaskedLabels). matches cube c) cubes
+    ∙ ap not ((λ i. list_any (λ (cube : MaskedLabels). matches_is cube c i) cubes)
     ∙ sym (list_any-map is_yes (λ (cube : MaskedLabels). verdict_at cube c) cubes)
     ∙ ap (list_any is_yes) (same c whole.0)
     ∙ list_any-map is_yes (λ (ms : List Condition). verdict_of_list s.labels ms c) s.impossible
     ∙ (λ i. list_any (λ (ms : List Condition). certain_where s.labels c whole ms i) s.impossible))
+  where
+    none_is : {X : Type 0} (p : X → Bool) (xs : List X) → list_all (λ x. not (p x)) xs ≡ not (list_any p xs)
+    none_is p [] = refl
+    none_is p (x ∷ xs) = elim (p x) as (λ b. (not b && list_all (λ y. not (p y)) xs) ≡ not (b || list_any p xs)) [ true ↦ refl | false ↦ none_is p xs ]

@@ -5,6 +5,5 @@ pub mod FirstLemmas
 pub mod BudgetLemmas
 pub mod SolverLemmas
 pub mod MeetingLemmas
-pub mod LiteralLemmas
 pub mod ReasonLemmas
 pub mod PairLemmas

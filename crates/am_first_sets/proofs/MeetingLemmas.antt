@@ -1,11 +1,12 @@
 -- Choices that wanted cubes match and unwanted ones do not.
-use Rattle.std.proofs.Common.{◌≡◌, ◌↔◌, ℕ, ◌+◌, ◌<◌, Bool, true, false, ◌&&◌, List, [], ◌∷◌}
-use Rattle.std.proofs.Common.{zero, suc, Option, Some, Bor, None, Result, Ok, Err, IfOk, IfSome, IfNone, length, take, get_or, slice_get}
+use Rattle.std.proofs.Common.{◌≡◌, ◌↔◌, ℕ, ◌<◌, Bool, true, false, ◌&&◌, List, [], ◌∷◌}
+use Rattle.std.proofs.Common.{Option, Some, Bor, None, Result, Ok, Err, IfOk, IfSome, IfNone, length, take, drop, get_or, slice_get}
 use Rattle.std.proofs.Common.{refl, ap, sym, ◌∙◌, inl, inr}
 use Rattle.std.specs.Prelude.{IsTrue}
-use Rattle.std.specs.List.{find}
-use Rattle.std.proofs.lemmas.Bool.{and_parts, and_from, cases_Bool}
-use Rattle.std.proofs.lemmas.List.Folds.{list_all_more, list_all_at}
+use Rattle.std.specs.List.{find, list_all}
+use Rattle.std.proofs.lemmas.Bool.{and_parts, and_from, and_left, cases_Bool}
+use Rattle.std.proofs.lemmas.List.{take-append-drop}
+use Rattle.std.proofs.lemmas.List.Folds.{list_all_at, list_all-append}
 use Rattle.am_labels.specs.Space.{Space, all_choices, is_possible_choice, IsChoiceOf}
 use Rattle.am_universe.specs.Universe.{sizes}
 use Rattle.am_judged_lists.specs.Cube.{MaskedLabels, matches}
@@ -18,51 +19,18 @@ use Rattle.am_first_sets.proofs.FirstPossible.{find_none, found_alike}
 
 -- ---- One wanted cube more.
 
-module _ (Start : Type 0) (old : List (List Bool)) (wanted : List (Bor MaskedLabels)) (i : ℕ)
-    (cube : Bor MaskedLabels) (c : List ℕ) (low : i < length wanted) (read : cube ≡ get_or wanted i cube)
-    (before : IsInBox old c ↔ Start × IsTrue (all_match (take i wanted) c)) where
-  abbrev first : Bool
-  first = all_match (take i wanted) c
-
-  more : all_match (take (i + 1) wanted) c ≡ (first && matches cube.now c)
-  more =
-      list_all_more (λ (x : Bor MaskedLabels). matches x.now c) wanted i cube low
-      ∙ ap (λ (x : Bor MaskedLabels). first && matches x.now c) (sym read)
-
-  pub wanted_more : (new : List (List Bool))
-      → (IsInBox new c ↔ IsInBox old c × IsTrue (matches cube.now c))
-      → IsInBox new c ↔ Start × IsTrue (all_match (take (i + 1) wanted) c)
-  wanted_more new kept = (
-    λ h.
-        let o = kept.0 h in
-        let w = before.0 o.0 in
-        (w.0, more ∙ and_from first (matches cube.now c) w.1 o.1),
-    λ h.
-        let parts = and_parts first (matches cube.now c) (sym more ∙ h.1) in
-        kept.1 (before.1 (h.0, parts.0), parts.1),
-  )
-
-  -- if it matches no choice that is left, there is no choice that all match
-  pub wanted_none : ((d : List ℕ) → IsInBox old d → matches cube.now d ≡ false) → Start
-      → all_match wanted c ≡ false
-  wanted_none misses start = elim (cases_Bool first) [
-    | inl all ↦
-        list_all_at (λ (x : Bor MaskedLabels). matches x.now c) wanted i cube low
-        (ap (λ (x : Bor MaskedLabels). matches x.now c) (sym read) ∙ misses c (before.1 (start, all)))
-    | inr fails ↦ none_of wanted i fails
-  ]
-    where
-      none_of : (cubes : List (Bor MaskedLabels)) (n : ℕ) → all_match (take n cubes) c ≡ false
-          → all_match cubes c ≡ false
-      none_of [] zero e = e
-      none_of [] (suc n) e = e
-      none_of (x ∷ cubes) zero e = let apart : true ≡ false = e in cc
-      none_of (x ∷ cubes) (suc n) e = elim (cases_Bool (matches x.now c)) [
-        | inl m ↦
-            ap (λ b. b && all_match cubes c) m
-            ∙ none_of cubes n (sym (ap (λ b. b && all_match (take n cubes) c) m) ∙ e)
-        | inr f ↦ ap (λ b. b && all_match cubes c) f
-      ]
+-- if it matches no choice that is left, there is no choice that all match
+pub wanted_none : (Start : Type 0) (old : List (List Bool)) (wanted : List (Bor MaskedLabels)) (i : ℕ) (cube : Bor MaskedLabels) (c : List ℕ)
+    → i < length wanted → cube ≡ get_or wanted i cube → (IsInBox old c ↔ Start × IsTrue (all_match (take i wanted) c))
+    → ((d : List ℕ) → IsInBox old d → matches cube.now d ≡ false) → Start → all_match wanted c ≡ false
+wanted_none Start old wanted i cube c low read before misses start =
+    let test : Bor MaskedLabels → Bool = λ x. matches x.now c in
+    elim (cases_Bool (all_match (take i wanted) c)) [
+      | inl all ↦ list_all_at test wanted i cube low (ap test (sym read) ∙ misses c (before.1 (start, all)))
+      | inr fails ↦
+          ap (list_all test) (sym (take-append-drop i wanted)) ∙ list_all-append test (take i wanted) (drop i wanted)
+          ∙ and_left (all_match (take i wanted) c) (list_all test (drop i wanted)) fails
+    ]
 
 -- ---- What the search finds.
 

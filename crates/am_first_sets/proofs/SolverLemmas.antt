@@ -123,26 +123,14 @@ pub lighter_two : (boxes : List (List (List Bool))) (b a d : List (List Bool))
     → count_positions a < count_positions b → count_positions d < count_positions b
     → weight ((boxes ++ a ∷ []) ++ d ∷ []) < weight (boxes ++ b ∷ [])
 lighter_two boxes b a d h k =
-    elim (cases_lt (count_positions a) (count_positions d)) [
-      | inl less ↦
-          omega (
-            arith,
-            weight_pushed boxes b,
-            weight_pushed boxes a,
-            weight_pushed (boxes ++ a ∷ []) d,
-            power_twice (count_positions d) (count_positions b) k,
-            power_more (count_positions a) (count_positions d) (omega (arith, less)),
-          )
-      | inr more ↦
-          omega (
-            arith,
-            weight_pushed boxes b,
-            weight_pushed boxes a,
-            weight_pushed (boxes ++ a ∷ []) d,
-            power_twice (count_positions a) (count_positions b) h,
-            power_more (count_positions d) (count_positions a) more,
-          )
-    ]
+    omega (
+      arith,
+      weight_pushed boxes b,
+      weight_pushed boxes a,
+      weight_pushed (boxes ++ a ∷ []) d,
+      power_twice (count_positions a) (count_positions b) h,
+      power_twice (count_positions d) (count_positions b) k,
+    )
 
 -- ---- Cubes.
 

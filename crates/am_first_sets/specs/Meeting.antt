@@ -1,7 +1,7 @@
 -- What cubes say of a choice: that it meets them, or that it is possible.
 use Rattle.std.specs.Prelude.{ℕ, List, Bool, not, ◌&&◌}
 use Rattle.std.specs.Borrow.{Bor}
-use Rattle.std.specs.List.{list_all, list_any}
+use Rattle.std.specs.List.{list_all}
 use Rattle.am_judged_lists.specs.Cube.{MaskedLabels, matches}
 use Rattle.am_first_sets.specs.Solving.{avoids}
 
@@ -18,4 +18,4 @@ meets_cubes wanted unwanted c = all_match wanted c && avoids unwanted c
 -- Example: by the cube of `team="web",severity="info"` alone, a choice of the team `web` and the
 -- severity `critical` is possible.
 abbrev pub is_possible_by : List MaskedLabels → List ℕ → Bool
-is_possible_by impossible c = not (list_any (λ cube. matches cube c) impossible)
+is_possible_by impossible c = list_all (λ cube. not (matches cube c)) impossible

@@ -1,12 +1,10 @@
 -- The choices among which a search looks, and what a search finds.
-use Rattle.std.specs.Prelude.{◌≡◌, ◌↔◌, ◌<◌, ℕ, List, Bool, IsTrue, length}
-use Rattle.std.specs.List.{AllByRecursion}
+use Rattle.std.specs.Prelude.{◌≡◌, ◌↔◌, ℕ, List, Bool, IsTrue, length}
 use Rattle.am_universe.specs.Universe.{sizes}
 use Rattle.am_universe.specs.Choice.{IsWhole}
 use Rattle.am_labels.specs.Space.{Space, is_possible_choice}
 use Rattle.am_judged_lists.specs.Boxes.{IsInBox, HasChoice}
 use Rattle.am_judged_lists.specs.Cube.{MaskedLabels}
-use Rattle.am_judged_lists.specs.Pairs.{ArePlaces}
 use Rattle.am_first_sets.specs.declared.possible_choices.PossibleChoices.{PossibleChoices}
 use Rattle.am_first_sets.specs.Meeting.{is_possible_by}
 
@@ -33,10 +31,6 @@ KnowsPossible s impossible =
 
 -- The choices are those of a space.
 pub record AreChoicesOf (s : Space) (p : PossibleChoices) : Type 0 where
+  pub long : length p.all ≡ length s.labels
   pub whole : (c : List ℕ) → IsInBox p.all c ↔ IsWhole (sizes s.labels) c
   pub possible : KnowsPossible s p.impossible.items
-
--- The places are labels of each possible choice, and ascend.
-pub record SeesEach (p : PossibleChoices) (places : List ℕ) : Type 0 where
-  pub are_places : ArePlaces places
-  pub within : (e : List ℕ) → IsPossible p e → AllByRecursion (λ place. place < length e) places

@@ -39,7 +39,8 @@ pub use reason::{find_reason, leave_out};
 // Pairs of label sets that share values.
 mod pairs;
 
-pub use pairs::{Pairs, Side};
+pub use am_judged_lists::Side;
+pub use pairs::Pairs;
 
 // The routes of a configuration as cubes.
 mod route_cubes;

@@ -5,33 +5,29 @@
 //! that both share, the second choice is seen at `2 * i` too. So what a side has to match is a cube
 //! over these labels, and the searches for single choices find pairs too.
 
-ghost use Rattle.std.specs.Prelude.{◌≡◌, ℕ, List, IfOk};
+ghost use Rattle.std.specs.Prelude.{◌≡◌, ◌≤◌, ◌*◌, ℕ, List, length, IfOk};
 ghost use Rattle.std.proofs.Props.{props};
+ghost use Rattle.am_universe.specs.declared.limits.TheConstants.{MAX_LABELS};
 ghost use Rattle.am_judged_lists.specs.Cube.{matches};
-ghost use Rattle.am_first_sets.specs.PossibleChoices.{IsPossible, SeesEach};
+ghost use Rattle.am_first_sets.specs.PossibleChoices.{IsPossible};
 ghost use Rattle.am_first_sets.specs.PossibleSets.{possible_space};
 
 use crate::possible_choices::PossibleChoices;
 use crate::possible_sets::PossibleSets;
-use am_judged_lists::{Cube, first_places, second_places};
+use am_judged_lists::{Cube, Side};
+use am_universe::limits::MAX_LABELS;
 use std::alloc::{AllocError, Global};
-
-/// One of the two label sets of a pair.
-#[derive(Clone, Copy)]
-pub enum Side {
-    First,
-    Second,
-}
 
 /// The pairs of label sets of a space that have the same values of some labels, as choices.
 #[derive(Drop)]
 pub struct Pairs {
     choices: PossibleChoices,
-    /// The labels at which each side is seen.
-    first: Vec<usize>,
-    second: Vec<usize>,
-    ghost sees_first: { SeesEach choices first.items } by { Prim.hlevel props },
-    ghost sees_second: { SeesEach choices second.items } by { Prim.hlevel props },
+    /// The labels whose values both sides share.
+    shared: Vec<usize>,
+    /// The number of labels of a side.
+    labels: usize,
+    ghost few: { labels ≤ MAX_LABELS } by { Prim.hlevel props },
+    ghost twice: { length choices.all ≡ 2 * labels } by { Prim.hlevel props },
 }
 
 impl Pairs {
@@ -47,18 +43,17 @@ impl Pairs {
         ensures pairs { IfOk result (ArePairsOf (possible_space possible.now) shared.now) }
     {
         let labels = possible.space.universe().len();
-        let first = first_places(alloc, labels)?;
-        let second = second_places(alloc, shared, labels)?;
+        let shared = shared.to_vec(alloc)?;
         let all = possible.choices.all.twice(alloc)?;
         let mut impossible = Vec::new(alloc);
         for cube in &possible.choices.impossible {
-            impossible.push(cube.through(alloc, first.as_slice())?)?;
-            impossible.push(cube.through(alloc, second.as_slice())?)?;
+            impossible.push(cube.through(alloc, Side::First, shared.as_slice(), labels)?)?;
+            impossible.push(cube.through(alloc, Side::Second, shared.as_slice(), labels)?)?;
         }
         Ok(Pairs {
             choices: PossibleChoices { all, impossible },
-            first,
-            second,
+            shared,
+            labels,
         })
     }
 
@@ -75,9 +70,6 @@ impl Pairs {
         ensures { IfOk result (λ asked. (e : List ℕ) → IsPossible (pair_choices self.now) e
             → matches asked e ≡ matches cube.now (side_of self.now side e)) }
     {
-        match side {
-            Side::First => cube.through(alloc, self.first.as_slice()),
-            Side::Second => cube.through(alloc, self.second.as_slice()),
-        }
+        cube.through(alloc, side, self.shared.as_slice(), self.labels)
     }
 }

@@ -29,8 +29,8 @@ use Rattle.am_eval.specs.Inhibition.{is_two_sided}
 use Rattle.am_first_sets.specs.declared.candidate.Candidate.{Candidate}
 use Rattle.am_first_sets.specs.declared.pairs.Pairs.{Pairs}
 use Rattle.am_first_sets.specs.declared.possible_choices.PossibleChoices.{PossibleChoices}
-use Rattle.am_first_sets.specs.declared.pairs.Side.{Side}
-use Rattle.am_first_sets.specs.declared.pairs.Side.TheVariants.{First, Second}
+use Rattle.am_judged_lists.specs.declared.pairs.Side.{Side}
+use Rattle.am_judged_lists.specs.declared.pairs.Side.TheVariants.{First, Second}
 use Rattle.am_first_sets.specs.Literals.{holds_at, meets, IsMet}
 use Rattle.am_first_sets.specs.Pairs.{ArePairsOf, pair_choices, side_of}
 use Rattle.am_first_sets.specs.PossibleChoices.{IsPossible, AreFound}

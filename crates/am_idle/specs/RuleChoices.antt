@@ -11,7 +11,7 @@ use Rattle.am_judged_lists.specs.Cube.{MaskedLabels, matches}
 use Rattle.am_judged_lists.specs.Pairs.{are_same_at}
 use Rattle.am_first_sets.specs.declared.candidate.Candidate.{Candidate}
 use Rattle.am_first_sets.specs.declared.pairs.Pairs.{Pairs}
-use Rattle.am_first_sets.specs.declared.pairs.Side.{Side}
+use Rattle.am_judged_lists.specs.declared.pairs.Side.{Side}
 use Rattle.am_first_sets.specs.Pairs.{pair_choices, side_of}
 use Rattle.am_first_sets.specs.PossibleChoices.{IsPossible}
 use Rattle.am_eval.specs.Silencing.{positions_where}

@@ -10,7 +10,7 @@ use Rattle.am_universe.proofs.WholeChoiceLemmas.{admitted_at}
 use Rattle.am_judged_lists.specs.declared.cube.LabelMask.{LabelMask}
 use Rattle.am_judged_lists.specs.declared.mask.Part.{Part}
 use Rattle.am_judged_lists.specs.declared.mask.Part.TheVariants.{Within, Outside}
-use Rattle.am_judged_lists.specs.Cube.{MaskedLabels, may_at, reaches, permits_position}
+use Rattle.am_judged_lists.specs.Cube.{MaskedLabels, reaches, permits_position}
 use Rattle.am_judged_lists.specs.CubeView.{AscendByLabel}
 use Rattle.am_judged_lists.specs.Boxes.{is_in_part, box_permits, IsInBox, HasChoice, IsOpen, count_true, count_positions}
 use Rattle.am_judged_lists.proofs.ListLemmas.{all_pass, at_index, each_map, each_pushed, and_true}
@@ -201,14 +201,6 @@ module _ (b : List (List Bool)) (c : List ℕ) (m : LabelMask) (inside : IsInBox
   -- a mask of a label of the box
   pub fits_inside : m.label < length b → fits c m ≡ get_or m.mask (get_or c m.label 0) false
   fits_inside h = fits_at c m (omega (arith, h, inside.long))
-
--- a cube that permits some choice matches those that fit its masks
-pub may_of_fits : (cube : MaskedLabels) (c : List ℕ) → cube.empty ≡ false → may_at cube c ≡ list_all (fits c) cube.masks
-may_of_fits cube c some = ap (λ e. not e && list_all (fits c) cube.masks) some
-
--- a cube that permits no choice matches none
-pub may_of_empty : (cube : MaskedLabels) (c : List ℕ) → cube.empty ≡ true → may_at cube c ≡ false
-may_of_empty cube c none = ap (λ e. not e && list_all (fits c) cube.masks) none
 
 -- a box has the choices of another that fit some masks
 pub record AreMatching (start now : List (List Bool)) (masks : List LabelMask) : Type 0 where

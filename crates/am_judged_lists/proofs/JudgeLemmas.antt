@@ -1,5 +1,5 @@
 -- The verdict of a cube, as the code computes it.
-use Rattle.std.proofs.Common.{◌≡◌, ℕ, zero, suc, ◌+◌, ◌<◌, ◌≤◌, min, max, Bool, true, false, not, cond, ◌&&◌, List, [], ◌∷◌, ◌++◌, length, drop, get_or, nat_lt, refl, ap, sym, ◌∙◌, subst, inl, inr, arith}
+use Rattle.std.proofs.Common.{◌≡◌, ℕ, zero, suc, ◌+◌, ◌<◌, ◌≤◌, min, max, Bool, true, false, not, cond, ◌&&◌, List, [], ◌∷◌, ◌++◌, length, drop, nat_lt, refl, ap, sym, ◌∙◌, subst, inl, inr, arith}
 use Rattle.std.specs.List.{list_all, AllByRecursion}
 use Rattle.std.proofs.lemmas.Bool.{cases_lt, and_from, and_left, and_right, lt-ltb, le-ltb}
 use Rattle.std.proofs.lemmas.List.{drop_all}
@@ -17,12 +17,6 @@ use Rattle.am_judged_lists.proofs.CubeLemmas.{fits, fits_from}
 -- a mask of a label after the prefix forbids nothing
 past_fits : (prefix : List ℕ) (m : LabelMask) → length prefix ≤ m.label → fits prefix m ≡ true
 past_fits prefix m h = fits_from prefix m (λ within. absurd (omega (arith, h, within)))
-
-pub all_from_here : (test : LabelMask → Bool) (masks : List LabelMask) (k : ℕ) (m : LabelMask) → k < length masks → m ≡ get_or masks k m → test m ≡ true
-    → list_all test (drop (suc k) masks) ≡ true → list_all test (drop k masks) ≡ true
-all_from_here test [] k m h at here e = absurd (omega (arith, h))
-all_from_here test (n ∷ masks) zero m h at here e = and_from (test n) (list_all test masks) (ap test (sym at) ∙ here) e
-all_from_here test (n ∷ masks) (suc k) m h at here e = all_from_here test masks k m (omega arith) at here e
 
 -- if all labels are at least `k`, the label of the mask at `n` is at least `k + n`
 pub behind_fits : (prefix : List ℕ) (masks : List LabelMask) (k n : ℕ) → AscendByLabel masks → AllByRecursion (λ m. k ≤ m.label) masks → length prefix ≤ k + n
@@ -87,9 +81,6 @@ kept_pushed masks m reach kept before =
     record { ascend = ascend_pushed masks m kept.ascend before; same = sym (reach_pushed masks m before) }
 
 -- ---- What the code answers.
-
-pub may_true : (cube : MaskedLabels) (prefix : List ℕ) → cube.empty ≡ false → list_all (fits prefix) cube.masks ≡ true → true ≡ not (is_no (verdict_at cube prefix))
-may_true cube prefix some fit = sym (may_is cube prefix ∙ and_from (not cube.empty) (list_all (fits prefix) cube.masks) (ap not some) fit)
 
 pub judge_yes : (cube : MaskedLabels) (prefix : List ℕ) → true ≡ not (is_no (verdict_at cube prefix)) → list_all (reaches prefix) cube.masks ≡ true → Yes ≡ verdict_at cube prefix
 judge_yes cube prefix may all =

@@ -1,6 +1,6 @@
 -- Boxes: sets of choices, given by the permitted positions of each label.
 use Rattle.std.specs.Prelude.{◌≡◌, ℕ, ◌+◌, ◌<◌, List, [], ◌∷◌, length, slice_index}
-use Rattle.std.specs.Prelude.{slice_index_or, map}
+use Rattle.std.specs.Prelude.{slice_index_or}
 use Rattle.std.specs.Prelude.{Bool, false, not, ◌&&◌, IsTrue, if◌then◌else◌}
 use Rattle.am_judged_lists.specs.declared.mask.Part.{Part}
 use Rattle.am_judged_lists.specs.declared.mask.Part.TheVariants.{Within, Outside}
@@ -12,12 +12,6 @@ use Rattle.am_judged_lists.specs.Cube.{MaskedLabels, matches, permits_position}
 abbrev pub is_in_part : Part → Bool → Bool
 is_in_part Within permitted = permitted
 is_in_part Outside permitted = not permitted
-
--- What is seen of a choice through some places: its positions at these labels, in this order.
--- Source: own choice.
--- Example: through the places 0 and 2, the positions 4 6 are seen of the choice 4 5 6.
-abbrev pub seen : List ℕ → List ℕ → List ℕ
-seen places c = map (slice_index c) places
 
 -- A box permits a position of a label. It has a list for each label, with a truth value for each
 -- position.

@@ -1,16 +1,16 @@
-ghost use Rattle.std.specs.Prelude.{◌≡◌, ◌<◌, ℕ, List, map, false, not, IfOk, IfErr, OnOk, OnErr};
+ghost use Rattle.std.specs.Prelude.{◌≡◌, ◌<◌, ◌≤◌, ℕ, List, map, false, not, IfOk, IfErr, OnOk, OnErr};
 ghost use Rattle.std.specs.Prelude.{slice_index_or, IfSome, IfNone, IsTrue, length, ◌*◌, []};
 ghost use Rattle.std.specs.List.{list_any, AllByRecursion};
 ghost use Rattle.am_judged_lists.specs.Rows.{is_never_true, is_any_of};
 ghost use Rattle.am_judged_lists.specs.Cube.{IsCubeOf, matches, verdict_at, permits_position};
 ghost use Rattle.am_search.specs.Judge.{is_yes, is_no};
 ghost use Rattle.am_judged_lists.specs.CubeView.{restricted, with_mask, AscendByLabel};
-ghost use Rattle.am_judged_lists.specs.Boxes.{seen};
-ghost use Rattle.am_judged_lists.specs.Pairs.{ArePlaces};
+ghost use Rattle.am_judged_lists.specs.Pairs.{seen};
 ghost use Rattle.am_judged_lists.specs.BlockView.{is_within};
 
 use crate::JudgedList;
 use crate::mask::Mask;
+use crate::pairs::{Side, place_of};
 use crate::rows::rows_of;
 use am_labels::{Matchers, Row};
 use am_search::Verdict;
@@ -124,24 +124,29 @@ impl Cube {
         Ok(())
     }
 
-    /// Makes the cube that matches a longer choice exactly if this cube matches what is seen of it
-    /// through some places. Fails only if memory runs out.
+    /// Makes the cube that matches a pair of choices over this number of labels exactly if this cube
+    /// matches one side of it. Fails only if memory runs out.
     ///
-    /// The mask of the label `i` becomes that of the label `places[i]`. If a label has a mask but
-    /// no place, the cube permits no choice, because what is seen has no position of that label.
-    pub fn through(&self, alloc: Global, places: &[usize]) -> Result<Cube, AllocError>
-        requires { ArePlaces places.now }
-        ensures { IfOk result (λ cube. (c : List ℕ)
-            → AllByRecursion (λ place. place < length c) places.now
-            → matches cube c ≡ matches self.now (seen places.now c)) }
+    /// The mask of a label becomes that of its place. If a label has a mask but no side has the
+    /// label, the cube permits no choice.
+    pub fn through(
+        &self,
+        alloc: Global,
+        side: Side,
+        shared: &[usize],
+        labels: usize,
+    ) -> Result<Cube, AllocError>
+        requires { labels ≤ MAX_LABELS }
+        ensures { IfOk result (λ cube. (e : List ℕ) → length e ≡ 2 * labels
+            → matches cube e ≡ matches self.now (seen side shared.now labels e)) }
     {
-        if self.empty || !self.is_within(places.len()) {
+        if self.empty || !self.is_within(labels) {
             return Ok(Cube::without_masks(alloc, true));
         }
         let mut cube = Cube::without_masks(alloc, false);
         for m in &self.masks {
             let mask = m.mask.try_clone(alloc)?;
-            cube.push(places[m.label], mask)?;
+            cube.push(place_of(side, shared, m.label), mask)?;
         }
         Ok(cube)
     }

@@ -44,7 +44,7 @@ pub use group::Group;
 pub use impossible::impossible_cubes;
 pub use judged_list::JudgedList;
 pub use mask::Part;
-pub use pairs::{first_places, second_places};
+pub use pairs::Side;
 pub use position_box::{Matching, PositionBox};
 pub use rows::rows_of;
 pub use table::Table;

@@ -1,52 +1,32 @@
 //! Pairs of choices over the same labels, as one choice over twice as many labels.
 
-ghost use Rattle.std.specs.Prelude.{◌≡◌, ◌≤◌, ℕ, IfOk};
-ghost use Rattle.am_judged_lists.specs.Pairs.{ArePlaces, first_places, is_shared, second_place};
-ghost use Rattle.am_judged_lists.specs.Pairs.{second_places};
+ghost use Rattle.std.specs.Prelude.{◌≡◌, ◌≤◌};
+ghost use Rattle.am_judged_lists.specs.Pairs.{place_of, is_shared};
 
 use am_universe::limits::MAX_LABELS;
-use std::alloc::{AllocError, Global};
 
-/// The places of a pair through which its first choice is seen. Fails only if memory runs out.
-pub fn first_places(alloc: Global, labels: usize) -> Result<Vec<usize>, AllocError>
-    requires { labels ≤ MAX_LABELS }
-    ensures places { IfOk result (λ places. places.items ≡ first_places labels) }
-    ensures are_places { IfOk result (λ places. ArePlaces places.items) }
-{
-    let mut places = Vec::with_capacity(alloc, labels)?;
-    for label in 0..labels {
-        places.push(2 * label)?;
-    }
-    Ok(places)
+/// One of the two choices of a pair.
+#[derive(Clone, Copy)]
+pub enum Side {
+    First,
+    Second,
 }
 
-/// The places of a pair through which its second choice is seen. The shared labels have the places
-/// of the first choice. Fails only if memory runs out.
-pub fn second_places(
-    alloc: Global,
-    shared: &[usize],
-    labels: usize,
-) -> Result<Vec<usize>, AllocError>
-    requires { labels ≤ MAX_LABELS }
-    ensures places { IfOk result (λ places. places.items ≡ second_places shared.now labels) }
-    ensures are_places { IfOk result (λ places. ArePlaces places.items) }
-{
-    let mut places = Vec::with_capacity(alloc, labels)?;
-    for label in 0..labels {
-        places.push(second_place(shared, label))?;
-    }
-    Ok(places)
-}
-
-/// The place of a label of the second choice of a pair.
-fn second_place(shared: &[usize], label: usize) -> usize
+/// The label of a pair at which a label of one side is seen. The second side is seen at the first
+/// where both share the label.
+pub(crate) fn place_of(side: Side, shared: &[usize], label: usize) -> usize
     requires { label ≤ MAX_LABELS }
-    ensures { result ≡ second_place shared.now label }
+    ensures { result ≡ place_of side shared.now label }
 {
-    if is_shared(shared, label) {
-        2 * label
-    } else {
-        2 * label + 1
+    match side {
+        Side::First => 2 * label,
+        Side::Second => {
+            if is_shared(shared, label) {
+                2 * label
+            } else {
+                2 * label + 1
+            }
+        }
     }
 }
 

@@ -1,13 +1,13 @@
 //! Boxes: which positions of each label are permitted.
 
 ghost use Rattle.std.specs.Prelude.{◌≡◌, ◌↔◌, ◌<◌, ℕ, List, length, slice_index, IfOk, IsTrue};
-ghost use Rattle.std.specs.Prelude.{false, [], ◌*◌};
+ghost use Rattle.std.specs.Prelude.{false};
 ghost use Rattle.am_universe.specs.Universe.{sizes};
 ghost use Rattle.am_universe.specs.Choice.{IsWhole};
 ghost use Rattle.am_judged_lists.specs.Cube.{matches, permits_position};
-ghost use Rattle.am_judged_lists.specs.Boxes.{seen, box_permits, IsInBox, HasChoice, IsOpen};
+ghost use Rattle.am_judged_lists.specs.Boxes.{box_permits, IsInBox, HasChoice, IsOpen};
 ghost use Rattle.am_judged_lists.specs.Boxes.{IsMatching};
-ghost use Rattle.am_judged_lists.specs.Pairs.{first_places, second_places};
+ghost use Rattle.am_judged_lists.specs.Pairs.{IsTwice};
 ghost use Rattle.am_judged_lists.specs.Boxes.{is_in_part, count_positions};
 
 use crate::cube::Cube;
@@ -46,6 +46,7 @@ pub enum Matching {
 impl PositionBox {
     /// Makes the box of all choices of a universe. Fails only if memory runs out.
     pub fn all(alloc: Global, universe: &Universe) -> Result<PositionBox, AllocError>
+        ensures long { IfOk result (λ b. length b ≡ length universe.now) }
         ensures all { IfOk result (λ b. (c : List ℕ)
             → IsInBox b c ↔ IsWhole (sizes universe.now) c) }
     {
@@ -72,9 +73,7 @@ impl PositionBox {
     /// Makes the box of pairs of choices of this box, over twice as many labels: each label stands
     /// twice, one behind the other. Fails only if memory runs out.
     pub fn twice(&self, alloc: Global) -> Result<PositionBox, AllocError>
-        ensures { IfOk result (λ b. (c : List ℕ) → IsInBox b c ↔ (length c ≡ 2 * length self.now)
-            × IsInBox self.now (seen (first_places (length self.now)) c)
-            × IsInBox self.now (seen (second_places [] (length self.now)) c)) }
+        ensures { IfOk result (IsTwice self.now) }
     {
         let mut masks = Vec::new(alloc);
         for mask in self.masks.as_slice() {

@@ -19,7 +19,3 @@ unreachable-requires c =
     c.requires.found c.requires.label c.requires.below
     (λ p less. subst (λ (b : List (List Bool)). box_permits b c.args.label p ≡ false) so.same
     (so.none p (omega (arith, less, c.loop-position-test.false))))
-
-pub returns-in-Some-clause-fixed : goal.returns-in-Some-clause-fixed
-returns-in-Some-clause-fixed c =
-    rw c.loop-position.invariant.left at c.keep_only-in-Some.ensures.choices

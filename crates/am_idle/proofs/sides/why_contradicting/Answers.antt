@@ -3,7 +3,7 @@ use Rattle.am_labels.specs.Matcher.{Condition}
 use Rattle.am_judged_lists.specs.Cube.{MaskedLabels}
 use Rattle.am_first_sets.specs.declared.candidate.Candidate.{Candidate}
 use Rattle.am_first_sets.specs.declared.possible_choices.PossibleChoices.{PossibleChoices}
-use Rattle.am_first_sets.specs.declared.pairs.Side.TheVariants.{First, Second}
+use Rattle.am_judged_lists.specs.declared.pairs.Side.TheVariants.{First, Second}
 use Rattle.am_first_sets.specs.Literals.{IsMet}
 use Rattle.am_first_sets.specs.PossibleChoices.{IsPossible}
 use Rattle.am_first_sets.specs.Reason.{IsReason}

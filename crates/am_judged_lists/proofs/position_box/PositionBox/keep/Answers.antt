@@ -1,8 +1,8 @@
-use Rattle.std.proofs.Common.{◌≡◌, ◌↔◌, ℕ, Bool, true, false, ◌<◌, ◌&&◌, [], length, get_or, set, ap, sym, subst, ◌∙◌}
+use Rattle.std.proofs.Common.{◌≡◌, ℕ, Bool, false, ◌<◌, ◌&&◌, [], length, get_or, set, ap, sym, subst, ◌∙◌}
 use Rattle.std.proofs.lemmas.List.{get_or_read}
 use Rattle.am_judged_lists.specs.Cube.{permits_position}
-use Rattle.am_judged_lists.specs.Boxes.{is_in_part, IsInBox, HasChoice, IsOpen, count_positions}
-use Rattle.am_judged_lists.proofs.BoxLemmas.{Keeps, narrower, still_inside, choice_left, fewer_positions, open_out, not_open, kept_part}
+use Rattle.am_judged_lists.specs.Boxes.{is_in_part, HasChoice, IsOpen, count_positions}
+use Rattle.am_judged_lists.proofs.BoxLemmas.{Keeps, choice_left, fewer_positions, open_out, not_open, kept_part}
 use Rattle.am_judged_lists.proofs.position_box.PositionBox.keep.Goals as goal
 
 -- the label is one of the box
@@ -27,18 +27,6 @@ kept c =
     c.keep.new.self other c.in-Some.ensures.some
     (λ j. c.keep.ensures.kept j
     ∙ ap (λ m. get_or m j false && is_in_part c.args.part (get_or other j false)) (read c))
-
-pub returns-in-Some-clause-choices : goal.returns-in-Some-clause-choices
-returns-in-Some-clause-choices c = λ d.
-    let masks = c.self.inside.masks.items in
-    let label = c.args.label in
-    let new = c.keep.new.self in
-    let test : ℕ → Bool = λ p. is_in_part c.args.part (permits_position c.args.cube.now label p) in
-    subst (λ b. IsInBox (set masks label new) d ↔ (IsInBox b d × (test (get_or d label 0) ≡ true)))
-    c.self.view_is (
-      narrower masks label new test (in_box c) (kept c) d,
-      λ h. still_inside masks label new test (in_box c) (kept c) d h.0 h.1,
-    )
 
 pub returns-in-Some-clause-some : goal.returns-in-Some-clause-some
 returns-in-Some-clause-some c =

@@ -5,14 +5,6 @@ use Rattle.am_judged_lists.proofs.BoxLemmas.{matching_more}
 use Rattle.am_judged_lists.proofs.SeenLemmas.{label_within}
 use Rattle.am_judged_lists.proofs.position_box.PositionBox.keep_matching.Goals as goal
 
-pub index_mut-requires : goal.index_mut-requires
-index_mut-requires c =
-    let masks = c.masks-mask-items.result.now in
-    let within = ap (list_all (λ k. nat_lt k.label c.len.result)) c.masks-mask-items.ensures.masks
-    ∙ sym c.is_within.ensures ∙ c.if-not-is_within.false in
-    let low = label_within c.len.result masks c.loop-mask.mask-index c.mask-item.result within c.loop-mask-test.true c.mask-item.is in
-    omega (arith, low, c.len.ensures, c.loop-mask.invariant.same)
-
 pub loop-mask-preserved : goal.loop-mask-preserved
 loop-mask-preserved c =
     let start = c.self.inside.masks.items in
