@@ -1,9 +1,9 @@
 -- Boxes that keep some positions of a label, and how a cube matches them.
-use Rattle.std.proofs.Common.{◌≡◌, ◌≢◌, ℕ, zero, suc, ◌+◌, ◌<◌, ◌≤◌, Bool, true, false, not, ◌&&◌, ◌||◌, ◌==◌, ◌⊎◌}
-use Rattle.std.proofs.Common.{List, [], ◌∷◌, ◌++◌, length, take, get_or, set, nat_lt, refl, ap, sym, subst, ◌∙◌, inl, inr, arith}
-use Rattle.std.specs.List.{list_all, AllByRecursion}
+use Rattle.std.proofs.Common.{◌≡◌, ◌≢◌, ℕ, zero, suc, ◌+◌, ◌<◌, ◌≤◌, Bool, true, false, not, ◌&&◌, ◌||◌, ◌==◌, ◌⊎◌, ◌↔◌}
+use Rattle.std.proofs.Common.{List, [], ◌∷◌, length, take, get_or, set, nat_lt, refl, ap, sym, ◌∙◌, inl, inr, arith}
+use Rattle.std.specs.List.{list_all}
 use Rattle.std.proofs.lemmas.Bool.{cases_eq, and_parts, and_from, eq-eqb, ne_eqb, lt-ltb, ltb-true}
-use Rattle.std.proofs.lemmas.List.{take_more, get_or_read, get_or-set_same, get_or-set_other, length-set}
+use Rattle.std.proofs.lemmas.List.{get_or_read, get_or-set_same, get_or-set_other, length-set}
 use Rattle.std.proofs.lemmas.List.Folds.{list_all_more}
 use Rattle.am_universe.specs.Choice.{admits, IsWhole}
 use Rattle.am_universe.proofs.WholeChoiceLemmas.{admitted_at}
@@ -13,7 +13,7 @@ use Rattle.am_judged_lists.specs.declared.mask.Part.TheVariants.{Within, Outside
 use Rattle.am_judged_lists.specs.Cube.{MaskedLabels, reaches, permits_position}
 use Rattle.am_judged_lists.specs.CubeView.{AscendByLabel}
 use Rattle.am_judged_lists.specs.Boxes.{is_in_part, box_permits, IsInBox, HasChoice, IsOpen, count_true, count_positions}
-use Rattle.am_judged_lists.proofs.ListLemmas.{all_pass, at_index, each_map, each_pushed, and_true}
+use Rattle.am_judged_lists.proofs.ListLemmas.{all_pass, at_index, each_map, and_true}
 use Rattle.am_judged_lists.proofs.CubeLemmas.{fits, fits_at}
 
 -- ---- The mask of one label of a cube.
@@ -23,11 +23,12 @@ abbrev pub permits_here : ℕ → ℕ → LabelMask → Bool
 permits_here label position m = not (m.label == label) || get_or m.mask position false
 
 -- without a mask of the label, each position is permitted
-pub others_permit : (label position : ℕ) (masks : List LabelMask) → AllByRecursion (λ m. m.label ≢ label) masks → list_all (permits_here label position) masks ≡ true
-others_permit label position masks apart =
-    all_pass (permits_here label position) masks
-    (each_map (λ m. m.label ≢ label) (λ m. permits_here label position m ≡ true) masks
-    (λ m other. ap (λ b. not b || get_or m.mask position false) (ne_eqb m.label label other)) apart)
+pub others_permit : (label position : ℕ) (masks : List LabelMask) → list_all (λ m. not (m.label == label)) masks ≡ true → list_all (permits_here label position) masks ≡ true
+others_permit label position [] apart = refl
+others_permit label position (m ∷ masks) apart =
+    let parts = and_parts (not (m.label == label)) (list_all (λ n. not (n.label == label)) masks) apart in
+    and_from (permits_here label position m) (list_all (permits_here label position) masks)
+    (ap (λ b. b || get_or m.mask position false) parts.0) (others_permit label position masks parts.1)
 
 -- no two masks are of the same label
 pub permits_alone : (label position i : ℕ) (masks : List LabelMask) (m : LabelMask) → AscendByLabel masks → i < length masks → m ≡ get_or masks i m → m.label ≡ label
@@ -37,8 +38,9 @@ permits_alone label position zero (n ∷ masks) m ascend h read same =
     let here : permits_here label position n ≡ get_or m.mask position false =
     ap (permits_here label position) (sym read) ∙ ap (λ b. not b || get_or m.mask position false) (eq-eqb m.label label same) in
     let is : m.label ≡ n.label = ap (λ (x : LabelMask). x.label) read in
-    let rest = others_permit label position masks
-    (each_map (λ x. n.label < x.label) (λ x. x.label ≢ label) masks (λ x above e. omega (arith, above, e, same, is)) ascend.0) in
+    let rest = others_permit label position masks (all_pass (λ x. not (x.label == label)) masks
+    (each_map (λ x. n.label < x.label) (λ x. not (x.label == label) ≡ true) masks
+    (λ x above. ap not (ne_eqb x.label label (λ e. omega (arith, above, e, same, is)))) ascend.0)) in
     ap (λ b. b && list_all (permits_here label position) masks) here
     ∙ ap (λ b. get_or m.mask position false && b) rest ∙ and_true (get_or m.mask position false)
 permits_alone label position (suc i) (n ∷ masks) m ascend h read same =
@@ -47,13 +49,6 @@ permits_alone label position (suc i) (n ∷ masks) m ascend h read same =
     ap (λ b. not b || get_or n.mask position false) (ne_eqb n.label label (λ e. omega (arith, below, e, same))) in
     ap (λ b. b && list_all (permits_here label position) masks) first
     ∙ permits_alone label position i masks m ascend.1 (omega arith) read same
-
--- one mask more that is not of the label
-pub apart_more : (label i : ℕ) (masks : List LabelMask) (m : LabelMask) → AllByRecursion (λ x. x.label ≢ label) (take i masks) → i < length masks → m ≡ get_or masks i m → m.label ≢ label
-    → AllByRecursion (λ x. x.label ≢ label) (take (i + 1) masks)
-apart_more label i masks m so_far h read other =
-    subst (AllByRecursion (λ x. x.label ≢ label)) (ap (λ x. take i masks ++ x ∷ []) read ∙ sym (take_more masks i m h))
-    (each_pushed (λ x. x.label ≢ label) (take i masks) m so_far other)
 
 -- ---- Fewer positions.
 
@@ -125,37 +120,6 @@ module _ (b : List (List Bool)) (label : ℕ) (mask : List Bool) (test : ℕ →
   same_long : length (set b label mask) ≡ length b
   same_long = length-set b label mask
 
-  -- nothing new is permitted
-  permitted_before : (i p : ℕ) → box_permits (set b label mask) i p ≡ true → box_permits b i p ≡ true
-  permitted_before i p e = elim (cases_eq i label) [
-    | inl same ↦
-        ap (λ n. box_permits b n p) same
-        ∙ (and_parts (box_permits b label p) (test p) (sym (set_here p) ∙ ap (λ n. box_permits (set b label mask) n p) (sym same) ∙ e)).0
-    | inr other ↦ sym (set_elsewhere i p other) ∙ e
-  ]
-
-  -- each choice that is left was there, and passes
-  pub narrower : (c : List ℕ) → IsInBox (set b label mask) c → IsInBox b c × (test (get_or c label 0) ≡ true)
-  narrower c h =
-      let at = get_or c label 0 in (
-        record { long = h.long ∙ same_long; each = λ i low. permitted_before i (get_or c i 0) (h.each i (omega (arith, low, same_long))) },
-        (and_parts (box_permits b label at) (test at) (sym (set_here at) ∙ h.each label (omega (arith, within, same_long)))).1,
-      )
-
-  -- each choice that passes is left
-  pub still_inside : (c : List ℕ) → IsInBox b c → test (get_or c label 0) ≡ true → IsInBox (set b label mask) c
-  still_inside c h passes =
-      let at = get_or c label 0 in
-      record {
-        long = h.long ∙ sym same_long;
-        each = λ i low. elim (cases_eq i label) [
-          | inl same ↦
-              ap (λ n. box_permits (set b label mask) n (get_or c n 0)) same ∙ set_here at
-              ∙ and_from (box_permits b label at) (test at) (h.each label within) passes
-          | inr other ↦ set_elsewhere i (get_or c i 0) other ∙ h.each i (omega (arith, low, same_long))
-        ];
-      }
-
   -- if some position passes, some choice is left
   pub choice_left : HasChoice b → (((p : ℕ) → (box_permits b label p && test p) ≡ false) → ⊥) → HasChoice (set b label mask)
   choice_left some here i low none = elim (cases_eq i label) [
@@ -205,28 +169,28 @@ module _ (b : List (List Bool)) (c : List ℕ) (m : LabelMask) (inside : IsInBox
 -- a box has the choices of another that fit some masks
 pub record AreMatching (start now : List (List Bool)) (masks : List LabelMask) : Type 0 where
   pub same : length now ≡ length start
-  pub before : (c : List ℕ) → IsInBox now c → IsInBox start c × (list_all (fits c) masks ≡ true)
-  pub still : (c : List ℕ) → IsInBox start c → list_all (fits c) masks ≡ true → IsInBox now c
+  pub each : (c : List ℕ) → IsInBox now c ↔ IsInBox start c × (list_all (fits c) masks ≡ true)
 
-module _ (start now : List (List Bool)) (masks : List LabelMask) (i : ℕ) (m : LabelMask) (so_far : AreMatching start now (take i masks)) (low : i < length masks) (read : m ≡ get_or masks i m) where
-  -- one mask more
-  one_more : (c : List ℕ) → list_all (fits c) (take (i + 1) masks) ≡ (list_all (fits c) (take i masks) && fits c m)
-  one_more c = list_all_more (fits c) masks i m low ∙ ap (λ x. list_all (fits c) (take i masks) && fits c x) (sym read)
-
-  -- a mask of a label of the box, whose positions are kept
-  pub matching_more : (mask : List Bool) → m.label < length now → Keeps (get_or now m.label []) mask (λ j. get_or m.mask j false)
-      → AreMatching start (set now m.label mask) (take (i + 1) masks)
-  matching_more mask within kept = record {
-    same = length-set now m.label mask ∙ so_far.same;
-    before = λ c h.
-        let parts = narrower now m.label mask (λ j. get_or m.mask j false) within kept c h in
-        let first = so_far.before c parts.0 in
-        (first.0, one_more c ∙ and_from (list_all (fits c) (take i masks)) (fits c m) first.1 (fits_inside now c m parts.0 within ∙ parts.1));
-    still = λ c h e.
-        let parts = and_parts (list_all (fits c) (take i masks)) (fits c m) (sym (one_more c) ∙ e) in
-        let inside = so_far.still c h parts.0 in
-        still_inside now m.label mask (λ j. get_or m.mask j false) within kept c inside (sym (fits_inside now c m inside within) ∙ parts.1);
-  }
+-- one mask more
+pub matching_more : (start now next : List (List Bool)) (masks : List LabelMask) (i : ℕ) (m : LabelMask) → AreMatching start now (take i masks)
+    → i < length masks → m ≡ get_or masks i m → m.label < length now → length next ≡ length now
+    → ((c : List ℕ) → IsInBox next c ↔ IsInBox now c × (get_or m.mask (get_or c m.label 0) false ≡ true))
+    → AreMatching start next (take (i + 1) masks)
+matching_more start now next masks i m so_far low read within same kept = record {
+  same = same ∙ so_far.same;
+  each = λ c.
+      let first = list_all (fits c) (take i masks) in
+      let one_more = list_all_more (fits c) masks i m low ∙ ap (λ x. first && fits c x) (sym read) in (
+        λ h.
+            let o = (kept c).0 h in
+            let s = (so_far.each c).0 o.0 in
+            (s.0, one_more ∙ and_from first (fits c m) s.1 (fits_inside now c m o.0 within ∙ o.1)),
+        λ h.
+            let parts = and_parts first (fits c m) (sym one_more ∙ h.1) in
+            let inside = (so_far.each c).1 (h.0, parts.0) in
+            (kept c).1 (inside, sym (fits_inside now c m inside within) ∙ parts.1),
+      );
+}
 
 -- ---- How a cube matches a box.
 

@@ -1,5 +1,5 @@
 -- The verdict of a cube, as the code computes it.
-use Rattle.std.proofs.Common.{◌≡◌, ℕ, zero, suc, ◌+◌, ◌<◌, ◌≤◌, min, max, Bool, true, false, not, cond, ◌&&◌, List, [], ◌∷◌, ◌++◌, length, drop, nat_lt, refl, ap, sym, ◌∙◌, subst, inl, inr, arith}
+use Rattle.std.proofs.Common.{◌≡◌, ℕ, zero, suc, ◌+◌, ◌<◌, ◌≤◌, min, max, Bool, true, false, not, cond, ◌&&◌, List, [], ◌∷◌, ◌++◌, length, drop, nat_lt, refl, ap, sym, ◌∙◌, inl, inr, arith}
 use Rattle.std.specs.List.{list_all, AllByRecursion}
 use Rattle.std.proofs.lemmas.Bool.{cases_lt, and_from, and_left, and_right, lt-ltb, le-ltb}
 use Rattle.std.proofs.lemmas.List.{drop_all}
@@ -9,7 +9,7 @@ use Rattle.am_judged_lists.specs.declared.cube.LabelMask.{LabelMask}
 use Rattle.am_search.specs.Judge.{is_yes, is_no}
 use Rattle.am_judged_lists.specs.Cube.{MaskedLabels, reaches, may_at, reaches_all, verdict_at}
 use Rattle.am_judged_lists.specs.CubeView.{AscendByLabel, reach_of, IsKept}
-use Rattle.am_judged_lists.proofs.ListLemmas.{each_map, all_pass, each_pushed, and_true}
+use Rattle.am_judged_lists.proofs.ListLemmas.{each_map, all_pass, each_pushed}
 use Rattle.am_judged_lists.proofs.CubeLemmas.{fits, fits_from}
 
 -- ---- The masks are looked at up to the end of the prefix.
@@ -79,32 +79,3 @@ reach_pushed (n ∷ masks) m before = ap (max (n.label + 1)) (reach_pushed masks
 pub kept_pushed : (masks : List LabelMask) (m : LabelMask) (reach : ℕ) → IsKept masks reach → AllByRecursion (λ n. n.label < m.label) masks → IsKept (masks ++ m ∷ []) (m.label + 1)
 kept_pushed masks m reach kept before =
     record { ascend = ascend_pushed masks m kept.ascend before; same = sym (reach_pushed masks m before) }
-
--- ---- What the code answers.
-
-pub judge_yes : (cube : MaskedLabels) (prefix : List ℕ) → true ≡ not (is_no (verdict_at cube prefix)) → list_all (reaches prefix) cube.masks ≡ true → Yes ≡ verdict_at cube prefix
-judge_yes cube prefix may all =
-    let e : may_at cube prefix ≡ true = sym (may ∙ may_is cube prefix) in
-    sym (ap (λ b. cond (not b) No (cond (list_all (reaches prefix) cube.masks) Yes Open)) e ∙ ap (λ b. cond b Yes Open) all)
-
-pub judge_open : (cube : MaskedLabels) (prefix : List ℕ) → true ≡ not (is_no (verdict_at cube prefix)) → list_all (reaches prefix) cube.masks ≡ false → Open ≡ verdict_at cube prefix
-judge_open cube prefix may some =
-    let e : may_at cube prefix ≡ true = sym (may ∙ may_is cube prefix) in
-    sym (ap (λ b. cond (not b) No (cond (list_all (reaches prefix) cube.masks) Yes Open)) e ∙ ap (λ b. cond b Yes Open) some)
-
-pub must_reached : (cube : MaskedLabels) (prefix : List ℕ) → list_all (reaches prefix) cube.masks ≡ true → not (is_no (verdict_at cube prefix)) ≡ is_yes (verdict_at cube prefix)
-must_reached cube prefix all =
-    may_is cube prefix ∙ sym (and_true (may_at cube prefix)) ∙ sym (must_is cube prefix ∙ ap (λ b. may_at cube prefix && b) all)
-
-pub must_not_reached : (cube : MaskedLabels) (prefix : List ℕ) → list_all (reaches prefix) cube.masks ≡ false → false ≡ is_yes (verdict_at cube prefix)
-must_not_reached cube prefix some =
-    sym (must_is cube prefix ∙ and_right (may_at cube prefix) (list_all (reaches prefix) cube.masks) some)
-
--- the stored reach decides whether the prefix reaches all masks
-pub reach_within : (masks : List LabelMask) (reach n : ℕ) (cube : MaskedLabels) (prefix : List ℕ) → IsKept masks reach → masks ≡ cube.masks → n ≡ length prefix → reach ≤ n → list_all (reaches prefix) cube.masks ≡ true
-reach_within masks reach n cube prefix kept same e h =
-    subst (λ ms. list_all (reaches prefix) ms ≡ true) same (reached (length prefix) masks (omega (arith, kept.same, e, h)))
-
-pub reach_past : (masks : List LabelMask) (reach n : ℕ) (cube : MaskedLabels) (prefix : List ℕ) → IsKept masks reach → masks ≡ cube.masks → n ≡ length prefix → n < reach → list_all (reaches prefix) cube.masks ≡ false
-reach_past masks reach n cube prefix kept same e h =
-    subst (λ ms. list_all (reaches prefix) ms ≡ false) same (not_reached (length prefix) masks (omega (arith, kept.same, e, h)))

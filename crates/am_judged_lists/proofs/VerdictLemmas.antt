@@ -2,7 +2,7 @@
 use Rattle.std.proofs.Common.{◌≡◌, ◌≢◌, ◌↔◌, ℕ, Bool, true, false, not, List, [], ◌∷◌}
 use Rattle.std.proofs.Common.{cond, refl, ap, sym, ◌∙◌, inl, inr}
 use Rattle.std.specs.List.{list_all, list_any, AllByRecursion}
-use Rattle.std.proofs.lemmas.Bool.{cases_Bool, false_from_ne_true}
+use Rattle.std.proofs.lemmas.Bool.{cases_Bool, false_from_ne_true, both_ways}
 use Rattle.am_search.specs.declared.verdict.Verdict.{Verdict}
 use Rattle.am_search.specs.declared.verdict.Verdict.TheVariants.{Yes, No, Open}
 use Rattle.am_universe.proofs.CompletionLemmas.{completions_of_whole}
@@ -31,26 +31,22 @@ same_verdict p q cs same =
 
 -- ---- What the verdicts mean.
 
+-- what a verdict says of the two tests
+told : (v : Verdict) (all any : Bool) → cond all Yes (cond any Open No) ≡ v → (v ≡ Yes → all ≡ true) × (v ≡ No → any ≡ false) × (v ≡ Open → (all ≡ false) × (any ≡ true))
+told v true any e = ((λ _. refl), (λ no. cc), (λ only_some. cc))
+told v false true e = ((λ yes. cc), (λ no. cc), (λ _. (refl, refl)))
+told v false false e = ((λ yes. cc), (λ _. refl), (λ only_some. cc))
+
 pub yes_exactly : (test : List ℕ → Bool) (cs : List (List ℕ)) → (verdict_over test cs ≡ Yes) ↔ AllByRecursion (λ c. test c ≡ true) cs
 yes_exactly test cs = (
-  λ yes. elim (cases_Bool (list_all test cs)) [
-    | inl all ↦ each_passes test cs all
-    | inr not_each ↦ elim (cases_Bool (list_any test cs)) [
-      | inl some ↦ let only_some : Open ≡ Yes = sym (verdict_open test cs not_each some) ∙ yes in cc
-      | inr none ↦ let no : No ≡ Yes = sym (verdict_no test cs not_each none) ∙ yes in cc
-    ]
-  ],
+  λ yes. each_passes test cs ((told Yes (list_all test cs) (list_any test cs) yes).0 refl),
   λ all. verdict_yes test cs (all_pass test cs all),
 )
 
 pub no_exactly : (test : List ℕ → Bool) (cs : List (List ℕ)) (c : List ℕ) → IsIn cs c → (verdict_over test cs ≡ No) ↔ AllByRecursion (λ c. test c ≡ false) cs
 no_exactly test cs c i = (
   λ no. AllByRecursion-each (λ d. test d ≡ false) cs (λ d j. false_from_ne_true (test d) (λ passes.
-      let some = some_passes test cs d j passes in
-      elim (cases_Bool (list_all test cs)) [
-        | inl all ↦ let yes : Yes ≡ No = sym (verdict_yes test cs all) ∙ no in cc
-        | inr not_each ↦ let only_some : Open ≡ No = sym (verdict_open test cs not_each some) ∙ no in cc
-      ])),
+      both_ways (list_any test cs) ((told No (list_all test cs) (list_any test cs) no).1 refl) (some_passes test cs d j passes))),
   λ none. verdict_no test cs (not_all test cs c i (AllByRecursion-at (λ d. test d ≡ false) cs c none i)) (none_passes test cs none),
 )
 
@@ -71,13 +67,7 @@ not_each_from test (c ∷ cs) e = elim (cases_Bool (test c)) [
 
 pub open_exactly : (test : List ℕ → Bool) (cs : List (List ℕ)) → (verdict_over test cs ≡ Open) ↔ ((list_any test cs ≡ true) × (list_any (λ c. not (test c)) cs ≡ true))
 open_exactly test cs = (
-  λ e. elim (cases_Bool (list_all test cs)) [
-    | inl all ↦ let yes : Yes ≡ Open = sym (verdict_yes test cs all) ∙ e in cc
-    | inr not_each ↦ elim (cases_Bool (list_any test cs)) [
-      | inl some ↦ (some, not_each_then test cs not_each)
-      | inr none ↦ let no : No ≡ Open = sym (verdict_no test cs not_each none) ∙ e in cc
-    ]
-  ],
+  λ e. let both = (told Open (list_all test cs) (list_any test cs) e).2 refl in (both.1, not_each_then test cs both.0),
   λ both. verdict_open test cs (not_each_from test cs both.1) both.0,
 )
 

@@ -1,5 +1,5 @@
 -- The positions of a mask, word by word and bit by bit.
-use Rattle.std.proofs.Common.{◌≡◌, ℕ, zero, suc, ◌+◌, ◌-◌, ◌*◌, ◌/◌, ◌%◌, ◌^◌, ◌<◌, ◌≤◌, min, Bool, true, false, not, ◌&&◌, ◌||◌}
+use Rattle.std.proofs.Common.{◌≡◌, ℕ, suc, ◌+◌, ◌-◌, ◌*◌, ◌/◌, ◌%◌, ◌^◌, ◌<◌, ◌≤◌, min, Bool, true, false, not, ◌&&◌, ◌||◌}
 use Rattle.std.proofs.Common.{List, ◌∷◌, length, get_or, set, replicate, nat_eq, nat_lt, bit_and, refl, ap, sym, ◌∙◌, inl, inr, arith}
 use Rattle.std.specs.Int.{bit_at, bit_not, trailing_zeros}
 use Rattle.std.proofs.lemmas.Bool.{cases_eq, cases_lt, and_left, eq-eqb, ne_eqb, lt-ltb, le-ltb}
@@ -19,13 +19,7 @@ use Rattle.am_judged_lists.proofs.ListLemmas.{and_true}
 
 -- of two bits, the lesser is 1 exactly if both are
 both_ones : (x y : ℕ) → x < 2 → y < 2 → nat_eq (min x y) 1 ≡ (nat_eq x 1 && nat_eq y 1)
-both_ones zero zero h g = refl
-both_ones zero (suc zero) h g = refl
-both_ones (suc zero) zero h g = refl
-both_ones (suc zero) (suc zero) h g = refl
-both_ones zero (suc (suc y)) h g = absurd (omega (arith, g))
-both_ones (suc zero) (suc (suc y)) h g = absurd (omega (arith, g))
-both_ones (suc (suc x)) y h g = absurd (omega (arith, h))
+both_ones x y h g = grind (arith, nat_tests, h, g)
 
 -- `a & b` has the bits that both have
 set_and : (a b k : ℕ) → is_set (bit_and a b) k ≡ (is_set a k && is_set b k)
@@ -36,9 +30,7 @@ pub set_not : (b k : ℕ) → b < 2 ^ WORD → k < WORD → is_set (bit_not w64 
 set_not b k fits h = ap (λ n. nat_eq n 1) (bit_at_not w64 b k fits h) ∙ flipped (bit_at b k) (bit_at-lt b k)
   where
     flipped : (x : ℕ) → x < 2 → nat_eq (1 - x) 1 ≡ not (nat_eq x 1)
-    flipped zero h = refl
-    flipped (suc zero) h = refl
-    flipped (suc (suc x)) h = absurd (omega (arith, h))
+    flipped x h = grind (arith, nat_tests, h)
 
 -- 0 has no bit, and `1 << p` has one
 pub none_set : (k : ℕ) → is_set 0 k ≡ false

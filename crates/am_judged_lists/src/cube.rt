@@ -224,7 +224,7 @@ impl Cube {
     {
         if !self.may(prefix) {
             Verdict::No
-        } else if self.reach <= prefix.len() {
+        } else if self.is_within(prefix.len()) {
             Verdict::Yes
         } else {
             Verdict::Open
@@ -252,7 +252,7 @@ impl Cube {
     pub fn must(&self, prefix: &Choice) -> bool
         ensures verdict { result ≡ is_yes (verdict_at self.now prefix.now) }
     {
-        self.reach <= prefix.len() && self.may(prefix)
+        self.is_within(prefix.len()) && self.may(prefix)
     }
 }
 

@@ -1,7 +1,7 @@
 //! Boxes: which positions of each label are permitted.
 
 ghost use Rattle.std.specs.Prelude.{◌≡◌, ◌↔◌, ◌<◌, ℕ, List, length, slice_index, IfOk, IsTrue};
-ghost use Rattle.std.specs.Prelude.{false};
+ghost use Rattle.std.specs.Prelude.{false, slice_index_or};
 ghost use Rattle.am_universe.specs.Universe.{sizes};
 ghost use Rattle.am_universe.specs.Choice.{IsWhole};
 ghost use Rattle.am_judged_lists.specs.Cube.{matches, permits_position};
@@ -142,9 +142,19 @@ impl PositionBox {
             return false;
         }
         for mask in cube.masks() {
-            self.masks[mask.label].keep(Part::Within, &mask.mask);
+            self.keep_permitted(mask.label, &mask.mask);
         }
         true
+    }
+
+    /// Takes out the positions of a label that a mask does not permit.
+    fn keep_permitted(&mut self, label: usize, mask: &Mask)
+        requires { label < length self.old }
+        ensures same { length self.new ≡ length self.old }
+        ensures choices { (c : List ℕ) → IsInBox self.new c ↔ IsInBox self.old c
+            × IsTrue (slice_index_or mask.now (slice_index c label) false) }
+    {
+        self.masks[label].keep(Part::Within, mask);
     }
 
     /// Takes out all positions of a label but one.

@@ -1,14 +1,9 @@
-use Rattle.std.proofs.Common.{◌≢◌, ap, sym, subst, ◌∙◌}
-use Rattle.std.specs.List.{list_all, AllByRecursion}
+use Rattle.std.proofs.Common.{◌≡◌, ◌==◌, true, not, ap, sym, subst, ◌∙◌}
+use Rattle.std.specs.List.{list_all}
 use Rattle.std.proofs.lemmas.List.{take_all}
 use Rattle.am_judged_lists.specs.CubeView.{AscendByLabel}
-use Rattle.am_judged_lists.proofs.BoxLemmas.{apart_more, permits_here, permits_alone, others_permit}
+use Rattle.am_judged_lists.proofs.BoxLemmas.{permits_here, permits_alone, others_permit}
 use Rattle.am_judged_lists.proofs.cube.Cube.mask_of.Goals as goal
-
-pub loop-m-preserved : goal.loop-m-preserved
-loop-m-preserved c =
-    apart_more c.args.label c.loop-m.m-index c.deref-m-items.result.now c.m-item.result c.loop-m.invariant
-    c.loop-m-test.true c.m-item.is c.if-m-label.false
 
 pub returns-then-m-label-clause-some : goal.returns-then-m-label-clause-some
 returns-then-m-label-clause-some c = λ position.
@@ -28,4 +23,4 @@ returns-clause-none c = λ position.
     let all = take_all c.loop-m.m-index masks c.loop-m-test.false in
     ap (list_all (permits_here label position)) (sym same)
     ∙ others_permit label position masks
-    (subst (AllByRecursion (λ m. m.label ≢ label)) all c.loop-m.invariant)
+    (subst (λ ms. list_all (λ m. not (m.label == label)) ms ≡ true) all c.loop-m.invariant)

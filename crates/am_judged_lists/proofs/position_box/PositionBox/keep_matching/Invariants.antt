@@ -5,4 +5,4 @@ use Rattle.am_judged_lists.proofs.position_box.PositionBox.keep_matching.Given a
 -- the choices that fit the masks so far
 abbrev pub invariant-loop-mask : goal.invariant-loop-mask
 invariant-loop-mask l =
-    AreMatching l.initial.self-inside.masks.items l.self-inside.masks.items (take l.mask-index l.mask-items)
+    AreMatching l.initial.self l.self (take l.mask-index l.mask-items)
