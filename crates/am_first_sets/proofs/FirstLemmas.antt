@@ -1,9 +1,9 @@
 -- The first choice of all that a test is true of.
-use Rattle.std.proofs.Common.{◌≡◌, ℕ, zero, suc, ◌+◌, ◌<◌, ◌≤◌, Bool, true, false, cond, List, [], ◌∷◌, length, map, slice_index, nat_lt, Some, None, refl, ap, ◌∙◌, inl, inr, arith}
+use Rattle.std.proofs.Common.{◌≡◌, ℕ, zero, suc, ◌+◌, ◌<◌, ◌≤◌, Bool, true, cond, List, [], ◌∷◌, length, map, slice_index, nat_lt, Some, None, refl, ap, ◌∙◌, inl, inr, arith}
 use Rattle.std.specs.Prelude.{option_map}
 use Rattle.std.specs.List.{find, flat_map, range_with_len}
 use Rattle.std.specs.Option.{option_or}
-use Rattle.std.proofs.lemmas.Bool.{cases_Bool, and_parts, and_from}
+use Rattle.std.proofs.lemmas.Bool.{cases_Bool, and_parts, and_from, false_from_ne_true}
 use Rattle.std.proofs.lemmas.Bool.Decides.{nat_tests}
 use Rattle.std.proofs.lemmas.List.Folds.{find-append}
 use Rattle.std.proofs.Math.Nat.{eq-or-lt_of_le}
@@ -12,17 +12,10 @@ use Rattle.am_universe.proofs.ListLemmas.{IsIn-unmap}
 use Rattle.am_universe.proofs.ChoiceLemmas.{whole_from_in}
 use Rattle.am_search.proofs.ChoiceOrder.{none_found}
 
-found_map_step : {X Y : Type 0} (test : Y → Bool) (f : X → Y) (x : X) (xs : List X) (b : Bool)
-    → find test (map f xs) ≡ option_map f (find (λ y. test (f y)) xs)
-    → cond b (Some (f x)) (find test (map f xs))
-    ≡ option_map f (cond b (Some x) (find (λ y. test (f y)) xs))
-found_map_step test f x xs true e = refl
-found_map_step test f x xs false e = e
-
 found_map : {X Y : Type 0} (test : Y → Bool) (f : X → Y) (xs : List X)
     → find test (map f xs) ≡ option_map f (find (λ y. test (f y)) xs)
 found_map test f [] = refl
-found_map test f (x ∷ xs) = found_map_step test f x xs (test (f x)) (found_map test f xs)
+found_map test f (x ∷ xs) = elim (cases_Bool (test (f x))) [ inl e ↦ rw e refl | inr e ↦ rw e (found_map test f xs) ]
 
 -- the first list in which something is found has the first of all
 found_in_lists : (test : List ℕ → Bool) (lists : ℕ → List (List ℕ)) (p first count : ℕ) (c : List ℕ)
@@ -71,12 +64,9 @@ found_least (n ∷ ns) test (p ∷ c) w e least =
     found_in_lists test (λ q. map (λ d. q ∷ d) (choices ns)) p 0 n (p ∷ c)
     (λ q less. none_found test (map (λ d. q ∷ d) (choices ns)) (λ d there.
     let r = IsIn-unmap (λ d. q ∷ d) (choices ns) d there in
-    elim (cases_Bool (test d)) [
-      | inl passes ↦ absurd (
-          least (q ∷ r.0) (whole_more n q ns r.0 (omega (arith, less, below)) (whole_from_in ns r.0 r.1))
-          (ap test r.2 ∙ passes) 0 (omega arith) (λ j lt. absurd (omega (arith, lt))) less)
-      | inr fails ↦ fails
-    ]))
+    false_from_ne_true (test d) (λ passes.
+    least (q ∷ r.0) (whole_more n q ns r.0 (omega (arith, less, below)) (whole_from_in ns r.0 r.1))
+    (ap test r.2 ∙ passes) 0 (omega arith) (λ j lt. absurd (omega (arith, lt))) less)))
     (found_map test (λ d. p ∷ d) (choices ns) ∙ ap (option_map (λ d. p ∷ d)) later)
     (omega arith) (omega (arith, below))
   where
@@ -89,7 +79,4 @@ found_least (n ∷ ns) test (p ∷ c) w e least =
 pub found_nowhere : (ns : List ℕ) (test : List ℕ → Bool)
     → ((c : List ℕ) → IsWhole ns c → test c ≡ true → ⊥) → find test (choices ns) ≡ None
 found_nowhere ns test none = none_found test (choices ns) (λ d there.
-    elim (cases_Bool (test d)) [
-      | inl passes ↦ absurd (none d (whole_from_in ns d there) passes)
-      | inr fails ↦ fails
-    ])
+    false_from_ne_true (test d) (none d (whole_from_in ns d there)))

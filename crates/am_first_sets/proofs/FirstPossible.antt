@@ -1,8 +1,9 @@
 -- The first choice of a space, and the first that passes a test.
 use Rattle.std.proofs.Common.{◌≡◌, ◌↔◌, ℕ, List, [], ◌∷◌, Bool, true, false, ◌&&◌, Option, Some}
-use Rattle.std.proofs.Common.{cond, None, IfSome, slice_get, refl, sym, ap, ◌∙◌, inl, inr}
+use Rattle.std.proofs.Common.{cond, None, IfSome, slice_get, refl, sym, ap, ◌∙◌, inl, inr, arith}
 use Rattle.std.specs.List.{find, filter}
 use Rattle.std.proofs.lemmas.Bool.{cases_Bool}
+use Rattle.std.proofs.lemmas.Grind.{common_steps}
 use Rattle.am_universe.proofs.ListLemmas.{IsIn, IsIn-from_Contains, Contains-from_IsIn}
 use Rattle.am_labels.specs.Space.{Space, all_choices, IsChoiceOf}
 use Rattle.am_labels.proofs.SpaceLaws.{space_choices}
@@ -11,13 +12,7 @@ use Rattle.am_labels.proofs.SpaceLaws.{space_choices}
 pub find_kept : {X : Type 0} (test keep : X → Bool) (xs : List X)
     → find (λ x. test x && keep x) xs ≡ find test (filter keep xs)
 find_kept test keep [] = refl
-find_kept test keep (x ∷ xs) = step (test x) (keep x) refl refl (find_kept test keep xs)
-  where
-    step : (a b : Bool) → test x ≡ a → keep x ≡ b → find (λ y. test y && keep y) xs ≡ find test (filter keep xs) → find (λ y. test y && keep y) (x ∷ xs) ≡ find test (filter keep (x ∷ xs))
-    step true true e f later = rw (e, f) (rw e refl)
-    step false true e f later = rw (e, f) (rw e later)
-    step true false e f later = rw (e, f) later
-    step false false e f later = rw (e, f) later
+find_kept test keep (x ∷ xs) = grind (arith, common_steps, cases_Bool, find_kept test keep xs)
 
 -- two tests that agree on all items of a list find the same
 find_alike : {X : Type 0} (f g : X → Bool) (xs : List X) → ((x : X) → IsIn xs x → f x ≡ g x)
@@ -68,13 +63,8 @@ none_passes s test none c is =
   where
     fails : (xs : List (List ℕ)) → find test xs ≡ None → IsIn xs c → test c ≡ false
     fails [] e there = absurd there
-    fails (x ∷ xs) e there = elim (cases_Bool (test x)) [
-      | inl passes ↦ let found : Some x ≡ None = rw passes at e in cc
-      | inr misses ↦ elim there [
-        | inl same ↦ ap test (sym same) ∙ misses
-        | inr later ↦ fails xs (rw misses at e) later
-      ]
-    ]
+    fails (x ∷ xs) e (inl same) = grind (arith, common_steps, cases_Bool)
+    fails (x ∷ xs) e (inr later) = grind (arith, common_steps, cases_Bool, fails xs)
 
 -- ---- Without a test.
 
@@ -82,10 +72,7 @@ none_passes s test none c is =
 pub find_first : {X : Type 0} (keep : X → Bool) (xs : List X)
     → find keep xs ≡ slice_get (filter keep xs) 0
 find_first keep [] = refl
-find_first keep (x ∷ xs) = elim (cases_Bool (keep x)) [
-  | inl e ↦ rw e refl
-  | inr e ↦ rw e (find_first keep xs)
-]
+find_first keep (x ∷ xs) = grind (arith, common_steps, cases_Bool, find_first keep xs)
 
 -- there is no first item exactly if the list is empty
 pub no_first : {X : Type 0} (xs : List X) (first : Option X) → first ≡ slice_get xs 0

@@ -1,10 +1,10 @@
 -- Choices that wanted cubes match and unwanted ones do not.
-use Rattle.std.proofs.Common.{◌≡◌, ◌↔◌, ℕ, ◌<◌, Bool, true, false, ◌&&◌, List, [], ◌∷◌}
+use Rattle.std.proofs.Common.{◌≡◌, ◌↔◌, ℕ, ◌<◌, Bool, false, ◌&&◌, List, [], ◌∷◌}
 use Rattle.std.proofs.Common.{Option, Some, Bor, None, Result, Ok, Err, IfOk, IfSome, IfNone, length, take, drop, get_or, slice_get}
 use Rattle.std.proofs.Common.{refl, ap, sym, ◌∙◌, inl, inr}
 use Rattle.std.specs.Prelude.{IsTrue}
 use Rattle.std.specs.List.{find, list_all}
-use Rattle.std.proofs.lemmas.Bool.{and_parts, and_from, and_left, cases_Bool}
+use Rattle.std.proofs.lemmas.Bool.{and_parts, and_from, and_left, cases_Bool, both_ways, false_from_ne_true}
 use Rattle.std.proofs.lemmas.List.{take-append-drop}
 use Rattle.std.proofs.lemmas.List.Folds.{list_all_at, list_all-append}
 use Rattle.am_labels.specs.Space.{Space, all_choices, is_possible_choice, IsChoiceOf}
@@ -62,12 +62,8 @@ module _ (p : PossibleChoices) (wanted unwanted cubes : List (Bor MaskedLabels))
 
   pub none_meets : NoneAvoids b cubes → (c : List ℕ) → IsPossible p c
       → meets_cubes wanted unwanted c ≡ false
-  none_meets none c possible = elim (cases_Bool (meets_cubes wanted unwanted c)) [
-    | inl met ↦
-        let r = (asked_is c).0 (possible, met) in
-        let apart : true ≡ false = sym r.1 ∙ none c r.0 in cc
-    | inr fails ↦ fails
-  ]
+  none_meets none c possible = false_from_ne_true (meets_cubes wanted unwanted c) (λ met.
+      let r = (asked_is c).0 (possible, met) in both_ways (avoids cubes c) (none c r.0) r.1)
 
   -- so this is what is asked of a choice of a space
   pub is_test : (s : Space) → AreChoicesOf s p

@@ -3,8 +3,9 @@ use Rattle.std.proofs.Common.{◌≡◌, ◌<◌, ◌≤◌, ◌+◌, ℕ, zero,
 use Rattle.std.proofs.Common.{not, ◌||◌, Some, None, IsTrue, refl, sym, ap, ◌∙◌, subst, inl, inr}
 use Rattle.std.proofs.Common.{arith, length, set, ◌⊎◌, ◌↔◌}
 use Rattle.std.specs.Prelude.{slice_get, slice_index_or, Option, IfSome, IfNone, is_some, if◌then◌else◌}
-use Rattle.std.proofs.lemmas.Option.{slice_get_within}
-use Rattle.std.proofs.lemmas.Bool.{and_parts, both_ways}
+use Rattle.std.proofs.lemmas.Option.{slice_get_within, get_or_from_slice_get}
+use Rattle.std.proofs.lemmas.List.Folds.{list_all_at}
+use Rattle.std.proofs.lemmas.Bool.{and_parts, both_ways, true_from_ne_false}
 use Rattle.std.proofs.Math.Nat.{eq-or-lt_of_le}
 use Rattle.am_first_sets.specs.declared.candidate.Candidate.{Candidate}
 use Rattle.am_first_sets.specs.Literals.{holds_at, hold_all, meets, IsMet, IsUnmet}
@@ -155,25 +156,11 @@ fewer_met c (suc i) (k ∷ ks) h =
 -- a named literal is true where the named ones are met
 pub met_at : (c : List ℕ) (ks : List Candidate) (i : ℕ) (k : Candidate) → meets c ks ≡ true
     → slice_get ks i ≡ Some k → k.named ≡ true → holds_at c k ≡ true
-met_at c [] i k met at named = absurd (cc)
-met_at c (l ∷ ks) zero k met at named =
-    let is : l ≡ k = cc in
-    let here = subst (λ (x : Candidate). (not x.named || holds_at c x) ≡ true) is
-    (and_parts (not l.named || holds_at c l) (meets c ks) met).0 in
-    sym (ap (λ b. not b || holds_at c k) named) ∙ here
-met_at c (l ∷ ks) (suc i) k met at named =
-    met_at c ks i k (and_parts (not l.named || holds_at c l) (meets c ks) met).1 at named
-
--- naming a literal leaves fewer literals without a name
-pub fewer_unnamed : (ks : List Candidate) (i : ℕ) (k : Candidate) → slice_get ks i ≡ Some k
-    → k.named ≡ false → count_unnamed (renamed i true ks) < count_unnamed ks
-fewer_unnamed [] i k at none = absurd (cc)
-fewer_unnamed (l ∷ ks) zero k at none =
-    let is : l ≡ k = cc in
-    let so : l.named ≡ false = ap (λ x. x.named) is ∙ none in
-    rw so (omega arith)
-fewer_unnamed (l ∷ ks) (suc i) k at none =
-    let later = fewer_unnamed ks i k at none in omega (arith, later)
+met_at c ks i k met at named =
+    let test : Candidate → Bool = λ x. not x.named || holds_at c x in
+    true_from_ne_false (holds_at c k) (λ fails. both_ways (meets c ks)
+    (list_all_at test ks i k (slice_get_within ks i k at)
+    (ap test (get_or_from_slice_get ks i k k at) ∙ rw (named, fails) refl)) met)
 
 -- the truth of literals does not depend on whether they are named
 pub hold_alike : (c : List ℕ) (ks ls : List Candidate) → AreSameLiterals ks ls
@@ -248,18 +235,13 @@ pub unmet_if : (Is : List ℕ → Type 0) (ks : List Candidate) (found : Option 
 unmet_if Is ks None none unfound = none
 unmet_if Is ks (Some b) none unfound = absurd (cc)
 
-pub literal_at : (ks : List Candidate) (i : ℕ) → i < length ks
-    → (k : Candidate) × (slice_get ks i ≡ Some k)
-literal_at [] i lt = absurd (omega (arith, lt))
-literal_at (k ∷ ks) zero lt = (k, refl)
-literal_at (k ∷ ks) (suc i) lt = literal_at ks i (omega (arith, lt))
-
 -- the next literal that is named was not named before, so fewer are left without a name
 pub one_more : (ks : List Candidate) (i : ℕ) → i < length ks
     → ((k : Candidate) → slice_get ks i ≡ Some k → k.named ≡ false)
     → count_unnamed (renamed i true ks) < count_unnamed ks
-one_more ks i lt unnamed =
-    let at = literal_at ks i lt in fewer_unnamed ks i at.0 at.1 (unnamed at.0 at.1)
+one_more [] i lt unnamed = absurd (omega (arith, lt))
+one_more (k ∷ ks) zero lt unnamed = rw (unnamed k refl) (omega arith)
+one_more (k ∷ ks) (suc i) lt unnamed = let later = one_more ks i (omega (arith, lt)) unnamed in omega (arith, later)
 
 -- two lists of the same literals are equally long
 pub as_many : (ks ls : List Candidate) → AreSameLiterals ks ls → length ks ≡ length ls

@@ -3,9 +3,9 @@ use Rattle.std.proofs.Common.{◌≡◌, ◌↔◌, ℕ, zero, suc, ◌+◌, ◌
 use Rattle.std.specs.Borrow.{Bor}
 use Rattle.std.specs.List.{AllByRecursion, find}
 use Rattle.std.proofs.lemmas.List.{length_push, get_or_push, get_or_append_left}
-use Rattle.std.proofs.lemmas.List.Folds.{list_all_more}
-use Rattle.std.proofs.lemmas.Option.{same_Some, slice_get_within, get_or_from_slice_get}
-use Rattle.std.proofs.lemmas.Bool.{cases_Bool, cases_eq, cases_lt, and_parts, and_from}
+use Rattle.std.proofs.lemmas.List.Folds.{list_all_more, list_all_at}
+use Rattle.std.proofs.lemmas.Option.{slice_get_within, get_or_from_slice_get}
+use Rattle.std.proofs.lemmas.Bool.{cases_Bool, cases_eq, cases_lt, and_from, both_ways, false_from_ne_true}
 use Rattle.am_universe.specs.Choice.{choices, IsWhole}
 use Rattle.am_universe.proofs.WholeChoiceLemmas.{admitted_at}
 use Rattle.am_judged_lists.specs.declared.mask.Part.{Part}
@@ -137,18 +137,11 @@ lighter_two boxes b a d h k =
 -- a choice that avoids the cubes is not matched by the one at an index
 pub avoids_at : (cubes : List (Bor MaskedLabels)) (k : ℕ) (cube : Bor MaskedLabels) (c : List ℕ)
     → avoids cubes c ≡ true → slice_get cubes k ≡ Some cube → matches cube.now c ≡ false
-avoids_at [] k cube c e at = cc
-avoids_at (a ∷ cubes) zero cube c e at =
-    let same : a ≡ cube = same_Some a cube at in
-    is_false (matches cube.now c)
-    (subst (λ (x : Bor MaskedLabels). not (matches x.now c) ≡ true) same
-    (and_parts (not (matches a.now c)) (avoids cubes c) e).0)
-  where
-    is_false : (b : Bool) → not b ≡ true → b ≡ false
-    is_false true h = cc
-    is_false false h = refl
-avoids_at (a ∷ cubes) (suc k) cube c e at =
-    avoids_at cubes k cube c (and_parts (not (matches a.now c)) (avoids cubes c) e).1 at
+avoids_at cubes k cube c e at =
+    let test : Bor MaskedLabels → Bool = λ x. not (matches x.now c) in
+    false_from_ne_true (matches cube.now c) (λ met. both_ways (avoids cubes c)
+    (list_all_at test cubes k cube (slice_get_within cubes k cube at)
+    (ap test (get_or_from_slice_get cubes k cube cube at) ∙ ap not met)) e)
 
 -- one more cube that misses a choice
 pub avoids_more : (cubes : List (Bor MaskedLabels)) (i : ℕ) (cube : Bor MaskedLabels) (c : List ℕ)
@@ -318,12 +311,9 @@ some_below left found cubes label size answer lt below none =
     let within : label < length found = omega (arith, lt, same_labels left found cubes answer) in
     answer.some label within (λ p. elim (cases_lt p size) [
       | inl less ↦ none p less
-      | inr more ↦ elim (cases_Bool (box_permits found label p)) [
-        | inl e ↦
-            let r = choice_with found label p answer.some within e in
-            absurd (omega (arith, more, below r.0 (answer.inside r.0 r.1), r.2))
-        | inr e ↦ e
-      ]
+      | inr more ↦ false_from_ne_true (box_permits found label p) (λ e.
+          let r = choice_with found label p answer.some within e in
+          omega (arith, more, below r.0 (answer.inside r.0 r.1), r.2))
     ])
 
 -- ---- Label by label.

@@ -4,7 +4,7 @@ use Rattle.am_first_sets.specs.declared.candidate.Candidate.{Candidate}
 use Rattle.am_first_sets.specs.PossibleChoices.{IsPossible}
 use Rattle.am_first_sets.specs.Literals.{IsMet, IsUnmet}
 use Rattle.am_first_sets.specs.Reason.{renamed, without}
-use Rattle.am_first_sets.proofs.ReasonLemmas.{restored, met_if, unmet_if, at_place}
+use Rattle.am_first_sets.proofs.ReasonLemmas.{restored, met_if, at_place}
 use Rattle.am_first_sets.proofs.reason.leave_out_at.Goals as goal
 use Rattle.am_first_sets.proofs.reason.leave_out_at.Goals.{After-set_named-then-is_some}
 
@@ -37,11 +37,6 @@ returns-then-is_some-clause-needed c = λ all k at named.
     (c.set_named.ensures ∙ ap (without c.args.i) (sym back))
     (met_if Is c.set_named.new.candidates c.in_ok-some_meeting.field-0
     c.in_ok-some_meeting.ensures.some (sym c.is_some.ensures ∙ c.if-is_some.true))
-
-pub returns-else-is_some-clause-enough : goal.returns-else-is_some-clause-enough
-returns-else-is_some-clause-enough c =
-    unmet_if (IsPossible c.args.possible.now) c.set_named.new.candidates c.in_ok-some_meeting.field-0
-    c.in_ok-some_meeting.ensures.none (sym c.is_some.ensures ∙ c.if-is_some.false)
 
 pub returns-else-is_some-clause-needed : goal.returns-else-is_some-clause-needed
 returns-else-is_some-clause-needed c = λ all k at named.

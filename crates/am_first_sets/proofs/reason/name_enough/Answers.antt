@@ -37,6 +37,3 @@ unreachable-requires c =
       hold_alike d.0 c.args.candidates.now c.loop-found.candidates
           c.loop-found.invariant.0 (c.in-None.ensures.none d.0 d.1 met.1),
     )
-
-pub returns-clause-enough : goal.returns-clause-enough
-returns-clause-enough c = rw c.in_default.is at c.in_ok-found.ensures.none
