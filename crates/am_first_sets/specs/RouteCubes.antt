@@ -1,6 +1,6 @@
 -- The routes of a configuration as a tree of cubes, and the way to end at one of them.
 use Rattle.std.specs.Prelude.{◌≡◌, ℕ, List, [], ◌∷◌, Bool, true, false, not, ◌&&◌, ◌||◌, Option}
-use Rattle.std.specs.Prelude.{Some, None, ⊤}
+use Rattle.std.specs.Prelude.{Some, None, slice_get, take, ⊤}
 use Rattle.std.specs.Borrow.{Bor}
 use Rattle.std.specs.List.{list_all}
 use Rattle.std.proofs.Props.{props}
@@ -8,12 +8,13 @@ use Rattle.am_universe.specs.Universe.{Label, sizes}
 use Rattle.am_universe.specs.Choice.{IsWhole}
 use Rattle.am_config.specs.ConfigFile.{Configuration, RouteTree, Routes, route, no_routes}
 use Rattle.am_config.specs.ConfigFile.{next_route}
-use Rattle.am_judged_lists.specs.Cube.{verdict_at, matches}
+use Rattle.am_judged_lists.specs.Cube.{MaskedLabels, verdict_at, matches}
 use Rattle.am_judged_lists.specs.Verdicts.{verdict_of_list}
+use Rattle.am_eval.specs.declared.reach.Reach.{Reach}
+use Rattle.am_eval.specs.declared.reach.Reach.TheVariants.{Ends, Enters}
 use Rattle.am_first_sets.specs.declared.route_cubes.RouteCubes.{RouteCubes}
 use Rattle.am_first_sets.specs.declared.route_cubes.RouteCubes.TheViews.{out-RouteCubes}
 use Rattle.am_first_sets.specs.declared.route_cubes.RouteWay.{RouteWay}
-use Rattle.am_first_sets.specs.ChoiceEnds.{is_end_at}
 use Rattle.am_first_sets.specs.Meeting.{all_match}
 
 -- The cubes are those of a route and of all routes below it, or those of the children of a route.
@@ -54,6 +55,33 @@ abbrev pub KnowsRoutes : List Label → Configuration → RouteCubes → Type 0
 KnowsRoutes u c routes =
     (choice : List ℕ) → IsWhole (sizes u) choice → AreCubesOf u choice c.root routes
 
+-- Whether an alert gets from a route down to the route at a path, by two tests of cubes: whether it
+-- matches, and whether it does not. It gets past a sibling that has `continue` or does not match. At
+-- the end it may match no child, or nothing more is asked.
+module _ (matched unmatched : MaskedLabels → Bool) where
+  abbrev pub gets_past : RouteCubes → Bool
+  gets_past r = (out-RouteCubes r).continues || unmatched (out-RouteCubes r).cube
+
+  abbrev pub is_reached : Reach → List RouteCubes → Bool
+  is_reached Ends children = list_all (λ r. unmatched (out-RouteCubes r).cube) children
+  is_reached Enters children = true
+
+  abbrev pub goes_into : (RouteCubes → Bool) → Option RouteCubes → Bool
+  goes_into further None = false
+  goes_into further (Some r) = matched (out-RouteCubes r).cube && further r
+
+  abbrev pub reaches_by : Reach → RouteCubes → List ℕ → Bool
+  reaches_by reach r [] = is_reached reach (out-RouteCubes r).routes.items
+  reaches_by reach r (p ∷ path) =
+      list_all gets_past (take p (out-RouteCubes r).routes.items)
+      && goes_into (λ child. reaches_by reach child path)
+      (slice_get (out-RouteCubes r).routes.items p)
+
+-- A choice that matches a route gets down from there and ends at the route at a path.
+abbrev pub ends_by : List ℕ → RouteCubes → List ℕ → Bool
+ends_by choice r path =
+    reaches_by (λ cube. matches cube choice) (λ cube. not (matches cube choice)) Ends r path
+
 -- What cubes say at a choice. None of some siblings matches; those with `continue` are ignored
 -- unless all count. No route matches that stops an alert on a way.
 abbrev pub none_stops : Bool → List ℕ → List RouteCubes → Bool
@@ -76,10 +104,9 @@ abbrev pub is_gone : List ℕ → Option RouteWay → Bool
 is_gone choice None = false
 is_gone choice (Some way) = goes choice way
 
--- This is the way to end at the route at a path: whatever configuration the cubes are of, a whole
--- choice goes the way exactly if its label set ends at the route.
+-- This is the way to end at the route at a path: a choice goes the way exactly if it matches the
+-- first route and gets down from there.
 abbrev pub IsWayToEnd : RouteCubes → List ℕ → Option RouteWay → Type 0
 IsWayToEnd routes path way =
-    (u : List Label) (c : Configuration) → KnowsRoutes u c routes
-    → (choice : List ℕ) → IsWhole (sizes u) choice
-    → is_gone choice way ≡ is_end_at u c path choice
+    (choice : List ℕ) → is_gone choice way
+    ≡ (matches (out-RouteCubes routes).cube choice && ends_by choice routes path)

@@ -1,40 +1,37 @@
 use Rattle.std.proofs.Common.{◌+◌, drop, refl, arith}
 use Rattle.std.proofs.lemmas.List.{drop_all}
 use Rattle.std.proofs.lemmas.Option.{slice_get_read}
-use Rattle.am_first_sets.specs.ChoiceEnds.{is_end_at}
 use Rattle.am_first_sets.proofs.CubeEnds.{left_of_path, begun, one_step, last_step, no_step}
 use Rattle.am_first_sets.proofs.route_cubes.RouteCubes.way_to_end.Goals as goal
 
 pub loop-i-init : goal.loop-i-init
-loop-i-init c = λ u config knows choice whole.
-    begun u choice whole config c.args.path.now c.args.self.now c.new-wanted.result.items
-    c.push.new.self.items c.new-before.result.items _ (knows choice whole) refl
+loop-i-init c = λ choice.
+    begun choice c.args.path.now c.args.self.now c.new-wanted.result.items
+    c.push.new.self.items c.new-before.result.items _ refl
     c.new-wanted.ensures.items c.in_ok-push.ensures.items c.new-before.ensures.items
 
 pub returns-then-position-children : goal.returns-then-position-children
 returns-then-position-children c = record {
-  way = λ u config knows choice whole.
+  way = λ choice.
       let l = c.loop-i in
       let path = c.args.path.now in
-      no_step u choice whole (is_end_at u config path choice) l.route.now l.wanted.items
-      l.before.items (drop l.i path) (l.invariant u config knows choice whole)
-      c.as_slice-children.result.now c.as_slice-children.ensures.value c.from-position.result
-      (drop (l.i + 1) path)
+      no_step choice _ l.route.now l.wanted.items l.before.items (drop l.i path)
+      (l.invariant choice) c.as_slice-children.result.now c.as_slice-children.ensures.value
+      c.from-position.result (drop (l.i + 1) path)
       (left_of_path path l.i c.from-position.result
       (omega (arith, c.len-i-end.ensures.len, c.loop-i-test.true)) (cc))
       c.if-position-children.true;
 }
 
 pub loop-i-preserved : goal.loop-i-preserved
-loop-i-preserved c = λ u config knows choice whole.
+loop-i-preserved c = λ choice.
     let l = c.loop-i in
     let path = c.args.path.now in
     let p = c.from-position.result in
     let children = c.as_slice-children.result.now in
-    one_step u choice whole (is_end_at u config path choice) l.route.now l.wanted.items
-    l.before.items (drop l.i path) (l.invariant u config knows choice whole)
-    children c.as_slice-children.ensures.value c.push-in-loop-i-2.new.self.items
-    c.push-in-loop-i.new.self.items _ _ p (drop (l.i + 1) path)
+    one_step choice _ l.route.now l.wanted.items l.before.items (drop l.i path)
+    (l.invariant choice) children c.as_slice-children.ensures.value
+    c.push-in-loop-i-2.new.self.items c.push-in-loop-i.new.self.items _ _ p (drop (l.i + 1) path)
     c.index-children-position.result
     (left_of_path path l.i p (omega (arith, c.len-i-end.ensures.len, c.loop-i-test.true)) (cc))
     (slice_get_read children _ p c.index-children-position.result refl c.if-position-children.false
@@ -43,11 +40,10 @@ loop-i-preserved c = λ u config knows choice whole.
 
 pub returns : goal.returns
 returns c = record {
-  way = λ u config knows choice whole.
+  way = λ choice.
       let l = c.loop-i in
       let path = c.args.path.now in
-      last_step u choice whole (is_end_at u config path choice) l.route.now l.wanted.items
-      l.before.items (drop l.i path) (l.invariant u config knows choice whole)
-      c.as_slice.result.now c.as_slice.ensures.value
+      last_step choice _ l.route.now l.wanted.items l.before.items (drop l.i path)
+      (l.invariant choice) c.as_slice.result.now c.as_slice.ensures.value
       (drop_all l.i path (omega (arith, c.len-i-end.ensures.len, c.loop-i-test.false)));
 }

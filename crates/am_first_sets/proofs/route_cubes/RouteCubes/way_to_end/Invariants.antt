@@ -1,16 +1,12 @@
-use Rattle.std.proofs.Common.{ℕ, List, drop}
-use Rattle.am_universe.specs.Universe.{Label, sizes}
-use Rattle.am_universe.specs.Choice.{IsWhole}
-use Rattle.am_config.specs.ConfigFile.{Configuration}
-use Rattle.am_first_sets.specs.ChoiceEnds.{is_end_at}
-use Rattle.am_first_sets.specs.RouteCubes.{KnowsRoutes}
-use Rattle.am_first_sets.proofs.CubeEnds.{IsOnWay}
+use Rattle.std.proofs.Common.{◌≡◌, ℕ, List, ◌&&◌, drop}
+use Rattle.am_judged_lists.specs.Cube.{matches}
+use Rattle.am_first_sets.specs.declared.route_cubes.RouteCubes.TheViews.{out-RouteCubes}
+use Rattle.am_first_sets.specs.RouteCubes.{ends_by}
+use Rattle.am_first_sets.proofs.CubeEnds.{on_way}
 use Rattle.am_first_sets.proofs.route_cubes.RouteCubes.way_to_end.Given as goal
 
 -- the way so far leads to the route, and what is left of the path leads on
 abbrev pub invariant-loop-i : goal.invariant-loop-i
 invariant-loop-i l =
-    (u : List Label) (c : Configuration) → KnowsRoutes u c l.self
-    → (choice : List ℕ) → IsWhole (sizes u) choice
-    → IsOnWay u choice (is_end_at u c l.path choice) l.route l.wanted.items l.before.items
-    (drop l.i l.path)
+    (choice : List ℕ) → on_way choice l.wanted.items l.before.items l.route (drop l.i l.path)
+    ≡ (matches (out-RouteCubes l.self).cube choice && ends_by choice l.self l.path)

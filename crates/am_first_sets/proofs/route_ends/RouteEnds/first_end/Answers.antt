@@ -5,6 +5,7 @@ use Rattle.am_first_sets.specs.RouteEnds.{ends_space, ends_config}
 use Rattle.am_first_sets.specs.ChoiceEnds.{is_end_at}
 use Rattle.am_first_sets.specs.Meeting.{all_match, meets_cubes}
 use Rattle.am_first_sets.specs.RouteCubes.{IsWayToEnd}
+use Rattle.am_first_sets.proofs.CubeEnds.{ends_as}
 use Rattle.am_first_sets.proofs.FirstPossible.{find_none, found_alike, found_of_space}
 use Rattle.am_first_sets.proofs.MeetingLemmas.{if_ok_more}
 use Rattle.am_first_sets.proofs.route_ends.RouteEnds.first_end.Goals as goal
@@ -22,8 +23,8 @@ returns-clause-first c =
     ∙ found_alike s (meets_cubes way.wanted.items c.in_ok-stops.stops.items)
     (is_end_at s.labels (ends_config self) path)
     (λ d is.
-    ap (λ b. all_match way.wanted.items d && b) (c.in_ok-stops.ensures d)
-    ∙ to_end s.labels (ends_config self) self.knows_routes d is.0))
+    ap (λ b. all_match way.wanted.items d && b) (c.in_ok-stops.ensures d) ∙ to_end d
+    ∙ ends_as s.labels (ends_config self) self.routes path d is.0 (self.knows_routes d is.0)))
     (rw (c.as_slice.ensures.value, c.as_slice-2.ensures.value) at c.first_meeting.ensures.first)
 
 pub returns-in_default-clause-first : goal.returns-in_default-clause-first
@@ -34,7 +35,8 @@ returns-in_default-clause-first c =
     let to_end = subst (IsWayToEnd self.routes path) c.in_default.is c.in_ok-way.ensures.way in
     find_none (all_choices s)
     ∙ found_alike s (λ d. false) (is_end_at s.labels (ends_config self) path)
-    (λ d is. to_end s.labels (ends_config self) self.knows_routes d is.0)
+    (λ d is. to_end d
+    ∙ ends_as s.labels (ends_config self) self.routes path d is.0 (self.knows_routes d is.0))
 
 pub returns-clause-possible : goal.returns-clause-possible
 returns-clause-possible c =
