@@ -19,7 +19,7 @@ ghost use Rattle.am_idle.specs.Rules.{SomeMeet, SomeInhibit, Matches, IsWhyNone}
 use crate::rules::IdleReason;
 use am_config::Rule;
 use am_first_sets::{Candidate, Pairs, PossibleChoices, Side, leave_out, some_meeting};
-use am_judged_lists::{Cube, JudgedList};
+use am_judged_lists::Cube;
 use am_labels::Matchers;
 use am_universe::Universe;
 use std::alloc::{AllocError, Global};

@@ -9,7 +9,6 @@ pub mod BuildLemmas
 pub mod SetLemmas
 pub mod BlockLemmas
 pub mod TableLemmas
-pub mod GroupLemmas
 pub mod BoxLemmas
 pub mod SeenLemmas
 pub mod PairLemmas

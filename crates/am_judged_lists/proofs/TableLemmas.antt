@@ -1,8 +1,11 @@
 -- The first cube that passes, by the sets of a block and the cubes themselves.
-use Rattle.std.proofs.Common.{◌≡◌, ◌⊎◌, ℕ, ◌+◌, ◌-◌, ◌<◌, ◌≤◌, Bool, true, false, List, length, take, drop, slice_get, Some, ap, sym, ◌∙◌, inl, inr, arith}
+use Rattle.std.proofs.Common.{◌≡◌, ◌⊎◌, ℕ, ◌+◌, ◌-◌, ◌<◌, ◌≤◌, suc, Bool, true, false, ◌||◌, List, [], ◌∷◌, length, take, drop, slice_get, Option, Some, None, IfSome, IfNone, refl, ap, sym, ◌∙◌, inl, inr, arith}
+use Rattle.std.specs.Prelude.{is_some}
+use Rattle.std.specs.List.{list_any}
 use Rattle.std.proofs.lemmas.Bool.{cases_eq, false_from_ne_true}
 use Rattle.std.proofs.lemmas.List.{get_or-drop, get_or-take, length-drop, length-take}
-use Rattle.std.proofs.lemmas.Option.{same_Some, slice_get_within, slice_get-get_or, get_or_from_slice_get}
+use Rattle.std.proofs.lemmas.Map.Keys.{any_passes_from_place}
+use Rattle.std.proofs.lemmas.Option.{same_Some, slice_get_cases, slice_get_within, slice_get-get_or, get_or_from_slice_get}
 use Rattle.am_judged_lists.specs.declared.block.Block.{Block}
 use Rattle.am_judged_lists.specs.declared.list_set.ListSet.{ListSet}
 use Rattle.am_judged_lists.specs.declared.list_set.TheConstants.{ROOM}
@@ -55,3 +58,15 @@ in_part xs first n k x h at =
     let within = slice_get_within xs (first + k) x at in
     slice_get-get_or (take n (drop first xs)) k x (omega (arith, h, within, length-take n (drop first xs), length-drop first xs))
     ∙ ap Some (get_or-take n (drop first xs) k x h ∙ get_or-drop first xs k x ∙ get_or_from_slice_get xs (first + k) x x at)
+
+-- ---- Whether one passes.
+
+pub any_by_next : {X : Type 0} (test : X → Bool) (xs : List X) (o : Option ℕ) → IfSome o (IsNext test xs 0) → IfNone o (NoneBetween test xs 0 (length xs)) → is_some o ≡ list_any test xs
+any_by_next test xs (Some i) next none = elim ((slice_get_cases xs i).1) [
+  | inl at ↦ sym (any_passes_from_place test xs i at.0 at.2 (next.found at.0 at.2))
+  | inr past ↦ absurd (omega (arith, past.0, next.within))
+]
+any_by_next test [] None next none = refl
+any_by_next test (x ∷ xs) None next none =
+    any_by_next test xs None tt (λ j y low high at. none (suc j) y (omega arith) (omega (arith, high)) at)
+    ∙ sym (ap (λ b. b || list_any test xs) (none 0 x (omega arith) (omega arith) refl))

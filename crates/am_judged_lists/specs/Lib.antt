@@ -10,4 +10,3 @@ pub mod ListSetView
 pub mod BlockView
 pub mod Places
 pub mod TableView
-pub mod GroupView

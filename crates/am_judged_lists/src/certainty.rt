@@ -6,8 +6,9 @@
 
 ghost use Rattle.std.specs.Prelude.{◌≡◌, not};
 ghost use Rattle.am_judged_lists.specs.Certainty.{passes, other};
+ghost use Rattle.am_judged_lists.specs.Cube.{verdict_at};
 
-use crate::judged_list::JudgedList;
+use crate::cube::Cube;
 use am_search::Verdict;
 use am_universe::Choice;
 
@@ -42,21 +43,21 @@ impl Certainty {
         }
     }
 
-    /// Whether the verdict of a list passes at a prefix.
+    /// Whether the verdict of a cube passes at a prefix.
     #[inline(always)]
-    pub fn holds<L: JudgedList>(self, list: &L, prefix: &Choice) -> bool
-        ensures verdict { result ≡ passes self (L.verdict list.now prefix.now) }
+    pub fn holds(self, cube: &Cube, prefix: &Choice) -> bool
+        ensures verdict { result ≡ passes self (verdict_at cube.now prefix.now) }
     {
         match self {
-            Certainty::May => list.may(prefix),
-            Certainty::Must => list.must(prefix),
+            Certainty::May => cube.may(prefix),
+            Certainty::Must => cube.must(prefix),
         }
     }
 
-    /// Whether the opposite of the verdict of a list passes at a prefix.
-    pub fn fails<L: JudgedList>(self, list: &L, prefix: &Choice) -> bool
-        ensures verdict { result ≡ not (passes (other self) (L.verdict list.now prefix.now)) }
+    /// Whether the opposite of the verdict of a cube passes at a prefix.
+    pub fn fails(self, cube: &Cube, prefix: &Choice) -> bool
+        ensures verdict { result ≡ not (passes (other self) (verdict_at cube.now prefix.now)) }
     {
-        !self.other().holds(list, prefix)
+        !self.other().holds(cube, prefix)
     }
 }

@@ -1,6 +1,9 @@
-ghost use Rattle.std.specs.Prelude.{◌≡◌, ◌<◌, ◌≤◌, ℕ, List, map, false, not, IfOk, IfErr, OnOk, OnErr};
-ghost use Rattle.std.specs.Prelude.{slice_index_or, IfSome, IfNone, IsTrue, length, ◌*◌, []};
+ghost use Rattle.std.specs.Prelude.{◌≡◌, ◌<◌, ◌≤◌, ℕ, List, map, false, not, IfOk, IfErr, OnOk};
+ghost use Rattle.std.specs.Prelude.{OnErr, slice_index_or, IfSome, IfNone, IsTrue, length, ◌*◌, []};
+ghost use Rattle.std.specs.Prelude.{◌++◌};
 ghost use Rattle.std.specs.List.{list_any, AllByRecursion};
+ghost use Rattle.am_labels.specs.Matcher.{Condition};
+ghost use Rattle.am_labels.specs.Row.{row_of};
 ghost use Rattle.am_judged_lists.specs.Rows.{is_never_true, is_any_of};
 ghost use Rattle.am_judged_lists.specs.Cube.{IsCubeOf, matches, verdict_at, permits_position};
 ghost use Rattle.am_search.specs.Judge.{is_yes, is_no};
@@ -8,7 +11,6 @@ ghost use Rattle.am_judged_lists.specs.CubeView.{restricted, with_mask, AscendBy
 ghost use Rattle.am_judged_lists.specs.Pairs.{seen};
 ghost use Rattle.am_judged_lists.specs.BlockView.{is_within};
 
-use crate::JudgedList;
 use crate::mask::Mask;
 use crate::pairs::{Side, place_of};
 use crate::rows::rows_of;
@@ -82,6 +84,39 @@ impl Cube {
         Cube::of_rows(alloc, universe, rows.as_slice(), &[])
     }
 
+    /// Makes the cube of the matchers that have these rows: those of `rows`, and then those of
+    /// `more`.
+    ///
+    /// They must be the rows of some list of matchers. There are two slices for the pairs of a
+    /// rule: the rows of its target side, which are made once for the rule, and those of the values
+    /// of one alert. Fails only if memory runs out.
+    pub fn of_rows(
+        alloc: Global,
+        universe: &Universe,
+        rows: &[Row],
+        more: &[Row],
+    ) -> Result<Cube, AllocError>
+        requires rows { (ms : List Condition)
+            × (rows.now ++ more.now ≡ map (row_of universe.now) ms) }
+        ensures exact { IfOk result (λ cube. (ms : List Condition)
+            → rows.now ++ more.now ≡ map (row_of universe.now) ms
+            → IsCubeOf universe.now ms cube) }
+    {
+        // The contract of `len` tells the proof that each label has some value.
+        prove!(universe.len() <= MAX_LABELS);
+        let never = is_any_never_true(rows) || is_any_never_true(more);
+        let mut cube = Cube::without_masks(alloc, never);
+        for label in 0..universe.len() {
+            // A label without a row permits all its positions.
+            if is_any_of(rows, label) || is_any_of(more, label) {
+                let size = universe.size(label);
+                let mask = Mask::of_rows(alloc, rows, more, label, size)?;
+                cube.restrict(label, mask, size)?;
+            }
+        }
+        Ok(cube)
+    }
+
     /// Makes the cube that permits all choices, or none.
     fn without_masks(alloc: Global, empty: bool) -> Cube
         ensures { result ≡ record { empty = empty; masks = [] } }
@@ -151,8 +186,8 @@ impl Cube {
         Ok(cube)
     }
 
-    /// Whether two cubes permit the same positions of each label.
-    fn has_masks_of(&self, other: &Cube) -> bool
+    /// Whether two cubes are known to permit the same choices. `false` says nothing.
+    pub fn is_same(&self, other: &Cube) -> bool
         ensures { IsTrue result → self.now ≡ other.now }
     {
         if self.empty != other.empty || self.masks.len() != other.masks.len() {
@@ -253,68 +288,6 @@ impl Cube {
         ensures verdict { result ≡ is_yes (verdict_at self.now prefix.now) }
     {
         self.is_within(prefix.len()) && self.may(prefix)
-    }
-}
-
-impl JudgedList for Cube {
-    ghost use Rattle.std.specs.Prelude.{IsTrue};
-    ghost use Rattle.am_universe.specs.Choice.{admits};
-    ghost use Rattle.am_judged_lists.specs.Cube.{verdict_at};
-
-    ghost verdict = { verdict_at };
-
-    ghost Knows = { λ sizes prefix. IsTrue (admits sizes prefix) };
-
-    ghost knows_whole = { λ ns c whole. whole.0 };
-
-    fn of_rows(
-        alloc: Global,
-        universe: &Universe,
-        rows: &[Row],
-        more: &[Row],
-    ) -> Result<Cube, AllocError> {
-        // The contract of `len` tells the proof that each label has some value.
-        prove!(universe.len() <= MAX_LABELS);
-        let never = is_any_never_true(rows) || is_any_never_true(more);
-        let mut cube = Cube::without_masks(alloc, never);
-        for label in 0..universe.len() {
-            // A label without a row permits all its positions.
-            if is_any_of(rows, label) || is_any_of(more, label) {
-                let size = universe.size(label);
-                let mask = Mask::of_rows(alloc, rows, more, label, size)?;
-                cube.restrict(label, mask, size)?;
-            }
-        }
-        Ok(cube)
-    }
-
-    fn judge(&self, prefix: &Choice) -> Verdict {
-        Cube::judge(self, prefix)
-    }
-
-    fn may(&self, prefix: &Choice) -> bool {
-        Cube::may(self, prefix)
-    }
-
-    fn must(&self, prefix: &Choice) -> bool {
-        Cube::must(self, prefix)
-    }
-
-    fn is_never(&self) -> bool {
-        self.empty
-    }
-
-    fn is_same(&self, other: &Cube) -> bool {
-        self.has_masks_of(other)
-    }
-
-    fn into_cubes(lists: Vec<Cube>) -> Result<Vec<Cube>, Vec<Cube>>
-        ensures cubes { IfOk result (λ cubes. (prefix : List ℕ)
-            → map (λ cube. verdict_at cube prefix) cubes.items
-            ≡ map (λ list. verdict_at list prefix) lists.items) }
-        ensures lists { IfErr result (λ same. same.items ≡ lists.items) }
-    {
-        Ok(lists)
     }
 }
 

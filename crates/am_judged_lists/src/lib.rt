@@ -4,15 +4,12 @@
 //! choice it returns a `Verdict`: whether the label sets of all, none or some of the prefix's
 //! completions match the list. It looks at no completion, and takes no memory.
 //!
-//! A judge asks a [`JudgedList`]; a cube is one. It is made from rows, which [`rows_of`] returns. A
-//! [`Group`] finds the first of many lists that passes, and asks cubes together, in a [`Table`].
+//! A cube is made from rows, which [`rows_of`] returns. A [`Table`] finds the first of many cubes
+//! that passes, and asks them together.
 #![tactic(auto)]
 
 // The rows of matchers.
 mod rows;
-
-// What a judge asks of a list of matchers.
-mod judged_list;
 
 // Which positions of one label are permitted.
 mod mask;
@@ -34,15 +31,12 @@ mod certainty;
 
 // Many lists at once.
 mod block;
-mod group;
 mod list_set;
 mod table;
 
 pub use certainty::Certainty;
 pub use cube::Cube;
-pub use group::Group;
 pub use impossible::impossible_cubes;
-pub use judged_list::JudgedList;
 pub use mask::Part;
 pub use pairs::Side;
 pub use position_box::{Matching, PositionBox};

@@ -1,5 +1,8 @@
 //! Cubes that are asked together.
 //!
+//! The silences and the pairs of a world, and the impossible lists of a space, are many lists. A
+//! judge asks whether any of them passes.
+//!
 //! The cubes are kept in blocks of up to 128. For each position of a label that has a mask, a block
 //! has the set of its cubes that permit the position, as the bits of one number. A cube that may
 //! pass at a prefix is in the sets of all its positions. From the first such cube on, each cube is
@@ -10,6 +13,7 @@
 //! something, a judge would have to change when it is asked, and `judge` takes it unchanged.
 
 ghost use Rattle.std.specs.Prelude.{◌≡◌, ℕ, ◌<◌, ◌≤◌, ◌*◌, ◌+◌, length, IfOk, IfSome, IfNone};
+ghost use Rattle.std.specs.List.{list_any};
 ghost use Rattle.am_judged_lists.specs.Cube.{verdict_at};
 ghost use Rattle.am_judged_lists.specs.Certainty.{passes};
 ghost use Rattle.am_judged_lists.specs.Places.{IsNext, NoneBetween};
@@ -76,6 +80,14 @@ impl Table {
             }
         }
         None
+    }
+
+    /// Whether the verdict of some cube passes at a prefix.
+    pub fn any(&self, certainty: Certainty, prefix: &Choice) -> bool
+        ensures any { result
+            ≡ list_any (λ cube. passes certainty (verdict_at cube prefix.now)) self.now }
+    {
+        self.next(certainty, prefix, 0).is_some()
     }
 }
 

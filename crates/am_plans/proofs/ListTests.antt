@@ -6,16 +6,9 @@ use Rattle.std.specs.List.{list_any, filter}
 use Rattle.std.proofs.lemmas.Bool.{cases_Bool}
 use Rattle.std.proofs.lemmas.List.Folds.{list_any-append}
 use Rattle.am_judged_lists.proofs.RowLemmas.{one_more}
+use Rattle.am_first_sets.proofs.CubeEnds.{or_false}
 
 -- ---- Ands and ors of two values.
-
-pub or_false : (a : Bool) → (a || false) ≡ a
-or_false true = refl
-or_false false = refl
-
-pub and_in : (a b c : Bool) → (a && (b && c)) ≡ ((a && b) && c)
-and_in true b c = refl
-and_in false b c = refl
 
 pub or_turned : (a b : Bool) → (a || b) ≡ (b || a)
 or_turned true true = refl

@@ -17,7 +17,6 @@ use Rattle.am_universe.specs.Universe.{Label}
 use Rattle.am_labels.specs.Row.{TruthRow, row_of}
 use Rattle.am_labels.specs.Matcher.{all_hold}
 use Rattle.am_config.specs.ConfigFile.{Rule}
-use Rattle.am_search.specs.declared.verdict.Verdict.{Verdict}
 use Rattle.am_judged_lists.specs.Verdicts.{verdict_of_list}
 use Rattle.am_eval.specs.declared.pair.Pair.{Pair}
 use Rattle.am_eval.specs.declared.property.Property.TheVariants.{Inhibited}
@@ -31,7 +30,8 @@ use Rattle.am_judged_lists.specs.declared.certainty.Certainty.{Certainty}
 use Rattle.am_plans.specs.declared.pair_lists.PairList.{PairList}
 use Rattle.am_plans.specs.declared.pair_lists.PairLists.{PairLists}
 use Rattle.am_plans.specs.declared.pair_lists.PairSide.{PairSide}
-use Rattle.am_judged_lists.specs.GroupView.{verdicts_in}
+use Rattle.am_search.specs.declared.verdict.Verdict.{Verdict}
+use Rattle.am_judged_lists.specs.Cube.{MaskedLabels, verdict_at}
 use Rattle.am_judged_lists.specs.Places.{NoneBetween}
 use Rattle.am_judged_lists.specs.Certainty.{passes, other}
 use Rattle.am_plans.specs.Verdicts.{kleene_not, verdict_of_literal, verdict_of_simple}
@@ -99,80 +99,75 @@ rows_of_pair u targets rules i rows rule firing front values names same is at_ru
 
 -- ---- The verdict of a pair.
 
-source_at : {L : Type 0} (verdict : L → List ℕ → Verdict) (prefix : List ℕ) (m : Certainty)
-    (source : Option L) (v : Verdict) → option_map (λ source. verdict source prefix) source ≡ Some v
-    → source_fails verdict prefix m source ≡ not (passes (other m) v)
-source_at verdict prefix m None v e = absurd (cc)
-source_at verdict prefix m (Some source) v e =
-    ap (λ v. not (passes (other m) v)) (same_Some (verdict source prefix) v e)
+source_at : (prefix : List ℕ) (m : Certainty)
+    (source : Option MaskedLabels) (v : Verdict) → option_map (λ source. verdict_at source prefix) source ≡ Some v
+    → source_fails prefix m source ≡ not (passes (other m) v)
+source_at prefix m None v e = absurd (cc)
+source_at prefix m (Some source) v e =
+    ap (λ v. not (passes (other m) v)) (same_Some (verdict_at source prefix) v e)
 
-pub source_by_both : {L : Type 0} (u : List Label) (rules : List Rule)
-    (verdict : L → List ℕ → Verdict) (prefix : List ℕ) (m : Certainty) (sources : List L) (i : ℕ)
-    (rule : Rule) → AreSources u verdict prefix sources rules → slice_get rules i ≡ Some rule
+pub source_by_both : (u : List Label) (rules : List Rule)
+    (prefix : List ℕ) (m : Certainty) (sources : List MaskedLabels) (i : ℕ)
+    (rule : Rule) → AreSources u prefix sources rules → slice_get rules i ≡ Some rule
     → (both : Bool)
-    → (not both || source_fails verdict prefix m (slice_get sources i))
+    → (not both || source_fails prefix m (slice_get sources i))
     ≡ list_all (λ l. passes m (verdict_of_literal u prefix l))
     (cond both (not_matching rule.source ∷ []) [])
-source_by_both u rules verdict prefix m sources i rule are at_rule true =
+source_by_both u rules prefix m sources i rule are at_rule true =
     let v = verdict_of_list u rule.source prefix in
-    source_at verdict prefix m (slice_get sources i) v
-    (same_at (λ source. verdict source prefix) (λ (rule : Rule). verdict_of_list u rule.source prefix)
+    source_at prefix m (slice_get sources i) v
+    (same_at (λ source. verdict_at source prefix) (λ (rule : Rule). verdict_of_list u rule.source prefix)
     sources rules i rule are at_rule)
     ∙ sym (passes_not m v) ∙ sym (and_true (passes m (kleene_not v)))
-source_by_both u rules verdict prefix m sources i rule are at_rule false = refl
+source_by_both u rules prefix m sources i rule are at_rule false = refl
 
-pub pair_truth : {L : Type 0} (u : List Label) (w : World) (verdict : L → List ℕ → Verdict)
-    (prefix : List ℕ) (m : Certainty) (sources : List L) (list : L) (pair : Pair)
-    (rule : Rule) (firing : LabelMap) → AreSources u verdict prefix sources w.config.rules
+pub pair_truth : (u : List Label) (w : World)
+    (prefix : List ℕ) (m : Certainty) (sources : List MaskedLabels) (list : MaskedLabels) (pair : Pair)
+    (rule : Rule) (firing : LabelMap) → AreSources u prefix sources w.config.rules
     → slice_get w.config.rules pair.rule ≡ Some rule → slice_get w.alerts pair.alert ≡ Some firing
     → pair.both ≡ all_hold firing rule.target
-    → verdict list prefix
+    → verdict_at list prefix
     ≡ verdict_of_list u (rule.target ++ map (same_value firing) rule.equal) prefix
-    → pair_by verdict prefix m sources
+    → pair_by prefix m sources
     (record { list = list; side = record { rule = pair.rule; both = pair.both } })
     ≡ way_of_pair u w prefix m pair
-pair_truth u w verdict prefix m sources list pair rule firing are at_rule at_alert which exact =
+pair_truth u w prefix m sources list pair rule firing are at_rule at_alert which exact =
     let holds : Literal → Bool = λ l. passes m (verdict_of_literal u prefix l) in
     let v = verdict_of_list u (rule.target ++ map (same_value firing) rule.equal) prefix in
     let way : pair_way w.config.rules w.alerts pair ≡ inhibiting_way rule firing =
     rw (at_rule, at_alert) refl in
-    let fails = source_fails verdict prefix m (slice_get sources pair.rule) in
+    let fails = source_fails prefix m (slice_get sources pair.rule) in
     ap (λ v. passes m v && (not pair.both || fails)) exact
     ∙ ap (λ b. passes m v && (not b || fails)) which
     ∙ ap (λ b. passes m v && b)
-    (source_by_both u w.config.rules verdict prefix m sources pair.rule rule are at_rule
+    (source_by_both u w.config.rules prefix m sources pair.rule rule are at_rule
     (all_hold firing rule.target))
     ∙ sym (ap (list_all holds) way)
 
 -- ---- All pairs.
 
 -- pairs by their lists, and by what they require of their source sides
-pub some_of_pairs : {L : Type 0} (verdict : L → List ℕ → Verdict) (prefix : List ℕ) (m : Certainty)
-    (sources : List L) (pairs : List (PairList L))
-    → some_pair (passes m) (side_fails verdict prefix m sources)
-    (map (λ list. verdict list prefix) (map (λ (pair : PairList L). pair.list) pairs))
-    (map (λ (pair : PairList L). pair.side) pairs)
-    ≡ list_any (pair_by verdict prefix m sources) pairs
-some_of_pairs verdict prefix m sources [] = refl
-some_of_pairs verdict prefix m sources (pair ∷ pairs) =
-    ap (λ b. pair_by verdict prefix m sources pair || b)
-    (some_of_pairs verdict prefix m sources pairs)
+some_of_pairs : (prefix : List ℕ) (m : Certainty) (sources : List MaskedLabels)
+    (pairs : List PairList)
+    → some_pair (λ cube. passes m (verdict_at cube prefix)) (side_fails prefix m sources)
+    (map (λ (pair : PairList). pair.list) pairs) (map (λ (pair : PairList). pair.side) pairs)
+    ≡ list_any (pair_by prefix m sources) pairs
+some_of_pairs prefix m sources [] = refl
+some_of_pairs prefix m sources (pair ∷ pairs) =
+    ap (λ b. pair_by prefix m sources pair || b) (some_of_pairs prefix m sources pairs)
 
-pub pairs_truth : {L : Type 0} (u : List Label) (w : World) (verdict : L → List ℕ → Verdict)
-    (prefix : List ℕ) (m : Certainty) (lists : PairLists L) (pairs : List (PairList L))
-    → verdicts_in verdict prefix lists.lists
-    ≡ map (λ list. verdict list prefix) (map (λ (pair : PairList L). pair.list) pairs)
-    → lists.sides.items ≡ map (λ (pair : PairList L). pair.side) pairs
-    → list_any (pair_by verdict prefix m lists.sources.items) pairs
+pub pairs_truth : (u : List Label) (w : World) (prefix : List ℕ) (m : Certainty)
+    (lists : PairLists) (pairs : List PairList)
+    → lists.lists ≡ map (λ (pair : PairList). pair.list) pairs
+    → lists.sides.items ≡ map (λ (pair : PairList). pair.side) pairs
+    → list_any (pair_by prefix m lists.sources.items) pairs
     ≡ list_any (way_of_pair u w prefix m) (pairs_of w.config.rules w.alerts)
-    → inhibited_by verdict prefix lists m ≡ passes m (verdict_of_simple u w (Is Inhibited) prefix)
-pairs_truth u w verdict prefix m lists pairs of_lists of_sides same =
+    → inhibited_by prefix lists m ≡ passes m (verdict_of_simple u w (Is Inhibited) prefix)
+pairs_truth u w prefix m lists pairs of_lists of_sides same =
     let holds : Literal → Bool = λ l. passes m (verdict_of_literal u prefix l) in
-    let fails = side_fails verdict prefix m lists.sources.items in
-    ap (λ vs. some_pair (passes m) fails vs lists.sides.items) of_lists
-    ∙ ap (λ sides. some_pair (passes m) fails (map (λ list. verdict list prefix)
-    (map (λ (pair : PairList _). pair.list) pairs)) sides) of_sides
-    ∙ some_of_pairs verdict prefix m lists.sources.items pairs
+    (λ i. some_pair (λ cube. passes m (verdict_at cube prefix))
+    (side_fails prefix m lists.sources.items) (of_lists i) (of_sides i))
+    ∙ some_of_pairs prefix m lists.sources.items pairs
     ∙ same
     ∙ sym (list_any-map (list_all holds) (pair_way w.config.rules w.alerts)
     (pairs_of w.config.rules w.alerts))
@@ -182,9 +177,9 @@ pairs_truth u w verdict prefix m lists pairs of_lists of_sides same =
 -- ---- One pair after the other.
 
 -- two cases: no pair inhibits, or one does
-pub no_pair : (test : Verdict → Bool) (fails : PairSide → Bool) (vs : List Verdict)
+pub no_pair : (test : MaskedLabels → Bool) (fails : PairSide → Bool) (vs : List MaskedLabels)
     (sides : List PairSide)
-    → ((j : ℕ) (v : Verdict) (side : PairSide) → slice_get vs j ≡ Some v
+    → ((j : ℕ) (v : MaskedLabels) (side : PairSide) → slice_get vs j ≡ Some v
     → slice_get sides j ≡ Some side → (test v && fails side) ≡ false)
     → some_pair test fails vs sides ≡ false
 no_pair test fails [] sides none = refl
@@ -193,9 +188,9 @@ no_pair test fails (v ∷ vs) (side ∷ sides) none =
     rw (none 0 v side refl refl)
     (no_pair test fails vs sides (λ j w other at with. none (suc j) w other at with))
 
-pub this_pair : (test : Verdict → Bool) (fails : PairSide → Bool) (vs : List Verdict)
+pub this_pair : (test : MaskedLabels → Bool) (fails : PairSide → Bool) (vs : List MaskedLabels)
     (sides : List PairSide) (i : ℕ) (side : PairSide) → i < length vs
-    → ((v : Verdict) → slice_get vs i ≡ Some v → test v ≡ true) → slice_get sides i ≡ Some side
+    → ((v : MaskedLabels) → slice_get vs i ≡ Some v → test v ≡ true) → slice_get sides i ≡ Some side
     → fails side ≡ true → some_pair test fails vs sides ≡ true
 this_pair test fails [] sides i side h found at e = absurd (omega (arith, h))
 this_pair test fails (v ∷ vs) [] zero side h found at e = absurd (cc)
@@ -207,14 +202,14 @@ this_pair test fails (v ∷ vs) (other ∷ sides) (suc i) side h found at e =
     (this_pair test fails vs sides i side (omega arith) found at e)
 
 -- no pair before the index `i` inhibits
-abbrev pub NoPairBefore : (Verdict → Bool) → (PairSide → Bool) → List Verdict → List PairSide → ℕ
+abbrev pub NoPairBefore : (MaskedLabels → Bool) → (PairSide → Bool) → List MaskedLabels → List PairSide → ℕ
     → Type 0
 NoPairBefore test fails vs sides i =
-    (j : ℕ) (v : Verdict) (side : PairSide) → j < i → slice_get vs j ≡ Some v
+    (j : ℕ) (v : MaskedLabels) (side : PairSide) → j < i → slice_get vs j ≡ Some v
     → slice_get sides j ≡ Some side → (test v && fails side) ≡ false
 
 -- nor does one from `from` on: up to `to` no verdict passes, and there the pairs end
-pub no_pair_to_end : (test : Verdict → Bool) (fails : PairSide → Bool) (vs : List Verdict)
+pub no_pair_to_end : (test : MaskedLabels → Bool) (fails : PairSide → Bool) (vs : List MaskedLabels)
     (sides : List PairSide) (from to : ℕ) → NoPairBefore test fails vs sides from
     → NoneBetween test vs from to → (length vs ≤ to) ⊎ (length sides ≤ to)
     → some_pair test fails vs sides ≡ false
@@ -229,7 +224,7 @@ no_pair_to_end test fails vs sides from to before none end =
           ap (λ b. b && fails side) (none j v behind low here)
     ])
 
-pub no_pair_more : (test : Verdict → Bool) (fails : PairSide → Bool) (vs : List Verdict)
+pub no_pair_more : (test : MaskedLabels → Bool) (fails : PairSide → Bool) (vs : List MaskedLabels)
     (sides : List PairSide) (from i next : ℕ) (side : PairSide)
     → NoPairBefore test fails vs sides from → NoneBetween test vs from i
     → slice_get sides i ≡ Some side → fails side ≡ false

@@ -1,39 +1,149 @@
--- A route with its list, made from a route of a configuration, is seen as that route.
-use Rattle.std.proofs.Common.{◌≡◌, ℕ, Bool, List, map, sym, ap, ◌∙◌}
-use Rattle.std.proofs.lemmas.Simd.{map-map}
+-- A tree of cubes is seen as the routes of which it has the cubes.
+use Rattle.std.proofs.Common.{◌≡◌, ◌≤◌, ℕ, List, [], ◌∷◌, Bool, true, false, not, ◌&&◌, Option, Some}
+use Rattle.std.proofs.Common.{None, length, take, map, refl, sym, ap, ◌∙◌}
+use Rattle.std.specs.Prelude.{slice_get}
+use Rattle.std.specs.List.{list_all, list_any}
+use Rattle.std.proofs.lemmas.Bool.{and_left, and_right}
+use Rattle.std.proofs.lemmas.Option.{slice_get_past}
 use Rattle.am_universe.specs.Universe.{Label}
-use Rattle.am_config.specs.ConfigFile.{RouteTree, route, routes_of, matchers_of, continues_of}
-use Rattle.am_config.specs.ConfigFile.{receiver_of, children_of}
-use Rattle.am_config.specs.declared.route.Route.{Route}
-use Rattle.am_config.specs.RouteView.{route_view}
+use Rattle.am_config.specs.ConfigFile.{RouteTree, Routes, route, no_routes, next_route, matchers_of}
 use Rattle.am_config.specs.Path.{list_of}
-use Rattle.am_config.proofs.Paths.{list_of-routes_of}
-use Rattle.am_search.specs.declared.verdict.Verdict.{Verdict}
 use Rattle.am_judged_lists.specs.Verdicts.{verdict_of_list}
-use Rattle.am_plans.specs.RouteSeen.{RouteSeen, route_seen, comes_below}
+use Rattle.am_judged_lists.specs.declared.certainty.Certainty.{Certainty}
+use Rattle.am_judged_lists.specs.Certainty.{passes, other}
+use Rattle.am_eval.specs.declared.reach.Reach.{Reach}
+use Rattle.am_eval.specs.declared.reach.Reach.TheVariants.{Ends}
+use Rattle.am_eval.specs.Question.{Receiver, Route}
+use Rattle.am_eval.specs.World.{World}
+use Rattle.am_eval.specs.Conditions.{Literal, some_way_holds, matching, ways_below, ways_to_reach}
+use Rattle.am_eval.specs.Conditions.{paths_to}
+use Rattle.am_eval.proofs.SomeWay.{some_way-joined, some_way-literal}
+use Rattle.am_first_sets.specs.declared.route_cubes.RouteCubes.{RouteCubes}
+use Rattle.am_first_sets.specs.declared.route_cubes.RouteCubes.TheFolds.{fold_out-RouteCubes}
+use Rattle.am_first_sets.specs.declared.route_cubes.RouteCubes.TheViews.{out-RouteCubes}
+use Rattle.am_first_sets.specs.RouteCubes.{AreCubesOf, AreCubesOfEach, gets_past, goes_into}
+use Rattle.am_first_sets.proofs.CubeEnds.{into_as}
+use Rattle.am_plans.specs.RouteSeen.{RouteSeen, route_seen, goes_by, goes_from}
+use Rattle.am_plans.specs.RoutesByCubes.{seen_step, seen_by, holds_at, fails_at, reaches_at, reaches_in}
+use Rattle.am_plans.specs.RoutesByCubes.{goes_in}
+use Rattle.am_plans.specs.Verdicts.{verdict_of_literal, verdict_of_simple}
+use Rattle.am_plans.specs.WorldByLists.{AreRoutes}
+use Rattle.am_plans.proofs.Kleene.{passes_not, passes_simple}
+use Rattle.am_plans.proofs.ListTests.{any_and}
 use Rattle.am_plans.proofs.WalkLemmas.{walked}
 
-pub children_seen : (u : List Label) (prefix : List ℕ) (tree : RouteTree) (routes : List Route)
-    (seen : List RouteSeen) → routes_of (map route_view routes) ≡ children_of tree
-    → seen ≡ map (λ route. route_seen u prefix (route_view route)) routes
-    → seen ≡ map (route_seen u prefix) (list_of (children_of tree))
-children_seen u prefix tree routes seen same e =
-    e ∙ sym (map-map (route_seen u prefix) route_view routes)
-    ∙ ap (map (route_seen u prefix))
-    (sym (list_of-routes_of (map route_view routes)) ∙ ap list_of same)
+-- ---- One step of the way to a route.
 
-pub made_route : (u : List Label) (prefix : List ℕ) (tree : RouteTree) (v : Verdict)
-    (continues : Bool) (receiver : ℕ) (seen : List RouteSeen)
-    → v ≡ verdict_of_list u (matchers_of tree) prefix → continues ≡ continues_of tree
-    → receiver ≡ receiver_of tree → seen ≡ map (route_seen u prefix) (list_of (children_of tree))
-    → record {
-      verdict = v;
-      continues = continues;
-      comes = λ m target. comes_below m receiver target seen;
-    } ≡ route_seen u prefix tree
-made_route u prefix (route settings children) v continues receiver seen ev ec er es =
-    rw (ev, ec, er, es) (λ i. record {
-      verdict = verdict_of_list u settings.matchers prefix;
-      continues = settings.continues;
-      comes = λ m target. walked u prefix m target settings children i;
-    })
+module _ (prefix : List ℕ) (m : Certainty) (reach : Reach) (r : RouteCubes) (rs : List RouteCubes)
+    (are : rs ≡ (out-RouteCubes r).routes.items) (path : List ℕ) where
+  pub ends_here : reach ≡ Ends → path ≡ []
+      → list_all (λ c. fails_at prefix m (out-RouteCubes c).cube) rs
+      ≡ reaches_at prefix m reach r path
+  ends_here ends no_more =
+      ap (list_all (λ c. fails_at prefix m (out-RouteCubes c).cube)) are
+      ∙ sym (λ i. reaches_at prefix m (ends i) r (no_more i))
+
+  pub one_down : (p : ℕ) (rest : List ℕ) (o : Option RouteCubes) → path ≡ p ∷ rest
+      → slice_get rs p ≡ o
+      → (list_all (gets_past (holds_at prefix m) (fails_at prefix m)) (take p rs)
+      && goes_into (holds_at prefix m) (fails_at prefix m)
+      (λ child. reaches_at prefix m reach child rest) o) ≡ reaches_at prefix m reach r path
+  one_down p rest o goes at =
+      (λ i. list_all (gets_past (holds_at prefix m) (fails_at prefix m)) (take p (are i))
+      && goes_into (holds_at prefix m) (fails_at prefix m)
+      (λ child. reaches_at prefix m reach child rest)
+      ((sym at ∙ ap (λ xs. slice_get xs p) are) i))
+      ∙ sym (ap (reaches_at prefix m reach r) goes)
+
+  abbrev closed : ℕ → Bool
+  closed p = list_all (gets_past (holds_at prefix m) (fails_at prefix m)) (take p rs)
+
+  pub no_child : (p : ℕ) (rest : List ℕ) → path ≡ p ∷ rest → length rs ≤ p
+      → false ≡ reaches_at prefix m reach r path
+  no_child p rest goes past =
+      sym (and_right (closed p) false refl)
+      ∙ one_down p rest None goes (slice_get_past rs p past)
+
+  pub not_past : (p : ℕ) (rest : List ℕ) → path ≡ p ∷ rest → closed p ≡ false
+      → false ≡ reaches_at prefix m reach r path
+  not_past p rest goes stops =
+      sym (and_left (closed p) (goes_into (holds_at prefix m) (fails_at prefix m)
+      (λ child. reaches_at prefix m reach child rest) (slice_get rs p)) stops)
+      ∙ one_down p rest (slice_get rs p) goes refl
+
+  pub not_into : (p : ℕ) (rest : List ℕ) (child : RouteCubes) → path ≡ p ∷ rest
+      → slice_get rs p ≡ Some child → holds_at prefix m (out-RouteCubes child).cube ≡ false
+      → false ≡ reaches_at prefix m reach r path
+  not_into p rest child goes at fails =
+      sym (and_right (closed p) (holds_at prefix m (out-RouteCubes child).cube
+      && reaches_at prefix m reach child rest)
+      (and_left (holds_at prefix m (out-RouteCubes child).cube)
+      (reaches_at prefix m reach child rest) fails))
+      ∙ one_down p rest (Some child) goes at
+
+  pub goes_down : (p : ℕ) (rest : List ℕ) (child : RouteCubes) → path ≡ p ∷ rest
+      → slice_get rs p ≡ Some child → closed p ≡ true
+      → holds_at prefix m (out-RouteCubes child).cube ≡ true
+      → reaches_at prefix m reach child rest ≡ reaches_at prefix m reach r path
+  goes_down p rest child goes at past holds =
+      (λ i. sym past i && (sym holds i && reaches_at prefix m reach child rest))
+      ∙ one_down p rest (Some child) goes at
+
+-- ---- The routes of a world.
+
+module _ (u : List Label) (prefix : List ℕ) where
+  mutual
+    seen_as : (t : RouteTree) (r : RouteCubes) → AreCubesOf u prefix t r
+        → seen_by prefix r ≡ route_seen u prefix t
+    seen_as (route settings children) r are =
+        fold_out-RouteCubes RouteSeen (seen_step prefix) r
+        ∙ (λ i. record {
+          verdict = are.0 i;
+          continues = are.1 i;
+          goes_to = λ m receiver. goes_by m receiver (are.2 i) true
+              (each_seen_as children (out-RouteCubes r).routes.items are.3 i);
+        })
+        ∙ (λ i. record {
+          verdict = verdict_of_list u settings.matchers prefix;
+          continues = settings.continues;
+          goes_to = λ m receiver. walked u prefix m receiver settings children i;
+        })
+
+    each_seen_as : (ts : Routes) (rs : List RouteCubes) → AreCubesOfEach u prefix ts rs
+        → map (seen_by prefix) rs ≡ map (route_seen u prefix) (list_of ts)
+    each_seen_as no_routes [] are = refl
+    each_seen_as (next_route t ts) (r ∷ rs) are =
+        λ i. seen_as t r are.0 i ∷ each_seen_as ts rs are.1 i
+    each_seen_as ts rs are = absurd are
+
+  -- with the cubes of the routes of a world
+  module _ (w : World) (r : RouteCubes) (are : AreCubesOf u prefix w.config.root r) where
+    goes_to_receiver : (m : Certainty) (receiver : ℕ)
+        → goes_from (route_seen u prefix w.config.root) m receiver
+        ≡ passes m (verdict_of_simple u w (Receiver receiver) prefix)
+    goes_to_receiver m receiver =
+        let says : Literal → Bool = λ l. passes m (verdict_of_literal u prefix l) in
+        let top = matching (matchers_of w.config.root) in
+        let paths = paths_to receiver w.config.root in
+        let ways = ways_below Ends w.config.root in
+        sym (passes_simple m u w (Receiver receiver) prefix
+        ∙ some_way-joined says (ways_to_reach w.config Ends) paths
+        ∙ (λ i. list_any (λ path. some_way-literal says top (ways path) i) paths)
+        ∙ any_and (says top) (λ path. some_way_holds says (ways path)) paths
+        ∙ ap (λ b. says top && b) (sym (some_way-joined says ways paths)))
+
+    pub are_routes : AreRoutes u w prefix (reaches_in prefix (Some r)) (goes_in prefix (Some r))
+    are_routes = record {
+      route = λ m reach path.
+          into_as u prefix (holds_at prefix m) (fails_at prefix m)
+          (λ l. passes m (verdict_of_literal u prefix l))
+          (λ cube ms same. (
+            ap (passes m) same,
+            ap (λ v. not (passes (other m) v)) same
+                ∙ sym (passes_not m (verdict_of_list u ms prefix)),
+          )) reach path w.config.root r are
+          ∙ sym (passes_simple m u w (Route reach path) prefix);
+      receiver = λ m receiver.
+          ap (λ seen. goes_from seen m receiver) (seen_as w.config.root r are)
+          ∙ goes_to_receiver m receiver;
+    }

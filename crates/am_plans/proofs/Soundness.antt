@@ -155,12 +155,6 @@ lists_agree : (u : List Label) (c : List ℕ) → IsWhole (sizes u) c → (ms : 
 lists_agree u c whole ms =
     never_agrees (matches_at u ms c) (verdict_of_list u ms c) (list_says u ms c whole)
 
-pub question_says_truth : (u : List Label) (w : World) (q : Question) (c : List ℕ)
-    → IsWhole (sizes u) c → is_yes (verdict_of_question u w q c) ≡ satisfies_at u w q c
-question_says_truth u w q c whole =
-    says_truth (verdict_of_question u w q c) (satisfies_at u w q c)
-    (question_agrees ⊥ u w c c (lists_agree u c whole) q)
-
 -- ---- The judge of a question over a space.
 
 module _ (s : Space) (w : World) (q : Question) where

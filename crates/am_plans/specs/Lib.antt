@@ -1,7 +1,6 @@
 pub mod Verdicts
-pub mod Target
 pub mod RouteSeen
-pub mod RoutesByLists
+pub mod RoutesByCubes
 pub mod PairsByLists
 pub mod WorldByLists
 pub mod QuestionByLists

@@ -19,10 +19,10 @@ abbrev pub plan_sizes : Plan → List ℕ
 plan_sizes plan = sizes (plan_universe plan)
 
 abbrev pub plan_verdict : Plan → List ℕ → Verdict
-plan_verdict plan = judged_verdict plan.judged plan.impossible
+plan_verdict plan = judged_verdict plan.world plan.question plan.impossible
 
 abbrev pub plan_truth : Plan → List ℕ → Bool
-plan_truth plan = judged_truth plan.judged plan.impossible
+plan_truth plan = judged_truth plan.world plan.question plan.impossible
 
 pub plan_is_judge : (plan : Plan) → IsJudge (plan_sizes plan) (plan_truth plan) (plan_verdict plan)
 plan_is_judge plan = plan.is_judge

@@ -7,19 +7,13 @@
 //! Judging takes no memory.
 #![tactic(auto)]
 
-// What is looked for among the routes.
-mod target;
-
 // The lists of a world.
 mod pair_lists;
-mod route_lists;
+mod route_walk;
 mod world_lists;
 
-// The lists of a question, and the question with the lists of its world.
-mod judged_question;
+// The lists of a question.
 mod question_lists;
-
-pub use judged_question::JudgedQuestion;
 
 // The judge.
 mod plan;

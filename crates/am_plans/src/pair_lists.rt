@@ -3,8 +3,10 @@
 ghost use Rattle.std.specs.Prelude.{◌≡◌, ◌||◌, ℕ, List, map, Contains, IfOk, OnOk, IsTrue};
 ghost use Rattle.std.specs.Prelude.{string_bytes, ◌<◌, ◌≤◌, length, slice_get, Some};
 ghost use Rattle.std.specs.List.{list_any};
+ghost use Rattle.am_universe.specs.Choice.{admits};
 ghost use Rattle.am_universe.specs.Universe.{sizes};
 ghost use Rattle.am_labels.specs.Row.{row_of};
+ghost use Rattle.am_judged_lists.specs.Cube.{MaskedLabels, verdict_at};
 ghost use Rattle.am_judged_lists.specs.Verdicts.{verdict_of_list};
 ghost use Rattle.am_eval.specs.declared.property.Property.TheVariants.{Inhibited};
 ghost use Rattle.am_eval.specs.Question.{Is};
@@ -19,7 +21,7 @@ ghost use Rattle.am_plans.specs.PairsByLists.{AreTargets, way_of_pair};
 
 use am_config::Rule;
 use am_eval::{Pair, World};
-use am_judged_lists::{Certainty, Group, JudgedList, rows_of};
+use am_judged_lists::{Certainty, Cube, Table, rows_of};
 use am_labels::Row;
 use am_universe::{Choice, LabelSet, Universe};
 use std::alloc::{AllocError, Global};
@@ -35,32 +37,32 @@ struct PairSide {
 
 /// A pair of a rule and a firing alert that the rule's source side matches.
 #[derive(Drop)]
-struct PairList<L> {
+struct PairList {
     /// The target side, with the alert's values for the labels in `equal`.
-    list: L,
+    list: Cube,
     side: PairSide,
 }
 
 /// The pairs of a world, with their lists.
 #[derive(Drop)]
-pub(crate) struct PairLists<L> {
+pub(crate) struct PairLists {
     /// The target side of each pair, with the alert's values for the labels in `equal`.
-    lists: Group<L>,
+    lists: Table,
     /// What each pair requires of its source side.
     sides: Vec<PairSide>,
     /// The source side of each rule.
-    sources: Vec<L>,
+    sources: Vec<Cube>,
 }
 
-impl<L: JudgedList> PairLists<L> {
+impl PairLists {
     /// Makes the lists of the pairs of a world. Fails only if memory runs out.
     pub(crate) fn of(
         alloc: Global,
         universe: &Universe,
         world: &World,
-    ) -> Result<PairLists<L>, AllocError>
+    ) -> Result<PairLists, AllocError>
         ensures inhibited { IfOk result (λ lists. (prefix : List ℕ) (m : Certainty)
-            → L.Knows (sizes universe.now) prefix → inhibited_by L.verdict prefix lists m
+            → IsTrue (admits (sizes universe.now) prefix) → inhibited_by prefix lists m
             ≡ passes m (verdict_of_simple universe.now world.now (Is Inhibited) prefix)) }
     {
         let rules = world.config().rules();
@@ -69,7 +71,7 @@ impl<L: JudgedList> PairLists<L> {
         let pairs = lists_of_pairs(alloc, universe, world, targets.as_slice())?;
         let (lists, sides) = parts_of_pairs(alloc, pairs)?;
         Ok(PairLists {
-            lists: Group::of(alloc, universe, lists)?,
+            lists: Table::of(alloc, universe, lists)?,
             sides,
             sources,
         })
@@ -78,7 +80,7 @@ impl<L: JudgedList> PairLists<L> {
     /// Whether, at a prefix, it is not excluded (`May`) or is certain (`Must`) that a firing alert
     /// inhibits the label set.
     pub(crate) fn inhibit(&self, certainty: Certainty, prefix: &Choice) -> bool
-        ensures inhibited { result ≡ inhibited_by L.verdict prefix.now self.now certainty }
+        ensures inhibited { result ≡ inhibited_by prefix.now self.now certainty }
     {
         let mut from = 0;
         while let Some(i) = self.lists.next(certainty, prefix, from) {
@@ -97,13 +99,13 @@ impl<L: JudgedList> PairLists<L> {
 
 /// Whether the source side of a pair does not match. If the pair does not require this, or there is
 /// no such side, the result is `true`.
-fn side_fails<L: JudgedList>(
-    sources: &[L],
+fn side_fails(
+    sources: &[Cube],
     side: PairSide,
     certainty: Certainty,
     prefix: &Choice,
 ) -> bool
-    ensures { result ≡ side_fails L.verdict prefix.now certainty sources.now side }
+    ensures { result ≡ side_fails prefix.now certainty sources.now side }
 {
     if !side.both {
         return true;
@@ -132,10 +134,10 @@ fn behind_same(sides: &[PairSide], place: usize) -> usize
 }
 
 /// The lists of some pairs, and what the pairs require of their source sides.
-fn parts_of_pairs<L: JudgedList>(
+fn parts_of_pairs(
     alloc: Global,
-    pairs: Vec<PairList<L>>,
-) -> Result<(Vec<L>, Vec<PairSide>), AllocError>
+    pairs: Vec<PairList>,
+) -> Result<(Vec<Cube>, Vec<PairSide>), AllocError>
     ensures lists { IfOk result (λ parts. parts.0.items ≡ map (λ pair. pair.list) pairs.items) }
     ensures sides { IfOk result (λ parts. parts.1.items ≡ map (λ pair. pair.side) pairs.items) }
 {
@@ -150,19 +152,18 @@ fn parts_of_pairs<L: JudgedList>(
 }
 
 /// The list of the source side of each rule.
-fn lists_of_sources<L: JudgedList>(
+fn lists_of_sources(
     alloc: Global,
     universe: &Universe,
     rules: &[Rule],
-) -> Result<Vec<L>, AllocError>
+) -> Result<Vec<Cube>, AllocError>
     ensures sources { IfOk result (λ lists. (prefix : List ℕ)
-        → L.Knows (sizes universe.now) prefix
-        → AreSources universe.now L.verdict prefix lists.items rules.now) }
+        → IsTrue (admits (sizes universe.now) prefix)
+        → AreSources universe.now prefix lists.items rules.now) }
 {
     let mut lists = Vec::with_capacity(alloc, rules.len())?;
     for rule in rules {
-        let rows = rows_of(alloc, universe, rule.source())?;
-        lists.push(L::of_rows(alloc, universe, rows.as_slice(), &[])?)?;
+        lists.push(Cube::of(alloc, rule.source(), universe)?)?;
     }
     Ok(lists)
 }
@@ -184,17 +185,18 @@ fn rows_of_targets(
 
 /// The lists of the pairs of a world. A pair is left out if its list never matches, or if it says
 /// the same as another pair of its rule: such a pair does not change an `or`.
-fn lists_of_pairs<L: JudgedList>(
+fn lists_of_pairs(
     alloc: Global,
     universe: &Universe,
     world: &World,
     targets: &[Vec<Row>],
-) -> Result<Vec<PairList<L>>, AllocError>
+) -> Result<Vec<PairList>, AllocError>
     requires { AreTargets universe.now targets.now world.now.config.rules }
-    ensures pairs { IfOk result (λ lists. (prefix : List ℕ) (m : Certainty) (sources : List L)
-        → L.Knows (sizes universe.now) prefix
-        → AreSources universe.now L.verdict prefix sources world.now.config.rules
-        → list_any (pair_by L.verdict prefix m sources) lists.items
+    ensures pairs { IfOk result (λ lists.
+        (prefix : List ℕ) (m : Certainty) (sources : List MaskedLabels)
+        → IsTrue (admits (sizes universe.now) prefix)
+        → AreSources universe.now prefix sources world.now.config.rules
+        → list_any (pair_by prefix m sources) lists.items
         ≡ list_any (way_of_pair universe.now world.now prefix m)
         (pairs_of world.now.config.rules world.now.alerts)) }
 {
@@ -207,14 +209,11 @@ fn lists_of_pairs<L: JudgedList>(
 }
 
 /// Adds a pair, unless it makes no difference.
-fn add_pair<L: JudgedList>(
-    lists: &mut Vec<PairList<L>>,
-    pair: PairList<L>,
-) -> Result<(), AllocError>
-    ensures { OnOk result ((prefix : List ℕ) (m : Certainty) (sources : List L)
-        → list_any (pair_by L.verdict prefix m sources) lists.new.items
-        ≡ (list_any (pair_by L.verdict prefix m sources) lists.old.items
-        || pair_by L.verdict prefix m sources pair)) }
+fn add_pair(lists: &mut Vec<PairList>, pair: PairList) -> Result<(), AllocError>
+    ensures { OnOk result ((prefix : List ℕ) (m : Certainty) (sources : List MaskedLabels)
+        → list_any (pair_by prefix m sources) lists.new.items
+        ≡ (list_any (pair_by prefix m sources) lists.old.items
+        || pair_by prefix m sources pair)) }
 {
     if !is_idle(lists.as_slice(), &pair) {
         lists.push(pair)?;
@@ -224,12 +223,12 @@ fn add_pair<L: JudgedList>(
 
 /// Whether a pair makes no difference to some pairs: its list never matches, or one of the last of
 /// them, which are of the same rule, says the same.
-fn is_idle<L: JudgedList>(lists: &[PairList<L>], pair: &PairList<L>) -> bool
-    ensures { IsTrue result → (prefix : List ℕ) (m : Certainty) (sources : List L)
-        → IsTrue (pair_by L.verdict prefix m sources pair.now)
-        → IsTrue (list_any (pair_by L.verdict prefix m sources) lists.now) }
+fn is_idle(lists: &[PairList], pair: &PairList) -> bool
+    ensures { IsTrue result → (prefix : List ℕ) (m : Certainty) (sources : List MaskedLabels)
+        → IsTrue (pair_by prefix m sources pair.now)
+        → IsTrue (list_any (pair_by prefix m sources) lists.now) }
 {
-    if pair.list.is_never() {
+    if pair.list.is_empty() {
         return true;
     }
     for i in (0..lists.len()).rev() {
@@ -245,25 +244,26 @@ fn is_idle<L: JudgedList>(lists: &[PairList<L>], pair: &PairList<L>) -> bool
 }
 
 /// Makes the list of a pair: the target side, and the alert's values for the labels in `equal`.
-fn list_of_pair<L: JudgedList>(
+fn list_of_pair(
     alloc: Global,
     universe: &Universe,
     world: &World,
     targets: &[Vec<Row>],
     pair: Pair,
-) -> Result<PairList<L>, AllocError>
+) -> Result<PairList, AllocError>
     requires targets { AreTargets universe.now targets.now world.now.config.rules }
     requires pair { Contains (pairs_of world.now.config.rules world.now.alerts) pair }
-    ensures pair { IfOk result (λ list. (prefix : List ℕ) (m : Certainty) (sources : List L)
-        → L.Knows (sizes universe.now) prefix
-        → AreSources universe.now L.verdict prefix sources world.now.config.rules
-        → pair_by L.verdict prefix m sources list
+    ensures pair { IfOk result (λ list.
+        (prefix : List ℕ) (m : Certainty) (sources : List MaskedLabels)
+        → IsTrue (admits (sizes universe.now) prefix)
+        → AreSources universe.now prefix sources world.now.config.rules
+        → pair_by prefix m sources list
         ≡ way_of_pair universe.now world.now prefix m pair) }
 {
     let rule = &world.config().rules()[pair.rule];
     let alert = world.alerts().get(pair.alert);
     let values = rows_of_values(alloc, universe, rule.equal(), alert)?;
-    let list = L::of_rows(
+    let list = Cube::of_rows(
         alloc,
         universe,
         targets[pair.rule].as_slice(),

@@ -24,21 +24,19 @@
 //! (`a_verdict_says_what_holds_of_all_completions`). It rests on the laws of `am_judged_lists`
 //! about one list, and on `a_simple_part_is_true_where_its_condition_holds` of `am_eval`.
 
-ghost use Rattle.std.specs.Prelude.{◌≡◌, ℕ, List, map, IfOk, IsTrue};
+ghost use Rattle.std.specs.Prelude.{◌≡◌, ℕ, List, IfOk, IsTrue};
 ghost use Rattle.std.proofs.Props.{props};
 ghost use Rattle.am_universe.specs.Universe.{sizes};
 ghost use Rattle.am_universe.specs.Choice.{admits, IsWhole};
-ghost use Rattle.am_judged_lists.specs.GroupView.{verdicts_in};
-ghost use Rattle.am_judged_lists.specs.Cube.{verdict_at};
-ghost use Rattle.am_judged_lists.specs.Verdicts.{verdict_of_list};
 ghost use Rattle.am_eval.specs.Question.{is_answer};
 ghost use Rattle.am_eval.specs.QuestionView.{question_view};
 ghost use Rattle.am_plans.specs.Verdicts.{verdict_of};
 ghost use Rattle.am_plans.specs.PlanView.{is_answer_by, IsJudgeOver};
 
-use crate::judged_question::JudgedQuestion;
+use crate::question_lists::QuestionLists;
+use crate::world_lists::WorldLists;
 use am_eval::{Question, World};
-use am_judged_lists::{Certainty, Cube, Group, impossible_cubes};
+use am_judged_lists::{Certainty, Table, impossible_cubes};
 use am_labels::Space;
 use am_search::{Judge, Verdict};
 use am_universe::Choice;
@@ -53,9 +51,11 @@ use std::alloc::{AllocError, Global};
 #[derive(Drop)]
 pub struct Plan<'a> {
     space: &'a Space,
-    judged: JudgedQuestion<'a, Cube>,
-    impossible: Group<Cube>,
-    ghost is_judge: { IsJudgeOver space.now.labels judged impossible } by { Prim.hlevel props },
+    world: WorldLists,
+    question: QuestionLists<'a>,
+    impossible: Table,
+    ghost is_judge: { IsJudgeOver space.now.labels world question impossible }
+        by { Prim.hlevel props },
 }
 
 impl<'a> Plan<'a> {
@@ -83,11 +83,13 @@ impl<'a> Plan<'a> {
         let universe = space.universe();
         // The contract of `len` tells the proof that the sizes are sizes that a judge may have.
         prove!(universe.len() <= MAX_LABELS);
-        let judged = JudgedQuestion::of(alloc, universe, world, question)?;
-        let impossible = impossible_group(alloc, space)?;
+        let world = WorldLists::of(alloc, universe, world, question)?;
+        let question = QuestionLists::of(alloc, universe, question)?;
+        let impossible = Table::of(alloc, universe, impossible_cubes(alloc, space)?)?;
         Ok(Plan {
             space,
-            judged,
+            world,
+            question,
             impossible,
         })
     }
@@ -95,9 +97,11 @@ impl<'a> Plan<'a> {
     /// Whether, at a prefix, it is not excluded (`May`) or is certain (`Must`) that the choice is
     /// an answer.
     fn is_answer(&self, certainty: Certainty, prefix: &Choice) -> bool
-        ensures { result ≡ is_answer_by self.now.judged self.now.impossible prefix.now certainty }
+        ensures { result ≡ is_answer_by self.now.world self.now.question self.now.impossible
+            prefix.now certainty }
     {
-        self.judged.holds(certainty, prefix) && !self.impossible.any(certainty.other(), prefix)
+        self.question.holds(&self.world, certainty, prefix)
+            && !self.impossible.any(certainty.other(), prefix)
     }
 }
 
@@ -130,14 +134,4 @@ impl<'a> Judge for Plan<'a> {
         }
         Verdict::Open
     }
-}
-
-/// Makes the group of the cubes of a space's impossible lists. Fails only if memory runs out.
-fn impossible_group(alloc: Global, space: &Space) -> Result<Group<Cube>, AllocError>
-    ensures verdicts { IfOk result (λ group. (prefix : List ℕ)
-        → IsTrue (admits (sizes space.now.labels) prefix) → verdicts_in verdict_at prefix group
-        ≡ map (λ ms. verdict_of_list space.now.labels ms prefix) space.now.impossible) }
-{
-    let cubes = impossible_cubes(alloc, space)?;
-    Group::of(alloc, space.universe(), cubes)
 }

@@ -1,6 +1,7 @@
 //! Questions, with lists in place of their matchers.
 
-ghost use Rattle.std.specs.Prelude.{◌≡◌, ℕ, List, IfOk};
+ghost use Rattle.std.specs.Prelude.{◌≡◌, ℕ, List, IfOk, IsTrue};
+ghost use Rattle.am_universe.specs.Choice.{admits};
 ghost use Rattle.am_universe.specs.Universe.{sizes};
 ghost use Rattle.am_eval.specs.World.{World};
 ghost use Rattle.am_eval.specs.QuestionView.{question_view};
@@ -10,53 +11,51 @@ ghost use Rattle.am_plans.specs.Verdicts.{verdict_of_question};
 ghost use Rattle.am_plans.specs.WorldByLists.{WorldSeen, world_seen, Serves};
 ghost use Rattle.am_plans.specs.QuestionByLists.{question_by};
 
-use crate::target::Target;
 use crate::world_lists::WorldLists;
-use am_eval::{Property, Question};
-use am_judged_lists::{Certainty, JudgedList, rows_of};
+use am_eval::{Property, Question, Reach};
+use am_judged_lists::{Certainty, Cube};
 use am_universe::{Choice, Universe};
 use std::alloc::{AllocError, Global};
 
 /// A question, with the lists of its matchers.
 #[derive(Drop)]
-pub(crate) enum QuestionLists<'q, L> {
+pub(crate) enum QuestionLists<'q> {
     /// The label set has this property.
     Is(Property),
-    /// The label set comes to a target among the routes.
-    Comes(Target<'q>),
+    /// The label set goes to this receiver.
+    Receiver(usize),
+    /// The label set reaches the route at this path.
+    Route(Reach, &'q [u16]),
     /// The label set matches the list.
-    Braces(L),
+    Braces(Cube),
     /// The question is false.
-    Not(Box<QuestionLists<'q, L>>),
+    Not(Box<QuestionLists<'q>>),
     /// Both are true.
-    And(Box<QuestionLists<'q, L>>, Box<QuestionLists<'q, L>>),
+    And(Box<QuestionLists<'q>>, Box<QuestionLists<'q>>),
     /// One of them is true, or both.
-    Or(Box<QuestionLists<'q, L>>, Box<QuestionLists<'q, L>>),
+    Or(Box<QuestionLists<'q>>, Box<QuestionLists<'q>>),
 }
 
-impl<'q, L: JudgedList> QuestionLists<'q, L> {
+impl<'q> QuestionLists<'q> {
     /// Makes the lists of the matchers of a question. Fails only if memory runs out.
     pub(crate) fn of(
         alloc: Global,
         universe: &Universe,
         question: &'q Question,
-    ) -> Result<QuestionLists<'q, L>, AllocError>
+    ) -> Result<QuestionLists<'q>, AllocError>
         ensures exact { IfOk result (λ lists.
             (w : World) (prefix : List ℕ) (seen : WorldSeen) (m : Certainty)
-            → L.Knows (sizes universe.now) prefix
+            → IsTrue (admits (sizes universe.now) prefix)
             → Serves universe.now w prefix seen (question_view question.now)
-            → question_by L.verdict prefix seen lists m
+            → question_by prefix seen lists m
             ≡ passes m (verdict_of_question universe.now w (question_view question.now) prefix)) }
     {
         match question {
             Question::Is(property) => Ok(QuestionLists::Is(*property)),
-            Question::Receiver(receiver) => Ok(QuestionLists::Comes(Target::Receiver(*receiver))),
-            Question::Route(reach, path) => {
-                Ok(QuestionLists::Comes(Target::Route(*reach, path.steps())))
-            }
+            Question::Receiver(receiver) => Ok(QuestionLists::Receiver(*receiver)),
+            Question::Route(reach, path) => Ok(QuestionLists::Route(*reach, path.steps())),
             Question::Braces(matchers) => {
-                let rows = rows_of(alloc, universe, matchers)?;
-                Ok(QuestionLists::Braces(L::of_rows(alloc, universe, rows.as_slice(), &[])?))
+                Ok(QuestionLists::Braces(Cube::of(alloc, matchers, universe)?))
             }
             Question::Not(question) => {
                 let lists = QuestionLists::of(alloc, universe, question)?;
@@ -76,13 +75,14 @@ impl<'q, L: JudgedList> QuestionLists<'q, L> {
     }
 
     /// Whether, at a prefix, the question is not excluded (`May`) or is certain (`Must`).
-    pub(crate) fn holds(&self, world: &WorldLists<L>, certainty: Certainty, prefix: &Choice) -> bool
-        ensures truth { result ≡ question_by L.verdict prefix.now
-            (world_seen L.verdict prefix.now world.now) self.now certainty }
+    pub(crate) fn holds(&self, world: &WorldLists, certainty: Certainty, prefix: &Choice) -> bool
+        ensures truth { result ≡ question_by prefix.now
+            (world_seen prefix.now world.now) self.now certainty }
     {
         match self {
             QuestionLists::Is(property) => world.has(certainty, *property, prefix),
-            QuestionLists::Comes(target) => world.comes(certainty, *target, prefix),
+            QuestionLists::Receiver(receiver) => world.goes_to(certainty, *receiver, prefix),
+            QuestionLists::Route(reach, path) => world.reaches(certainty, *reach, path, prefix),
             QuestionLists::Braces(list) => certainty.holds(list, prefix),
             QuestionLists::Not(question) => !question.holds(world, certainty.other(), prefix),
             QuestionLists::And(left, right) => {

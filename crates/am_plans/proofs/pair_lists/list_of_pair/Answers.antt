@@ -12,37 +12,37 @@ the_rules : {config world : Configuration} {rules : List Rule} → rules ≡ con
 the_rules e f = e ∙ ap (λ (c : Configuration). c.rules) f
 
 pub bounds-rules-pair : goal.bounds-rules-pair
-bounds-rules-pair g c =
+bounds-rules-pair c =
     rule_within c.args.world.now c.rules.result.now c.args.pair c.requires.pair
     (the_rules c.rules.ensures.rules c.config.ensures.config)
 
 pub offset_bounds-rules-pair : goal.offset_bounds-rules-pair
-offset_bounds-rules-pair g c =
+offset_bounds-rules-pair c =
     let inside = rule_within c.args.world.now c.rules.result.now c.args.pair c.requires.pair
     (the_rules c.rules.ensures.rules c.config.ensures.config) in
     omega (arith, inside, c.rules.type_inv.1)
 
 pub get-alert-requires : goal.get-alert-requires
-get-alert-requires g c =
+get-alert-requires c =
     record {
       alert = alert_within c.args.world.now c.alerts.result.now c.args.pair c.requires.pair
           c.alerts.ensures.alerts;
     }
 
 pub bounds-targets-pair : goal.bounds-targets-pair
-bounds-targets-pair g c =
+bounds-targets-pair c =
     let world = c.args.world.now in
     targets_within c.args.universe.now c.args.targets.now world.config.rules c.args.pair.rule
     c.requires.targets (rule_within world world.config.rules c.args.pair c.requires.pair refl)
 
 pub offset_bounds-targets-pair : goal.offset_bounds-targets-pair
-offset_bounds-targets-pair g c =
+offset_bounds-targets-pair c =
     let inside = rule_within c.args.world.now c.rules.result.now c.args.pair c.requires.pair
     (the_rules c.rules.ensures.rules c.config.ensures.config) in
     omega (arith, inside, c.rules.type_inv.1)
 
 pub of_rows-requires : goal.of_rows-requires
-of_rows-requires g c =
+of_rows-requires c =
     let rule = c.index-rules-pair.result in
     let at_rule = rule_at c.args.world.now c.rules.result.now c.args.pair rule c.requires.pair
     (the_rules c.rules.ensures.rules c.config.ensures.config) c.index-rules-pair.is in
@@ -56,7 +56,7 @@ of_rows-requires g c =
     }
 
 pub returns : goal.returns
-returns g c =
+returns c =
     let world = c.args.world.now in
     let pair = c.args.pair in
     let rule = c.index-rules-pair.result in
@@ -73,7 +73,7 @@ returns g c =
     of_world c.alerts.ensures.alerts c.index-rules-pair.is c.get-alert.ensures.alert in
     record {
       pair = λ prefix m sources knows are.
-          pair_truth c.args.universe.now world g.L.JudgedList.verdict prefix m sources c.in_ok-list.list
+          pair_truth c.args.universe.now world prefix m sources c.in_ok-list.list
           pair rule a are at_rule at_alert read.1
           (c.in_ok-list.ensures.exact (rule.target ++ map (same_value a) rule.equal) rows prefix knows);
     }

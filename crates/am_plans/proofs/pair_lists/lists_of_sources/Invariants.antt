@@ -1,10 +1,12 @@
 use Rattle.std.proofs.Common.{ℕ, List, take}
+use Rattle.std.specs.Prelude.{IsTrue}
+use Rattle.am_universe.specs.Choice.{admits}
 use Rattle.am_universe.specs.Universe.{sizes}
 use Rattle.am_plans.specs.PairsByLists.{AreSources}
 use Rattle.am_plans.proofs.pair_lists.lists_of_sources.Given as goal
 
 -- the lists so far are those of the rules so far
 abbrev pub invariant-loop-rule : goal.invariant-loop-rule
-invariant-loop-rule g l =
-    (prefix : List ℕ) → g.L.JudgedList.Knows (sizes l.universe) prefix
-    → AreSources l.universe g.L.JudgedList.verdict prefix l.lists.items (take l.rule-index l.rules)
+invariant-loop-rule l =
+    (prefix : List ℕ) → IsTrue (admits (sizes l.universe) prefix)
+    → AreSources l.universe prefix l.lists.items (take l.rule-index l.rules)

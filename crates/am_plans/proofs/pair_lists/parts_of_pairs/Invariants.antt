@@ -5,7 +5,7 @@ use Rattle.am_plans.proofs.pair_lists.parts_of_pairs.Given as goal
 
 -- the parts so far are those of the pairs so far
 abbrev pub invariant-loop-pair : goal.invariant-loop-pair
-invariant-loop-pair g l =
+invariant-loop-pair l =
     (l.lists.items ≡ map (λ pair. pair.list) l.yielded)
     × (l.sides.items ≡ map (λ pair. pair.side) l.yielded)
     × (l.yielded ++ into_iter_items l.pair-iterator ≡ l.fn.pairs.items)

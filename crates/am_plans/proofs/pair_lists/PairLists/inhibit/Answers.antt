@@ -1,12 +1,11 @@
 use Rattle.std.proofs.Common.{◌≡◌, ◌≤◌, length, slice_get, inl, inr, sym, ap, ◌∙◌, arith}
 use Rattle.std.proofs.lemmas.Option.{slice_get_read}
-use Rattle.am_judged_lists.specs.GroupView.{verdicts_in}
 use Rattle.am_plans.specs.PairsByLists.{side_fails}
 use Rattle.am_plans.proofs.PairSteps.{this_pair, no_pair_more, no_pair_to_end}
 use Rattle.am_plans.proofs.pair_lists.PairLists.inhibit.Goals as goal
 
 pub returns-then-i-len : goal.returns-then-i-len
-returns-then-i-len g c =
+returns-then-i-len c =
     let out : length c.args.self.now.sides.items ≤ c.in-Some.i =
     omega (arith, c.if-i-len.true, c.len.ensures) in
     record {
@@ -15,27 +14,27 @@ returns-then-i-len g c =
     }
 
 pub returns-then-side_fails : goal.returns-then-side_fails
-returns-then-side_fails g c =
+returns-then-side_fails c =
     let sides = c.args.self.now.sides.items in
     let side = c.index.result.now in
     let next = c.in-Some.ensures.some in
     let count : c.len.result ≡ length sides = omega (arith, c.len.ensures) in
     let here = slice_get_read sides c.len.result c.in-Some.i side count c.if-i-len.false
     c.index.ensures in
-    let fail = ap (λ sources. side_fails g.L.JudgedList.verdict c.args.prefix.now c.args.certainty
+    let fail = ap (λ sources. side_fails c.args.prefix.now c.args.certainty
     sources side) (sym c.deref.ensures.value) ∙ sym c.side_fails.ensures ∙ c.if-side_fails.true in
     record {
       inhibited = sym (this_pair _ _ _ sides c.in-Some.i side next.within next.found here fail);
     }
 
 pub loop-i-preserved : goal.loop-i-preserved
-loop-i-preserved g c =
+loop-i-preserved c =
     let sides = c.args.self.now.sides.items in
     let side = c.index.result.now in
     let count : c.len.result ≡ length sides = omega (arith, c.len.ensures) in
     let here = slice_get_read sides c.len.result c.in-Some.i side count c.if-i-len.false
     c.index.ensures in
-    let spared = ap (λ sources. side_fails g.L.JudgedList.verdict c.args.prefix.now
+    let spared = ap (λ sources. side_fails c.args.prefix.now
     c.args.certainty sources side) (sym c.deref.ensures.value) ∙ sym c.side_fails.ensures
     ∙ c.if-side_fails.false in
     no_pair_more _ _ _ sides c.loop-i.from c.in-Some.i c.behind_same-from.result side
@@ -45,10 +44,10 @@ loop-i-preserved g c =
     (ap (λ sides. slice_get sides j) c.deref-in-Some.ensures.value ∙ with))
 
 pub returns : goal.returns
-returns g c =
-    let vs = verdicts_in g.L.JudgedList.verdict c.args.prefix.now c.args.self.now.lists in
-    let all : length vs ≤ length vs = omega arith in
+returns c =
+    let cubes = c.args.self.now.lists in
+    let all : length cubes ≤ length cubes = omega arith in
     record {
-      inhibited = sym (no_pair_to_end _ _ vs _ c.loop-i.from (length vs) c.loop-i.invariant
+      inhibited = sym (no_pair_to_end _ _ cubes _ c.loop-i.from (length cubes) c.loop-i.invariant
           c.in_default.ensures.none (inl all));
     }

@@ -7,67 +7,60 @@ use Rattle.am_judged_lists.specs.Certainty.{other}
 use Rattle.am_plans.specs.Verdicts.{verdict_of_question}
 use Rattle.am_plans.specs.WorldByLists.{Serves, needs_of}
 use Rattle.am_plans.specs.declared.world_lists.Need.TheVariants as needs
-use Rattle.am_plans.specs.Target as targets
 use Rattle.am_eval.proofs.QuestionSeen.{is_seen, receiver_seen, route_seen}
 use Rattle.am_plans.proofs.Kleene.{passes_not, passes_and, passes_or}
-use Rattle.am_plans.proofs.QuestionSteps.{not_seen, and_seen, or_seen, by_is, by_comes, by_not}
-use Rattle.am_plans.proofs.QuestionSteps.{by_and, by_or}
-use Rattle.am_plans.proofs.QuestionMade.{has_served, comes_to_receiver, comes_to_route}
+use Rattle.am_plans.proofs.QuestionSteps.{not_seen, and_seen, or_seen, by_is, by_receiver}
+use Rattle.am_plans.proofs.QuestionSteps.{by_route, by_not, by_and, by_or}
+use Rattle.am_plans.proofs.QuestionMade.{has_served}
 use Rattle.am_plans.proofs.question_lists.QuestionLists.+of.Goals as goal
 
 pub returns-in-Is : goal.returns-in-Is
-returns-in-Is g t c = record {
+returns-in-Is t c = record {
   exact = λ w prefix seen m knows serves.
       let u = c.args.universe.now in
       let property = c.in-Is.property in
       let seen_as = ap question_view c.in-Is.is ∙ is_seen property in
-      rw (seen_as, by_is g.L.JudgedList.verdict prefix seen m property)
+      rw (seen_as, by_is prefix seen m property)
       (has_served u w prefix m seen property (rw seen_as at serves));
 }
 
 pub returns-in-Receiver : goal.returns-in-Receiver
-returns-in-Receiver g t c = record {
+returns-in-Receiver t c = record {
   exact = λ w prefix seen m knows serves.
-      let u = c.args.universe.now in
       let receiver = c.in-Receiver.receiver in
       let seen_as = ap question_view c.in-Receiver.is ∙ receiver_seen receiver in
       let served = rw seen_as at serves in
-      rw (seen_as, by_comes g.L.JudgedList.verdict prefix seen m _)
-      (served needs.Routes refl m (targets.Receiver receiver)
-      ∙ comes_to_receiver u w prefix m receiver);
+      rw (seen_as, by_receiver prefix seen m receiver) ((served needs.Routes refl).receiver m receiver);
 }
 
 pub returns-in-Route : goal.returns-in-Route
-returns-in-Route g t c = record {
+returns-in-Route t c = record {
   exact = λ w prefix seen m knows serves.
-      let u = c.args.universe.now in
       let reach = c.in-Route.reach in
-      let seen_as = ap question_view c.in-Route.is ∙ route_seen reach c.in-Route.path in
+      let path = c.in-Route.path in
+      let seen_as = ap question_view c.in-Route.is ∙ route_seen reach path in
       let served = rw seen_as at serves in
-      rw (seen_as, by_comes g.L.JudgedList.verdict prefix seen m _, c.steps.ensures.steps)
-      (served needs.Routes refl m (targets.Route reach c.in-Route.path)
-      ∙ comes_to_route u w prefix m reach c.in-Route.path);
+      rw (seen_as, by_route prefix seen m reach _, c.steps.ensures.steps)
+      ((served needs.Routes refl).route m reach path);
 }
 
 pub returns-in_ok-new-in-Not : goal.returns-in_ok-new-in-Not
-returns-in_ok-new-in-Not g t c = record {
+returns-in_ok-new-in-Not t c = record {
   exact = λ w prefix seen m knows serves.
       let u = c.args.universe.now in
-      let V = g.L.JudgedList.verdict in
       let q = question_view c.deref.result.now in
       let seen_as = ap question_view c.in-Not.is ∙ not_seen c.in-Not.question
       ∙ ap (λ q. Not (question_view q)) (sym c.deref.ensures) in
       let served = subst (Serves u w prefix seen) seen_as serves in
-      rw (seen_as, by_not V prefix seen m c.in_ok-new-in-Not.field-0, c.in_ok-new-in-Not.ensures.ok)
+      rw (seen_as, by_not prefix seen m c.in_ok-new-in-Not.field-0, c.in_ok-new-in-Not.ensures.ok)
       (ap not (c.in_ok-lists-in-Not.ensures.exact w prefix seen (other m) knows served)
       ∙ sym (passes_not m (verdict_of_question u w q prefix)));
 }
 
 pub returns-in_ok-new-in-And-2 : goal.returns-in_ok-new-in-And-2
-returns-in_ok-new-in-And-2 g t c = record {
+returns-in_ok-new-in-And-2 t c = record {
   exact = λ w prefix seen m knows serves.
       let u = c.args.universe.now in
-      let V = g.L.JudgedList.verdict in
       let q = question_view c.deref-in-And.result.now in
       let r = question_view c.deref-in-And-2.result.now in
       let seen_as : question_view c.args.question.now ≡ And q r =
@@ -81,7 +74,7 @@ returns-in_ok-new-in-And-2 g t c = record {
       (λ need e. served need (or_right (needs_of need q) (needs_of need r) e)) in
       rw (
         seen_as,
-        by_and V prefix seen m c.in_ok-new-in-And.field-0 c.in_ok-new-in-And-2.field-0,
+        by_and prefix seen m c.in_ok-new-in-And.field-0 c.in_ok-new-in-And-2.field-0,
         c.in_ok-new-in-And.ensures.ok,
         c.in_ok-new-in-And-2.ensures.ok,
         left,
@@ -91,10 +84,9 @@ returns-in_ok-new-in-And-2 g t c = record {
 }
 
 pub returns-in_ok-new-in-Or-2 : goal.returns-in_ok-new-in-Or-2
-returns-in_ok-new-in-Or-2 g t c = record {
+returns-in_ok-new-in-Or-2 t c = record {
   exact = λ w prefix seen m knows serves.
       let u = c.args.universe.now in
-      let V = g.L.JudgedList.verdict in
       let q = question_view c.deref-in-Or.result.now in
       let r = question_view c.deref-in-Or-2.result.now in
       let seen_as : question_view c.args.question.now ≡ Or q r =
@@ -108,7 +100,7 @@ returns-in_ok-new-in-Or-2 g t c = record {
       (λ need e. served need (or_right (needs_of need q) (needs_of need r) e)) in
       rw (
         seen_as,
-        by_or V prefix seen m c.in_ok-new-in-Or.field-0 c.in_ok-new-in-Or-2.field-0,
+        by_or prefix seen m c.in_ok-new-in-Or.field-0 c.in_ok-new-in-Or-2.field-0,
         c.in_ok-new-in-Or.ensures.ok,
         c.in_ok-new-in-Or-2.ensures.ok,
         left,

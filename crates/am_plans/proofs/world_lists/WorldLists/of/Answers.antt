@@ -12,10 +12,10 @@ each_need P routes silences pairs Silences = silences
 each_need P routes silences pairs Pairs = pairs
 
 pub returns : goal.returns
-returns g c = record {
+returns c = record {
   serves = λ prefix knows.
       let q = question_view c.args.question.now in
-      let seen = world_seen g.L.JudgedList.verdict prefix (record {
+      let seen = world_seen prefix (record {
         routes = c.in_ok-routes_if.field-0;
         silences = c.in_ok-silences_if.field-0;
         pairs = c.in_ok-pairs_if.field-0;

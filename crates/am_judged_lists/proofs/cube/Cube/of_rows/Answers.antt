@@ -1,8 +1,8 @@
 use Rattle.std.proofs.Common.{◌++◌, sym, ◌∙◌, arith}
 use Rattle.am_judged_lists.proofs.BuildLemmas.{built_more, built_past, built_exact, all_sized}
-use Rattle.am_judged_lists.proofs.cube.CubeJudgedList.of_rows.Goals as goal
-use Rattle.am_judged_lists.proofs.cube.CubeJudgedList.of_rows.Goals.{then-is_any_of+in_ok-mask+in_ok-restrict}
-use Rattle.am_judged_lists.proofs.cube.CubeJudgedList.of_rows.Goals.{else-is_any_of+else-is_any_of-2}
+use Rattle.am_judged_lists.proofs.cube.Cube.of_rows.Goals as goal
+use Rattle.am_judged_lists.proofs.cube.Cube.of_rows.Goals.{then-is_any_of+in_ok-mask+in_ok-restrict}
+use Rattle.am_judged_lists.proofs.cube.Cube.of_rows.Goals.{else-is_any_of+else-is_any_of-2}
 
 pub of_rows-requires-clause-rows : goal.of_rows-requires-clause-rows
 of_rows-requires-clause-rows c =

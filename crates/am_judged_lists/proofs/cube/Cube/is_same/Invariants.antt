@@ -1,5 +1,5 @@
 use Rattle.std.proofs.Common.{◌≡◌, take}
-use Rattle.am_judged_lists.proofs.cube.Cube.has_masks_of.Given as goal
+use Rattle.am_judged_lists.proofs.cube.Cube.is_same.Given as goal
 
 -- the masks so far are the same
 abbrev pub invariant-loop-i : goal.invariant-loop-i
