@@ -13,13 +13,14 @@ use Rattle.am_config.specs.ConfigFile.{Configuration, RouteTree, Routes, route}
 use Rattle.am_config.specs.ConfigFile.{continues_of, children_of}
 use Rattle.am_judged_lists.specs.Cube.{verdict_at}
 use Rattle.am_judged_lists.proofs.VerdictLemmas.{list_says}
+use Rattle.am_eval.specs.Routing.{is_last}
 use Rattle.am_first_sets.specs.declared.route_cubes.RouteCubes.{RouteCubes}
 use Rattle.am_first_sets.specs.declared.route_cubes.RouteCubes.TheViews.{out-RouteCubes}
 use Rattle.am_first_sets.specs.RouteCubes.{AreCubesOf, AreCubesOfEach}
 use Rattle.am_outcomes.specs.declared.route_steps.RouteStep.{RouteStep}
 use Rattle.am_outcomes.specs.Knows.{KnowsConfigs}
 use Rattle.am_outcomes.specs.RouteSteps.{AreSteps, GoesFrom, step_after, verdict_if}
-use Rattle.am_outcomes.specs.Ways.{way_at, child_way, way, is_last_tried}
+use Rattle.am_outcomes.specs.Ways.{way_at, child_way, way}
 use Rattle.am_outcomes.proofs.ReceiverSteps.{next_of, none_left, own_children}
 use Rattle.am_outcomes.proofs.ReceiverSteps.{own_continues}
 use Rattle.am_outcomes.proofs.JudgedSteps.{next_config, no_config_left}
@@ -100,7 +101,7 @@ pub route_goes : (u : List Label) (t : RouteTree) (c : List ℕ) (r : RouteCubes
     ++ cond (continues_of t) later last)
     → GoesFrom steps one.unmatched c later
     → GoesFrom (steps ++ one ∷ []) (length (steps ++ one ∷ [])) c
-    (way_at (label_set_of u c) t ++ cond (is_last_tried (label_set_of u c) t) last later)
+    (way_at (label_set_of u c) t ++ cond (is_last (label_set_of u c) t) last later)
 route_goes u (route settings children) c r steps one later last whole are is goes past =
     by_step steps one c (all_hold (label_set_of u c) settings.matchers) settings.continues
     (child_way (label_set_of u c) children) later last
@@ -128,7 +129,7 @@ pub below_more : (old steps more new : List RouteStep) (behind first after : ℕ
     → ((u : List Label) (t : RouteTree) (c : List ℕ) → IsWhole (sizes u) c → AreCubesOf u c t child
     → (later last : List Bool) → GoesFrom steps first c later → GoesFrom steps behind c last
     → GoesFrom new after c
-    (way_at (label_set_of u c) t ++ cond (is_last_tried (label_set_of u c) t) last later))
+    (way_at (label_set_of u c) t ++ cond (is_last (label_set_of u c) t) last later))
     → GoesBelow old behind new after children k
 below_more old steps more new behind first after children k child within is longer so_far one
     u ts c whole are rest goes =
@@ -140,7 +141,7 @@ below_more old steps more new behind first after children k child within is long
     let later = so_far u next.later c whole next.left rest goes in
     let gone = one u next.tree c whole next.cubes (child_way s next.later ++ rest) rest later there in
     subst (λ (w : List Bool). GoesFrom new after c w)
-    (child_goes (way_at s next.tree) (child_way s next.later) rest (is_last_tried s next.tree)
+    (child_goes (way_at s next.tree) (child_way s next.later) rest (is_last s next.tree)
     ∙ ap (λ ds. child_way s ds ++ rest) (sym next.is)) gone
 
 pub none_below : (old : List RouteStep) (behind : ℕ) (children : List RouteCubes) (k : ℕ)
@@ -166,7 +167,7 @@ pub through_more : (steps new : List RouteStep) (first after : ℕ) (configs : L
     → ((u : List Label) (t : RouteTree) (c : List ℕ) → IsWhole (sizes u) c → AreCubesOf u c t r
     → (later last : List Bool) → GoesFrom steps first c later → GoesFrom steps first c last
     → GoesFrom new after c
-    (way_at (label_set_of u c) t ++ cond (is_last_tried (label_set_of u c) t) last later))
+    (way_at (label_set_of u c) t ++ cond (is_last (label_set_of u c) t) last later))
     → GoesThrough new after configs k
 through_more steps new first after configs k r within is so_far one u cs know c whole =
     let next = next_config u cs configs k r within is know in
@@ -175,7 +176,7 @@ through_more steps new first after configs k r within is so_far one u cs know c 
     let later = so_far u next.later next.left c whole in
     let root = next.config.root in
     subst (λ (l : List Bool). GoesFrom new after c l)
-    (either_way (way_at s root) w (is_last_tried s root) ∙ ap (way s) (sym next.is))
+    (either_way (way_at s root) w (is_last s root) ∙ ap (way s) (sym next.is))
     (one u root c whole (next.cubes c whole) w w later later)
 
 pub none_through : (configs : List RouteCubes) (k : ℕ) → length configs ≤ k
@@ -199,7 +200,7 @@ pub pushed_goes : (u : List Label) (t : RouteTree) (c : List ℕ) (r : RouteCube
     → GoesBelow old behind steps one.matched (out-RouteCubes r).routes.items 0
     → GoesFrom old next c later → GoesFrom old end c last
     → GoesFrom new after c
-    (way_at (label_set_of u c) t ++ cond (is_last_tried (label_set_of u c) t) last later)
+    (way_at (label_set_of u c) t ++ cond (is_last (label_set_of u c) t) last later)
 pushed_goes u t c r old steps more new one behind next end after later last whole are cube to longer
     adds is_after is_behind below goes_next goes_end =
     let s = label_set_of u c in
@@ -214,7 +215,7 @@ pushed_goes u t c r old steps more new one behind next end after later last whol
     (below u (children_of t) c whole (own_children u c t r are) (cond (continues_of t) later last)
     past) there in
     subst₂ (λ (l : List RouteStep) (n : ℕ). GoesFrom l n c
-    (way_at s t ++ cond (is_last_tried s t) last later)) (sym adds)
+    (way_at s t ++ cond (is_last s t) last later)) (sym adds)
     (sym (is_after ∙ ap length adds)) gone
   where
     by_continue : (b : Bool) → GoesFrom old (cond b next end) c (cond b later last)

@@ -6,9 +6,10 @@ use Rattle.am_universe.specs.LabelSet.{LabelMap}
 use Rattle.am_labels.specs.Matcher.{all_hold}
 use Rattle.am_config.specs.ConfigFile.{Configuration, RouteTree, Routes, route, no_routes}
 use Rattle.am_config.specs.ConfigFile.{next_route, matchers_of, continues_of}
+use Rattle.am_eval.specs.Routing.{is_last}
 use Rattle.am_outcomes.specs.Outcomes.{fate}
 use Rattle.am_outcomes.specs.Receivers.{receivers_at, child_receivers, or_own_receiver}
-use Rattle.am_outcomes.specs.Ways.{way_at, child_way, way, is_last_tried}
+use Rattle.am_outcomes.specs.Ways.{way_at, child_way, way}
 use Rattle.am_outcomes.proofs.RouteReceivers.{receivers_are}
 
 pub fate_by_routes : (cs : List Configuration) (set : LabelMap)
@@ -64,10 +65,10 @@ module _ (s z : LabelMap) where
         → AreSame ts x y
     same_below no_routes x y e = (e, refl)
     same_below (next_route t ts) x y e =
-        let one = same_at t (cond (is_last_tried s t) [] (child_way s ts) ++ x)
-        (cond (is_last_tried z t) [] (child_way z ts) ++ y)
-        (sym (append_assoc (way_at s t) (cond (is_last_tried s t) [] (child_way s ts)) x) ∙ e
-        ∙ append_assoc (way_at z t) (cond (is_last_tried z t) [] (child_way z ts)) y) in
+        let one = same_at t (cond (is_last s t) [] (child_way s ts) ++ x)
+        (cond (is_last z t) [] (child_way z ts) ++ y)
+        (sym (append_assoc (way_at s t) (cond (is_last s t) [] (child_way s ts)) x) ∙ e
+        ∙ append_assoc (way_at z t) (cond (is_last z t) [] (child_way z ts)) y) in
         let later = behind ts (all_hold s (matchers_of t)) (all_hold z (matchers_of t))
         (continues_of t) x y one.0 (λ v w same. same_below ts v w same) one.1 in
         (later.0, λ i. one.2 i ++ later.1 i)

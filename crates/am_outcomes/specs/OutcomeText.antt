@@ -1,7 +1,7 @@
 -- The text of outcomes, and of those that differ between two configurations. (This project's own.)
-use Rattle.std.specs.Prelude.{ℕ, ◌<◌, List, [], ◌++◌, map, length, Bool, not, codes, decimal}
+use Rattle.std.specs.Prelude.{ℕ, List, [], ◌++◌, map, length, Bool, not, codes, decimal}
 use Rattle.std.specs.Prelude.{slice_get, unwrap_or}
-use Rattle.std.specs.List.{filter, flat_map, AllByRecursion}
+use Rattle.std.specs.List.{filter, flat_map}
 use lib.Pointwise.{pointwise}
 use Rattle.am_universe.specs.Universe.{Label}
 use Rattle.am_universe.specs.Text.{quoted_text, same_text}
@@ -25,10 +25,6 @@ names_of c receivers = map (name_of c) receivers
 -- Example: `"db-pager","incident-log"`.
 abbrev pub names_text : List (List ℕ) → List ℕ
 names_text names = texts_behind (codes "") (codes ",") quoted_text names
-
--- The receivers at these positions are declared.
-abbrev pub AreDeclared : Configuration → List ℕ → Type 0
-AreDeclared c receivers = AllByRecursion (λ r. r < length c.receivers) receivers
 
 -- The label set of the first choice, which ends a line.
 abbrev pub first_text : List Label → List ℕ → List ℕ

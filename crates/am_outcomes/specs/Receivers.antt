@@ -1,10 +1,10 @@
 -- The receivers of an alert, route by route. Those at the top-level route and below it are proved
 -- to be the `receivers` of routing.
-use Rattle.std.specs.Prelude.{ℕ, List, [], ◌∷◌, ◌++◌, not, ◌&&◌, if◌then◌else◌}
+use Rattle.std.specs.Prelude.{ℕ, List, [], ◌∷◌, ◌++◌, if◌then◌else◌}
 use Rattle.am_universe.specs.LabelSet.{LabelMap}
 use Rattle.am_labels.specs.Matcher.{all_hold}
 use Rattle.am_config.specs.ConfigFile.{RouteTree, Routes, route, no_routes, next_route}
-use Rattle.am_config.specs.ConfigFile.{matchers_of, continues_of}
+use Rattle.am_eval.specs.Routing.{is_last}
 
 -- The receivers of an alert at a route and below it. There are none if the alert does not match the
 -- route. If it does, they are those at the children that are tried, or the route's own receiver if
@@ -25,4 +25,4 @@ abbrev mutual
   child_receivers s no_routes = []
   child_receivers s (next_route t ts) =
       receivers_at s t
-      ++ (if all_hold s (matchers_of t) && not (continues_of t) then [] else child_receivers s ts)
+      ++ (if is_last s t then [] else child_receivers s ts)

@@ -1,12 +1,13 @@
 -- The way of an alert through the routes: which of those that are tried it matches.
-use Rattle.std.specs.Prelude.{◌≢◌, ◌<◌, ℕ, List, [], ◌∷◌, ◌++◌, length, Bool, not, ◌&&◌, ⊤}
+use Rattle.std.specs.Prelude.{◌≢◌, ◌<◌, ℕ, List, [], ◌∷◌, ◌++◌, length, Bool, ⊤}
 use Rattle.std.specs.Prelude.{if◌then◌else◌}
 use Rattle.std.specs.List.{flat_map, AllByRecursion}
 use Rattle.am_universe.specs.LabelSet.{LabelMap, label_set_of}
 use Rattle.am_labels.specs.Matcher.{all_hold}
 use Rattle.am_labels.specs.Space.{Space, IsChoiceOf}
 use Rattle.am_config.specs.ConfigFile.{Configuration, RouteTree, Routes, route, no_routes}
-use Rattle.am_config.specs.ConfigFile.{next_route, matchers_of, continues_of}
+use Rattle.am_config.specs.ConfigFile.{next_route}
+use Rattle.am_eval.specs.Routing.{is_last}
 use Rattle.am_outcomes.specs.declared.limits.TheConstants.{MAX_WAYS}
 
 -- The way of an alert through some configurations, one after the other: for each route that is
@@ -17,9 +18,6 @@ use Rattle.am_outcomes.specs.declared.limits.TheConstants.{MAX_WAYS}
 -- `team="web"`, and let no route have `continue`. For a critical alert of the team `db` the way is
 -- true, true and true, for `/`, `/0` and `/0/0`. For an alert of the team `web` it is true, false
 -- and true, for `/`, `/0` and `/1`.
-abbrev pub is_last_tried : LabelMap → RouteTree → Bool
-is_last_tried s t = all_hold s (matchers_of t) && not (continues_of t)
-
 abbrev mutual
   pub way_at : LabelMap → RouteTree → List Bool
   way_at s (route settings children) =
@@ -30,7 +28,7 @@ abbrev mutual
   pub child_way : LabelMap → Routes → List Bool
   child_way s no_routes = []
   child_way s (next_route t ts) =
-      way_at s t ++ (if is_last_tried s t then [] else child_way s ts)
+      way_at s t ++ (if is_last s t then [] else child_way s ts)
 
 abbrev pub way : LabelMap → List Configuration → List Bool
 way s cs = flat_map (λ c. way_at s c.root) cs

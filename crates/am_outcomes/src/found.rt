@@ -13,19 +13,20 @@ ghost use Rattle.am_outcomes.specs.Knows.{configs_view};
 ghost use Rattle.am_outcomes.specs.JudgedView.{judged_space, judged_configs};
 ghost use Rattle.am_outcomes.specs.FirstsOfWays.{AreFirstsOfWays, Ascend};
 
-use crate::firsts::Firsts;
 use crate::judged::Judged;
 use crate::ways::firsts_of_ways;
 use am_config::Config;
 use am_labels::Space;
 use am_universe::Choice;
+use indexmap::IndexMap;
 use std::alloc::{AllocError, Global};
 use std::marker::Model;
 
 /// The outcomes of the choices of a space, each once, in the order of their first choices.
 #[derive(Drop)]
 pub struct Outcomes {
-    firsts: Firsts<Vec<Vec<usize>>>,
+    /// An `IndexMap` keeps the order in which the outcomes came.
+    firsts: IndexMap<Vec<Vec<usize>>, Choice>,
 }
 
 impl Model for Outcomes {
@@ -34,7 +35,7 @@ impl Model for Outcomes {
 
     ghost Value = { List (List (List ℕ) × List ℕ) };
 
-    ghost view = { λ o. map entry_view o.firsts };
+    ghost view = { λ o. map entry_view o.firsts.entries };
 }
 
 impl Outcomes {
@@ -52,8 +53,10 @@ impl Outcomes {
         requires { i < length self.now }
         ensures outcome { slice_get self.now i ≡ Some (fates_view result.0.now, result.1.now) }
     {
-        let (fates, first) = self.firsts.get(i);
-        (fates.as_slice(), first)
+        match self.firsts.get_index(i) {
+            Some((fates, first)) => (fates.as_slice(), first),
+            None => unreachable!(),
+        }
     }
 }
 
@@ -91,11 +94,11 @@ fn outcomes_in(
     ensures { IfOk result (λ outcomes. outcomes ≡ outcomes_of (judged_space judged.now)
         (judged_configs judged.now)) }
 {
-    let mut firsts = Firsts::empty(alloc);
+    let mut firsts = IndexMap::new(alloc);
     for choice in choices {
         let fate = judged.fate(alloc, choice)?;
-        if !firsts.has(&fate) {
-            firsts.add(fate, *choice)?;
+        if !firsts.contains_key(&fate) {
+            firsts.insert(fate, *choice)?;
         }
     }
     Ok(Outcomes { firsts })

@@ -12,9 +12,6 @@
 // The limit of the search.
 pub mod limits;
 
-// The first choice of each key.
-mod firsts;
-
 // The cubes of the routes, and the receivers of a choice.
 mod judged;
 mod route_receivers;

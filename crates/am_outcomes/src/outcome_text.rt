@@ -5,10 +5,11 @@ ghost use Rattle.am_universe.specs.Universe.{sizes};
 ghost use Rattle.am_universe.specs.Choice.{IsWhole};
 ghost use Rattle.am_labels.specs.Space.{Space};
 ghost use Rattle.am_config.specs.ConfigView.{config_view};
+ghost use Rattle.am_outcomes.specs.FatesView.{fates_view};
 ghost use Rattle.am_outcomes.specs.Outcomes.{outcomes_of};
 ghost use Rattle.am_outcomes.specs.OutcomeText.{outcomes_text, changes_text, changes_of};
-ghost use Rattle.am_outcomes.specs.OutcomeText.{names_text, names_of, same_names};
-ghost use Rattle.am_outcomes.specs.OutcomeText.{change_text, first_text, count_text, AreDeclared};
+ghost use Rattle.am_outcomes.specs.OutcomeText.{names_text, names_of, name_of, same_names, under};
+ghost use Rattle.am_outcomes.specs.OutcomeText.{change_text, first_text, count_text};
 
 use crate::found::Outcomes;
 use am_config::Config;
@@ -33,7 +34,7 @@ pub fn outcomes_text(
     let mut text = String::new(alloc);
     for i in 0..outcomes.len() {
         let (fates, first) = outcomes.get(i);
-        push_names(&mut text, config, fates[0].as_slice())?;
+        push_names(&mut text, config, receivers_under(fates, 0))?;
         push_first(&mut text, universe, first)?;
     }
     text.push_str("# end\n")?;
@@ -69,7 +70,7 @@ pub fn changes_text(
     let mut count = 0;
     for i in 0..outcomes.len() {
         let (fates, first) = outcomes.get(i);
-        let (before, after) = (fates[0].as_slice(), fates[1].as_slice());
+        let (before, after) = (receivers_under(fates, 0), receivers_under(fates, 1));
         if !have_same_names(old, before, new, after) {
             push_change(&mut text, old, before, new, after)?;
             push_first(&mut text, universe, first)?;
@@ -80,10 +81,30 @@ pub fn changes_text(
     Ok(Changes { text, count })
 }
 
+/// The receivers of an outcome under the configuration at a position, or none if there is no such
+/// configuration.
+fn receivers_under(fates: &[Vec<usize>], i: usize) -> &[usize]
+    ensures { result.now ≡ under i (fates_view fates.now) }
+{
+    match fates.get(i) {
+        Some(receivers) => receivers.as_slice(),
+        None => &[],
+    }
+}
+
+/// The name of the receiver at a position, or the empty text if none is declared there.
+fn receiver_name(config: &Config, receiver: usize) -> &str
+    ensures { result.now ≡ name_of (config_view config.now) receiver }
+{
+    if receiver < config.receivers() {
+        config.receiver_name(receiver)
+    } else {
+        ""
+    }
+}
+
 /// Whether receivers have the same names under two configurations.
 fn have_same_names(old: &Config, before: &[usize], new: &Config, after: &[usize]) -> bool
-    requires before { AreDeclared (config_view old.now) before.now }
-    requires after { AreDeclared (config_view new.now) after.now }
     ensures { result ≡ same_names (names_of (config_view old.now) before.now)
         (names_of (config_view new.now) after.now) }
 {
@@ -91,7 +112,7 @@ fn have_same_names(old: &Config, before: &[usize], new: &Config, after: &[usize]
         return false;
     }
     for i in 0..before.len() {
-        if old.receiver_name(before[i]) != new.receiver_name(after[i]) {
+        if receiver_name(old, before[i]) != receiver_name(new, after[i]) {
             return false;
         }
     }
@@ -106,8 +127,6 @@ fn push_change(
     new: &Config,
     after: &[usize],
 ) -> Result<(), AllocError>
-    requires before { AreDeclared (config_view old.now) before.now }
-    requires after { AreDeclared (config_view new.now) after.now }
     ensures { OnOk result (string_bytes text.new ≡ string_bytes text.old
         ++ change_text (names_of (config_view old.now) before.now)
         (names_of (config_view new.now) after.now)) }
@@ -119,13 +138,12 @@ fn push_change(
 
 /// Adds the names of receivers, in quotes.
 fn push_names(text: &mut String, config: &Config, receivers: &[usize]) -> Result<(), AllocError>
-    requires { AreDeclared (config_view config.now) receivers.now }
     ensures { OnOk result (string_bytes text.new ≡ string_bytes text.old
         ++ names_text (names_of (config_view config.now) receivers.now)) }
 {
     for (i, receiver) in receivers.iter().enumerate() {
         text.push_str(gap_before(i, "", ","))?;
-        push_quoted(text, config.receiver_name(*receiver))?;
+        push_quoted(text, receiver_name(config, *receiver))?;
     }
     Ok(())
 }

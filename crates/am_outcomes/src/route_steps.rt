@@ -11,10 +11,11 @@ ghost use Rattle.am_universe.specs.Universe.{Label, sizes};
 ghost use Rattle.am_universe.specs.Choice.{IsWhole};
 ghost use Rattle.am_universe.specs.LabelSet.{label_set_of};
 ghost use Rattle.am_config.specs.ConfigFile.{Configuration, RouteTree};
+ghost use Rattle.am_eval.specs.Routing.{is_last};
 ghost use Rattle.am_first_sets.specs.RouteCubes.{AreCubesOf};
 ghost use Rattle.am_outcomes.specs.Knows.{KnowsConfigs};
 ghost use Rattle.am_outcomes.specs.RouteSteps.{AreSteps, GoesFrom};
-ghost use Rattle.am_outcomes.specs.Ways.{is_last_tried, way_at, way};
+ghost use Rattle.am_outcomes.specs.Ways.{way_at, way};
 
 use am_first_sets::RouteCubes;
 use am_judged_lists::Cube;
@@ -78,7 +79,7 @@ fn push_route<'a>(
         → IsWhole (sizes u) c → AreCubesOf u c t route.now → (later last : List Bool)
         → GoesFrom steps.old.items next c later → GoesFrom steps.old.items end c last
         → GoesFrom steps.new.items first c (way_at (label_set_of u c) t
-        ++ (if is_last_tried (label_set_of u c) t then last else later))) }
+        ++ (if is_last (label_set_of u c) t then last else later))) }
 {
     let behind = if route.continues { next } else { end };
     let children = route.routes.as_slice();

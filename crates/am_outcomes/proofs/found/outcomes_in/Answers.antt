@@ -2,9 +2,11 @@ use Rattle.std.proofs.Common.{[], sym, ap, ◌∙◌, arith}
 use Rattle.std.proofs.lemmas.List.{take_all}
 use Rattle.am_outcomes.specs.JudgedView.{judged_space, judged_configs}
 use Rattle.am_outcomes.proofs.Gathered.{one_outcome_more, outcomes_after, outcomes_are}
-use Rattle.am_outcomes.proofs.Gathered.{there_already}
+use Rattle.am_outcomes.proofs.Gathered.{there_already, same_fates_kept}
+use Rattle.am_outcomes.proofs.FirstSteps.{added, looked_up}
 use Rattle.am_outcomes.proofs.found.outcomes_in.Goals as goal
-use Rattle.am_outcomes.proofs.found.outcomes_in.Goals.{then-not-has+in_ok-add, else-not-has}
+use Rattle.am_outcomes.proofs.found.outcomes_in.Goals.{then-not-contains_key+in_ok-insert}
+use Rattle.am_outcomes.proofs.found.outcomes_in.Goals.{else-not-contains_key}
 
 pub loop-choice-preserved : goal.loop-choice-preserved
 loop-choice-preserved c =
@@ -12,13 +14,19 @@ loop-choice-preserved c =
     let cs = judged_configs c.args.judged.now in
     let choice = c.choice-item.result in
     one_outcome_more s cs c.args.choices.now c.loop-choice.choice-index choice
-    c.loop-choice.firsts c.if-not-has.firsts c.in_ok-fate.fate c.loop-choice-test.true
-    c.choice-item.is c.loop-choice.invariant c.in_ok-fate.ensures
-    (elim c.if-not-has.branch [
-      | then-not-has+in_ok-add w ↦ w.firsts-is ∙ w.in_ok-add.ensures
-      | else-not-has w ↦
-          w.firsts-is ∙ there_already c.loop-choice.firsts (c.in_ok-fate.fate, choice)
-          (sym c.has.ensures ∙ w.if-not-has.false)
+    c.loop-choice.firsts.entries c.if-not-contains_key.firsts.entries c.in_ok-fate.fate
+    c.loop-choice-test.true c.choice-item.is c.loop-choice.invariant c.in_ok-fate.ensures
+    (elim c.if-not-contains_key.branch [
+      | then-not-contains_key+in_ok-insert w ↦
+          ap (λ m. m.entries) w.firsts-is ∙ w.in_ok-insert.ensures.entries
+          ∙ added same_fates_kept c.loop-choice.firsts c.in_ok-fate.fate choice
+          (sym (c.contains_key.ensures ∙ looked_up same_fates_kept c.loop-choice.firsts.entries
+          c.in_ok-fate.fate) ∙ w.if-not-contains_key.true)
+      | else-not-contains_key w ↦
+          ap (λ m. m.entries) w.firsts-is
+          ∙ there_already c.loop-choice.firsts.entries (c.in_ok-fate.fate, choice)
+          (sym (c.contains_key.ensures ∙ looked_up same_fates_kept c.loop-choice.firsts.entries
+          c.in_ok-fate.fate) ∙ w.if-not-contains_key.false)
     ])
 
 pub returns : goal.returns

@@ -7,5 +7,5 @@ use Rattle.am_outcomes.proofs.found.outcomes_in.Given as goal
 -- the outcomes of the choices so far
 abbrev pub invariant-loop-choice : goal.invariant-loop-choice
 invariant-loop-choice l =
-    map entry_view l.firsts ≡ outcomes_after (judged_space l.judged) (judged_configs l.judged) []
+    map entry_view l.firsts.entries ≡ outcomes_after (judged_space l.judged) (judged_configs l.judged) []
     (take l.choice-index l.choices)

@@ -4,7 +4,7 @@ use Rattle.am_config.specs.ConfigView.{config_view}
 use Rattle.am_report_texts.proofs.PieceSteps.{one_pushed, row_closed}
 use Rattle.std.proofs.lemmas.Option.{slice_get-get_or}
 use Rattle.am_outcomes.specs.OutcomeText.{name_of}
-use Rattle.am_outcomes.proofs.TextSteps.{row_of_map, name_is}
+use Rattle.am_outcomes.proofs.TextSteps.{row_of_map}
 use Rattle.am_outcomes.proofs.outcome_text.push_names.Goals as goal
 
 pub loop-i-preserved : goal.loop-i-preserved
@@ -15,8 +15,7 @@ loop-i-preserved c =
     _ _ _ (slice_get-get_or c.args.receivers.now c.loop-i.i 0 c.loop-i-test.true)
     c.loop-i.invariant c.gap_before.ensures.gap c.in_ok-push_str.ensures.bytes
     (c.in_ok-push_quoted.ensures
-    ∙ ap (λ name. string_bytes c.push_str.new.self ++ quoted_text name)
-    (sym (name_is config _ c.receiver_name.result.now c.receiver_name.ensures.name)))
+    ∙ ap (λ name. string_bytes c.push_str.new.self ++ quoted_text name) c.receiver_name.ensures)
 
 pub returns : goal.returns
 returns c =

@@ -1,4 +1,4 @@
-use Rattle.std.proofs.Common.{true, false, refl, ◌∙◌}
+use Rattle.std.proofs.Common.{true, false, refl}
 use Rattle.am_first_sets.specs.PossibleSets.{possible_space}
 use Rattle.am_outcomes.proofs.WalkLemmas.{one_branch}
 use Rattle.am_outcomes.proofs.walks.Walk.push_branches.Goals as goal
