@@ -18,7 +18,7 @@ use Rattle.am_search.specs.Start.{comes_before, at_or_after, choices_from, answe
 use Rattle.am_search.specs.Visits.{visited, given_at, given_by, given_under}
 use Rattle.am_search.specs.Page.{page_ending, page_of, page_from, rest_after}
 use Rattle.am_search.specs.BudgetPage.{stop_of, trailer_at, page_under, IsEnough}
-use Rattle.am_search.proofs.ChoiceOrder.{got_at, Ascends, above_first, ascends_rest, not_back, before_trans, filter_all, filter_none, in_filter}
+use Rattle.am_search.proofs.ChoiceOrder.{got_at, Ascends, above_first, ascends_rest, not_back, before_trans, filter_all, filter_none, filters_swapped, in_filter}
 use Rattle.am_search.proofs.Odometer.{admits_at_most}
 use Rattle.am_search.proofs.PrefixOrder.{before_nothing, before_parts, begins_parts, begins_behind, before_begins, before_beside, front_passes}
 use Rattle.am_search.proofs.VisitedPrefixes.{ReachesTo, visited_sorted, in_visited, IsVisited}
@@ -26,7 +26,7 @@ use Rattle.am_search.proofs.VisitSteps.{past_length}
 use Rattle.am_search.proofs.VisitsGive.{visited_give}
 use Rattle.am_search.proofs.WalkSteps.{HasBegun, begun_at}
 use Rattle.am_search.proofs.PageLines.{all_page, page_of_part, page_of_all}
-use Rattle.am_search.proofs.Pages.{choices_at, filters_swapped, filter_within, part, whole, kind_of, page_rest}
+use Rattle.am_search.proofs.Pages.{choices_at, filter_within, part, whole, kind_of, page_rest}
 
 -- what does not come before a later choice does not come before an earlier one
 pub stays_from : (f p c : List ℕ) → comes_before f p ≡ true → not (comes_before c p) ≡ true → not (comes_before c f) ≡ true

@@ -1,5 +1,5 @@
 -- The order of choices, and lists of choices that ascend in it.
-use Rattle.std.proofs.Common.{◌≡◌, ◌⊎◌, ℕ, zero, suc, ◌-◌, ◌<◌, Bool, true, false, not, cond, List, [], ◌∷◌, length, take, drop, get_or, Option, Some, None, IfSome, slice_get, ap, sym, subst, ◌∙◌, refl, inl, inr, arith, rules}
+use Rattle.std.proofs.Common.{◌≡◌, ◌⊎◌, ℕ, zero, suc, ◌-◌, ◌<◌, Bool, true, false, not, cond, ◌&&◌, List, [], ◌∷◌, length, take, drop, get_or, Option, Some, None, IfSome, slice_get, ap, sym, subst, ◌∙◌, refl, inl, inr, arith, rules}
 use Rattle.std.specs.List.{filter, find}
 use Rattle.std.specs.List.Sorted.{IsStrictlySortedBy}
 use Rattle.std.specs.Ordering.{nat_cmp, is_lt, ordering_reverse}
@@ -52,6 +52,16 @@ filter_none test (x ∷ xs) h = filter_step test x xs false (h x (inl refl)) ∙
 pub filter_same : {X : Type 0} (f g : X → Bool) (xs : List X) → ((y : X) → IsIn xs y → f y ≡ g y) → filter f xs ≡ filter g xs
 filter_same f g [] h = refl
 filter_same f g (x ∷ xs) h = filter_step f x xs (g x) (h x (inl refl)) ∙ ap (λ l. cond (g x) (x ∷ l) l) (filter_same f g xs (λ y i. h y (inr i)))
+
+-- a filter by one test, and then by another
+pub twice : {X : Type 0} (f g : X → Bool) (xs : List X) → filter g (filter f xs) ≡ filter (λ x. f x && g x) xs
+twice f g [] = refl
+twice f g (x ∷ xs) = grind (arith, common_steps, twice f g xs)
+
+pub filters_swapped : {X : Type 0} (f g : X → Bool) (xs : List X) → filter f (filter g xs) ≡ filter g (filter f xs)
+filters_swapped {X} f g xs =
+    let same : (x : X) → (g x && f x) ≡ (f x && g x) = λ x. grind (arith, common_steps) in
+    twice g f xs ∙ filter_same _ _ xs (λ x i. same x) ∙ sym (twice f g xs)
 
 -- a filter keeps only members that pass the test
 in_cond : {X : Type 0} (test : X → Bool) (x y : X) (l : List X) (b : Bool) → test x ≡ b → IsIn (cond b (x ∷ l) l) y → ((x ≡ y) × (test y ≡ true)) ⊎ IsIn l y

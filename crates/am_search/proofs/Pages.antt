@@ -21,7 +21,7 @@ use Rattle.am_search.specs.Start.{comes_before, IsStart, first_of_start, at_or_a
 use Rattle.am_search.specs.Page.{AnswerPage, page_ending, page_from, rest_after, IsPage, IsChain, start_after, all_choices_of}
 use Rattle.am_search.specs.Token.{token_text}
 use Rattle.am_search.specs.TrailerText.{trailer_text}
-use Rattle.am_search.proofs.ChoiceOrder.{Ascends, before_trans, not_back, filter_all, filter_same, in_filter, into_filter, from_found, after_taken, up_to_taken, taken_last}
+use Rattle.am_search.proofs.ChoiceOrder.{Ascends, before_trans, not_back, filter_all, filter_same, in_filter, into_filter, filters_swapped, from_found, after_taken, up_to_taken, taken_last}
 use Rattle.am_search.proofs.Odometer.{filled, first_completion_is, positive}
 use Rattle.am_search.proofs.Walks.{first_is_whole, one_more}
 use Rattle.am_search.proofs.PageLines.{page_of_part, page_of_all}
@@ -96,19 +96,6 @@ pub same_answers : (ns : List ℕ) (f g : List ℕ → Bool) (start : Start) →
 same_answers ns f g start h = filter_same f g (choices_from ns start) (λ c i. h c (from_whole ns c start i))
 
 -- ---- What comes after one of the answers.
-
-swapped_cond : {X : Type 0} (f : X → Bool) (x : X) (b : Bool) (xs : List X) → filter f (cond b (x ∷ xs) xs) ≡ cond b (cond (f x) (x ∷ filter f xs) (filter f xs)) (filter f xs)
-swapped_cond f x true xs = refl
-swapped_cond f x false xs = refl
-
-two_conds : {X : Type 0} (a b : Bool) (x : X) (xs : List X) → cond a (cond b (x ∷ xs) xs) xs ≡ cond b (cond a (x ∷ xs) xs) xs
-two_conds true b x xs = refl
-two_conds false true x xs = refl
-two_conds false false x xs = refl
-
-pub filters_swapped : {X : Type 0} (f g : X → Bool) (xs : List X) → filter f (filter g xs) ≡ filter g (filter f xs)
-filters_swapped f g [] = refl
-filters_swapped f g (x ∷ xs) = grind (arith, common_steps, swapped_cond, filters_swapped f g xs, two_conds)
 
 -- if all that pass a test pass another, the other changes nothing
 pub filter_within : {X : Type 0} (f g : X → Bool) (xs : List X) → ((x : X) → f x ≡ true → g x ≡ true) → filter f (filter g xs) ≡ filter f xs

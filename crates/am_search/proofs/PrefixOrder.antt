@@ -40,6 +40,12 @@ begins_parts p q x y h = grind (arith, common_steps, and_parts)
 
 -- ---- Of three, one begins with another.
 
+pub begins_through : (a b x : List ℕ) → starts_with nat_eq b a ≡ true → starts_with nat_eq x b ≡ true → starts_with nat_eq x a ≡ true
+begins_through [] b x h k = refl
+begins_through (p ∷ a) [] x h k = absurd (false≢true h)
+begins_through (p ∷ a) (q ∷ b) [] h k = absurd (false≢true k)
+begins_through (p ∷ a) (q ∷ b) (r ∷ x) h k = grind (arith, common_steps, begins_parts, begins_same, begins_through a b x)
+
 -- what begins with a prefix does not come before it
 pub begins_behind : (prefix x : List ℕ) → starts_with nat_eq x prefix ≡ true → comes_before x prefix ≡ false
 begins_behind [] x h = before_nothing x

@@ -1,30 +1,33 @@
 -- How many prefixes a search judges at most if the judge is exact.
-use Rattle.std.proofs.Common.{◌≡◌, ◌≢◌, ℕ, zero, suc, ◌+◌, ◌*◌, ◌<◌, ◌≤◌, Bool, true, false, not, nat_eq, nat_lt, ◌&&◌, ◌||◌, List, [], ◌∷◌, length, map, Option, Some, None, ap, sym, subst, ◌∙◌, refl, inl, inr, arith, rules}
+use Rattle.std.proofs.Common.{◌≡◌, ℕ, zero, suc, ◌+◌, ◌*◌, ◌<◌, ◌≤◌, Bool, true, false, not, nat_eq, nat_lt, ◌&&◌, ◌||◌, List, [], ◌∷◌, length, map, Option, Some, None, ap, sym, subst, ◌∙◌, refl, inl, inr, arith}
+use Rattle.std.specs.Prelude.{IsTrue}
 use Rattle.std.specs.List.{filter, list_any, sum, starts_with}
-use Rattle.std.proofs.Math.Nat.{add-mul, mul-add, eq-or-lt_of_le}
-use Rattle.std.proofs.lemmas.Bool.{false≢true, and_parts, and_from, and_right, cases_order}
+use Rattle.std.proofs.Math.Nat.{add-mul, mul-add}
+use Rattle.std.proofs.lemmas.Bool.{false≢true, and_from, and_parts, cases_Bool}
 use Rattle.std.proofs.lemmas.Bool.Decides.{nat_tests}
 use Rattle.std.proofs.lemmas.List.{length-append, length-map}
 use Rattle.std.proofs.lemmas.List.Elements.{filter-append}
 use Rattle.std.proofs.lemmas.List.Sums.{sum_by-cons, length-filter, count_by-le-length}
 use Rattle.std.proofs.lemmas.Grind.{common_steps}
-use Rattle.am_universe.specs.Choice.{choices, admits, IsWhole}
+use Rattle.am_universe.specs.Choice.{choices, admits}
 use Rattle.am_universe.specs.Completions.{completions}
-use Rattle.am_universe.proofs.ChoiceLemmas.{behind}
-use Rattle.am_universe.proofs.CompletionLemmas.{at_its_own, completions_are_below, filter_of_map}
+use Rattle.am_universe.proofs.ListLemmas.{IsIn}
+use Rattle.am_universe.proofs.ChoiceLemmas.{behind, from_behind, choices_sorted}
+use Rattle.am_universe.proofs.UniverseLemmas.{list_any-map}
+use Rattle.am_universe.proofs.CompletionLemmas.{completions_are_below, filter_of_map}
 use Rattle.am_search.specs.declared.start.Start.{Start}
 use Rattle.am_search.specs.declared.start.Start.TheVariants.{At}
 use Rattle.am_search.specs.declared.verdict.Verdict.{Verdict}
-use Rattle.am_search.specs.declared.verdict.Verdict.TheVariants.{Yes, No, Open}
+use Rattle.am_search.specs.declared.verdict.Verdict.TheVariants.{Open}
 use Rattle.am_search.specs.Judge.{is_open}
 use Rattle.am_search.specs.ExactJudge.{IsExactJudge}
 use Rattle.am_search.specs.Start.{comes_before, first_of_start, at_or_after, answers_from}
-use Rattle.am_search.specs.Visits.{all_prefixes, completions_from, is_visited, visited}
-use Rattle.am_search.proofs.ChoiceOrder.{filter_none, filter_same, not_back}
-use Rattle.am_search.proofs.PrefixOrder.{before_less, before_same, begins_same, begins_other}
-use Rattle.am_search.proofs.Walks.{first_is_whole, first_of_all}
-use Rattle.am_search.proofs.VisitedPrefixes.{ReachesTo, reaches, none_visited}
-use Rattle.am_search.proofs.VisitsGive.{is_reached, reached_behind, none_reached}
+use Rattle.am_search.specs.Visits.{all_prefixes, is_visited, visited}
+use Rattle.am_search.proofs.ChoiceOrder.{filter_none, in_filter, into_filter, twice, from_member, not_itself, not_back}
+use Rattle.am_search.proofs.PrefixOrder.{before_begins, before_beside, before_same, begins_same, begins_through, front_passes, other_before}
+use Rattle.am_search.proofs.Walks.{first_is_whole, first_of_all, in_choices, completion_whole}
+use Rattle.am_search.proofs.VisitedPrefixes.{ReachesTo, IsVisited, in_visited, in_completions, none_visited}
+use Rattle.am_search.proofs.VisitsGive.{completions_behind}
 
 -- a function of the lists that begin with the position `q`, by what follows that position
 abbrev past : {X : Type 0} → ℕ → (List ℕ → X) → List ℕ → X
@@ -38,15 +41,12 @@ kept test xs = length (filter test xs)
 pub kept_all : {X : Type 0} (test : X → Bool) (xs : List X) → kept test xs ≤ length xs
 kept_all test xs = rw (length-filter test xs) (count_by-le-length test xs)
 
-pub kept_more : {X : Type 0} (f g : X → Bool) (xs : List X) → ((x : X) → f x ≡ true → g x ≡ true) → kept f xs ≤ kept g xs
+pub kept_more : {X : Type 0} (f g : X → Bool) (xs : List X) → ((x : X) → IsIn xs x → f x ≡ true → g x ≡ true) → kept f xs ≤ kept g xs
 kept_more f g [] h = omega arith
-kept_more f g (x ∷ xs) h = grind (arith, common_steps, kept_more f g xs h)
-
-kept_same : {X : Type 0} (f g : X → Bool) (xs : List X) → ((x : X) → f x ≡ g x) → kept f xs ≡ kept g xs
-kept_same f g xs same = ap length (filter_same f g xs (λ x i. same x))
-
-kept_none : {X : Type 0} (f : X → Bool) (xs : List X) → ((x : X) → f x ≡ false) → kept f xs ≡ 0
-kept_none f xs none = ap length (filter_none f xs (λ x i. none x))
+kept_more f g (x ∷ xs) h =
+    let here : f x ≡ true → g x ≡ true = h x (inl refl) in
+    let more : kept f xs ≤ kept g xs = kept_more f g xs (λ y i. h y (inr i)) in
+    grind (arith, common_steps)
 
 kept_map : (test : List ℕ → Bool) (q : ℕ) (xs : List (List ℕ)) → kept test (map (λ x. q ∷ x) xs) ≡ kept (past q test) xs
 kept_map test q xs = ap length (filter_of_map (λ x. q ∷ x) test xs) ∙ length-map (filter (past q test) xs) (λ x. q ∷ x)
@@ -54,11 +54,6 @@ kept_map test q xs = ap length (filter_of_map (λ x. q ∷ x) test xs) ∙ lengt
 kept_some : {X : Type 0} (test : X → Bool) (xs : List X) → list_any test xs ≡ true → 0 < kept test xs
 kept_some test [] h = absurd (false≢true h)
 kept_some test (x ∷ xs) h = grind (arith, common_steps, kept_some test xs)
-
--- a filter by one test, and then by another
-twice : {X : Type 0} (f g : X → Bool) (xs : List X) → filter g (filter f xs) ≡ filter (λ x. f x && g x) xs
-twice f g [] = refl
-twice f g (x ∷ xs) = grind (arith, common_steps, twice f g xs)
 
 kept_behind : (test : List ℕ → Bool) (first count : ℕ) (xs : List (List ℕ)) → kept test (behind first (suc count) xs) ≡ kept (past first test) xs + kept test (behind (first + 1) count xs)
 kept_behind test first count xs = grind (arith, common_steps, filter-append, behind, length-append, kept_map)
@@ -68,225 +63,135 @@ kept_behind test first count xs = grind (arith, common_steps, filter-append, beh
 one_of_each : (v w m n count z : ℕ) → v ≤ 1 + m * z → w ≤ count + n * z → v + w ≤ suc count + (m + n) * z
 one_of_each v w m n count z h k = omega (arith, h, k, add-mul m n z)
 
-cut_at_first : (v w m n count z : ℕ) → v ≤ 1 + (m + 1) * z → w ≤ count + n * z → v + w ≤ suc count + (m + n + 1) * z
-cut_at_first v w m n count z h k = omega (arith, h, k, add-mul m 1 z, add-mul (m + n) 1 z, add-mul m n z)
+-- the prefixes, and the true choices, that begin with each of these positions
+behind_each : (test : List ℕ → Bool) (prefixes : List (List ℕ)) (truth : List ℕ → Bool) (cs : List (List ℕ)) (z first count : ℕ)
+    → ((q : ℕ) → kept (past q test) prefixes ≤ 1 + kept (past q truth) cs * z) → kept test (behind first count prefixes) ≤ count + kept truth (behind first count cs) * z
+behind_each test prefixes truth cs z first zero each = omega arith
+behind_each test prefixes truth cs z first (suc count) each =
+    rw (kept_behind test first count prefixes, kept_behind truth first count cs)
+    (one_of_each (kept (past first test) prefixes) (kept test (behind (first + 1) count prefixes)) (kept (past first truth) cs) (kept truth (behind (first + 1) count cs)) count z
+    (each first) (behind_each test prefixes truth cs z (first + 1) count each))
 
-cut_later : (v w m n count z : ℕ) → v ≤ 1 + m * z → w ≤ count + (n + 1) * z → v + w ≤ suc count + (m + n + 1) * z
-cut_later v w m n count z h k = omega (arith, h, k, add-mul n 1 z, add-mul (m + n) 1 z, add-mul m n z)
+-- ---- The prefixes each proper front of which has a true completion.
 
-module _ (test : List ℕ → Bool) (prefixes : List (List ℕ)) (truth : List ℕ → Bool) (cs : List (List ℕ)) (z : ℕ) where
-  -- how many prefixes, and how many true choices, begin with a position
-  abbrev prefixes_at : ℕ → ℕ
-  prefixes_at q = kept (past q test) prefixes
-
-  abbrev true_at : ℕ → ℕ
-  true_at q = kept (past q truth) cs
-
-  behind_each : (first count : ℕ) → ((q : ℕ) → first ≤ q → q < first + count → prefixes_at q ≤ 1 + true_at q * z)
-      → kept test (behind first count prefixes) ≤ count + kept truth (behind first count cs) * z
-  behind_each first zero each = omega arith
-  behind_each first (suc count) each =
-      rw (kept_behind test first count prefixes, kept_behind truth first count cs)
-      (one_of_each (prefixes_at first) (kept test (behind (first + 1) count prefixes)) (true_at first) (kept truth (behind (first + 1) count cs)) count z
-      (each first (omega arith) (omega arith))
-      (behind_each (first + 1) count (λ q low high. each q (omega (arith, low)) (omega (arith, high)))))
-
-  -- the position `cut` may have more of them than the others
-  behind_cut : (first count cut : ℕ) → first ≤ cut → cut < first + count
-      → ((q : ℕ) → first ≤ q → q < first + count → q ≢ cut → prefixes_at q ≤ 1 + true_at q * z)
-      → prefixes_at cut ≤ 1 + (true_at cut + 1) * z
-      → kept test (behind first count prefixes) ≤ count + (kept truth (behind first count cs) + 1) * z
-  behind_cut first zero cut low high each at_cut = absurd (omega arith)
-  behind_cut first (suc count) cut low high each at_cut =
-      rw (kept_behind test first count prefixes, kept_behind truth first count cs)
-      (elim (eq-or-lt_of_le low) [
-        | inl e ↦
-            cut_at_first (prefixes_at first) (kept test (behind (first + 1) count prefixes)) (true_at first) (kept truth (behind (first + 1) count cs)) count z
-            (subst (λ q. prefixes_at q ≤ 1 + (true_at q + 1) * z) (sym e) at_cut)
-            (behind_each (first + 1) count (λ q l h. each q (omega (arith, l)) (omega (arith, h)) (λ same. omega (arith, l, same, e))))
-        | inr less ↦
-            cut_later (prefixes_at first) (kept test (behind (first + 1) count prefixes)) (true_at first) (kept truth (behind (first + 1) count cs)) count z
-            (each first (omega arith) (omega arith) (λ same. omega (arith, less, same)))
-            (behind_cut (first + 1) count cut (omega (arith, less)) (omega arith) (λ q l h. each q (omega (arith, l)) (omega (arith, h))) at_cut)
-      ])
-
--- ---- A judge by which some completion is true where its verdict is `Open`.
-
-abbrev IsOpenAtSome : List ℕ → (List ℕ → Bool) → (List ℕ → Verdict) → Type 0
-IsOpenAtSome sizes truth verdict = (prefix : List ℕ) → admits sizes prefix ≡ true → verdict prefix ≡ Open → 0 < kept truth (completions sizes prefix)
-
-open_behind : (size : ℕ) (sizes : List ℕ) (truth : List ℕ → Bool) (verdict : List ℕ → Verdict) (q : ℕ) → q < size → IsOpenAtSome (size ∷ sizes) truth verdict
-    → IsOpenAtSome sizes (past q truth) (past q verdict)
-open_behind size sizes truth verdict q below some prefix a e = search (rules, at_its_own, kept_map, and_from)
-
--- ---- Below a prefix that is judged `Open`, and one that is not.
-
-one_alone : (count most n : ℕ) → count ≤ most → most ≡ 0 → suc count ≤ 1 + n
-one_alone count most n h e = omega (arith, h, e)
+abbrev has_true_fronts : List ℕ → (List ℕ → Bool) → List ℕ → Bool
+has_true_fronts sizes truth [] = true
+has_true_fronts [] truth (q ∷ prefix) = false
+has_true_fronts (size ∷ sizes) truth (q ∷ prefix) = list_any truth (choices (size ∷ sizes)) && has_true_fronts sizes (past q truth) prefix
 
 on_top : (size n z count : ℕ) → 0 < n → count ≤ size + n * z → suc count ≤ 1 + n * (size + z)
 on_top size zero z count some h = absurd (omega arith)
 on_top size (suc m) z count some h = omega (arith, h, mul-add (suc m) size z, add-mul m 1 size, add-mul m 1 z)
 
-under_open : (size : ℕ) (sizes : List ℕ) (n count : ℕ) → 0 < n → count ≤ size + n * sum sizes → suc count ≤ 1 + n * sum (size ∷ sizes)
-under_open size sizes n count some h = subst (λ z. suc count ≤ 1 + n * z) (sym (sum_by-cons (λ x. x) size sizes)) (on_top size n (sum sizes) count some h)
+at_most_same : (a b c : ℕ) → a ≤ b → b ≤ c → a ≤ c
+at_most_same a b c h k = omega (arith, h, k)
 
-at_most_same : (a b c d : ℕ) → a ≤ b → b ≡ c → c ≤ d → a ≤ d
-at_most_same a b c d h e k = omega (arith, h, e, k)
+more_times : (count m n z : ℕ) → count ≤ 1 + m * z → m ≤ n → count ≤ 1 + n * z
+more_times count m n z h k = grind (arith, h, k)
 
--- ---- Where no choice is left out.
+has_true_fronts_at_most : (sizes : List ℕ) (truth : List ℕ → Bool) → kept (has_true_fronts sizes truth) (all_prefixes sizes) ≤ 1 + kept truth (choices sizes) * sum sizes
+has_true_fronts_at_most [] truth = omega arith
+has_true_fronts_at_most (size ∷ sizes) truth = elim (cases_Bool (list_any truth (choices (size ∷ sizes)))) [
+  | inl some ↦
+      let count : ℕ = kept (has_true_fronts (size ∷ sizes) truth) (behind 0 size (all_prefixes sizes)) in
+      subst (λ z. suc count ≤ 1 + kept truth (choices (size ∷ sizes)) * z) (sym (sum_by-cons (λ x. x) size sizes))
+      (on_top size (kept truth (choices (size ∷ sizes))) (sum sizes) count (kept_some truth (choices (size ∷ sizes)) some)
+      (behind_each (has_true_fronts (size ∷ sizes) truth) (all_prefixes sizes) truth (choices sizes) (sum sizes) 0 size (λ q.
+      at_most_same _ (kept (has_true_fronts sizes (past q truth)) (all_prefixes sizes)) _
+      (kept_more _ (has_true_fronts sizes (past q truth)) (all_prefixes sizes) (λ prefix i h. (and_parts (list_any truth (choices (size ∷ sizes))) (has_true_fronts sizes (past q truth) prefix) h).1))
+      (has_true_fronts_at_most sizes (past q truth)))))
+  | inr none ↦
+      let nothing : filter (has_true_fronts (size ∷ sizes) truth) (behind 0 size (all_prefixes sizes)) ≡ [] = filter_none _ _ (λ prefix i.
+      let r = from_behind 0 size (all_prefixes sizes) prefix i in
+      subst (λ p. has_true_fronts (size ∷ sizes) truth p ≡ false) r.same (ap (λ b. b && has_true_fronts sizes (past r.position truth) r.rest) none)) in
+      omega (arith, ap length nothing)
+]
 
-abbrev IsBounded : List ℕ → (List ℕ → Bool) → (List ℕ → Verdict) → Type 0
-IsBounded sizes truth verdict = kept (is_reached verdict) (all_prefixes sizes) ≤ 1 + kept truth (choices sizes) * sum sizes
-
-reached_at_most : (sizes : List ℕ) (truth : List ℕ → Bool) (verdict : List ℕ → Verdict) → IsOpenAtSome sizes truth verdict → IsBounded sizes truth verdict
-reached_at_most [] truth verdict some = omega arith
-reached_at_most (size ∷ sizes) truth verdict some =
-    by (verdict []) refl (λ q below. reached_at_most sizes (past q truth) (past q verdict) (open_behind size sizes truth verdict q below some))
-  where
-    closed : is_open (verdict []) ≡ false → IsBounded (size ∷ sizes) truth verdict
-    closed e =
-        let count : ℕ = kept (is_reached verdict) (behind 0 size (all_prefixes sizes)) in
-        one_alone count count _ (omega arith) (ap length (none_reached verdict 0 size (all_prefixes sizes) e))
-
-    by : (v : Verdict) → verdict [] ≡ v → ((q : ℕ) → q < size → IsBounded sizes (past q truth) (past q verdict)) → IsBounded (size ∷ sizes) truth verdict
-    by Yes e others = closed (ap is_open e)
-    by No e others = closed (ap is_open e)
-    by Open e others =
-        under_open size sizes (kept truth (choices (size ∷ sizes))) (kept (is_reached verdict) (behind 0 size (all_prefixes sizes)))
-        (subst (λ cs. 0 < kept truth cs) (completions_are_below (size ∷ sizes) [] refl) (some [] refl e))
-        (behind_each (is_reached verdict) (all_prefixes sizes) truth (choices sizes) (sum sizes) 0 size
-        (λ q low high.
-        subst (λ n. n ≤ 1 + kept (past q truth) (choices sizes) * sum sizes)
-        (sym (kept_same (past q (is_reached verdict)) (is_reached (past q verdict)) (all_prefixes sizes) (λ prefix. reached_behind verdict q prefix e)))
-        (others q (omega (arith, high)))))
-
--- ---- Where the choices before a first one are left out.
-
--- a choice begins with a prefix, or comes before it
-abbrev reaches_to : List ℕ → List ℕ → Bool
-reaches_to f prefix = starts_with nat_eq f prefix || comes_before f prefix
-
--- a prefix is reached, and has a completion from a choice on; a choice from there on is true
-abbrev is_reached_from : List ℕ → (List ℕ → Verdict) → List ℕ → Bool
-is_reached_from f verdict prefix = is_reached verdict prefix && reaches_to f prefix
-
-abbrev is_true_from : List ℕ → (List ℕ → Bool) → List ℕ → Bool
-is_true_from f truth c = not (comes_before c f) && truth c
-
-abbrev IsBoundedFrom : List ℕ → List ℕ → (List ℕ → Bool) → (List ℕ → Verdict) → Type 0
-IsBoundedFrom f sizes truth verdict = kept (is_reached_from f verdict) (all_prefixes sizes) ≤ 1 + (kept (is_true_from f truth) (choices sizes) + 1) * sum sizes
-
-reached_alone : (f : List ℕ) (verdict : List ℕ → Verdict) (prefix : List ℕ) → is_reached_from f verdict prefix ≡ true → is_reached verdict prefix ≡ true
-reached_alone f verdict prefix h = (and_parts (is_reached verdict prefix) (reaches_to f prefix) h).0
-
--- with a position before that of the choice, with the same one, and with one after it
-reached_before : (verdict : List ℕ → Verdict) (q p : ℕ) (f prefix : List ℕ) → q < p → is_reached_from (p ∷ f) verdict (q ∷ prefix) ≡ false
-reached_before verdict q p f prefix less = search (rules, is_reached, begins_other, not_back, before_less, and_right)
-
-reached_at : (verdict : List ℕ → Verdict) (p : ℕ) (f prefix : List ℕ) → verdict [] ≡ Open → is_reached_from (p ∷ f) verdict (p ∷ prefix) ≡ is_reached_from f (past p verdict) prefix
-reached_at verdict p f prefix open_ = grind (arith, common_steps, reached_behind, is_reached, begins_same, before_same)
-
-true_at_own : (truth : List ℕ → Bool) (p : ℕ) (f c : List ℕ) → is_true_from (p ∷ f) truth (p ∷ c) ≡ is_true_from f (past p truth) c
-true_at_own truth p f c = ap (λ b. not b && truth (p ∷ c)) (before_same p c f)
-
-true_behind : (truth : List ℕ → Bool) (q p : ℕ) (f c : List ℕ) → p < q → is_true_from (p ∷ f) truth (q ∷ c) ≡ truth (q ∷ c)
-true_behind truth q p f c less = ap (λ b. not b && truth (q ∷ c)) (not_back (p ∷ f) (q ∷ c) (before_less p q f c less))
-
--- if the empty prefix is `Open`: below positions other than that of the choice, and below that one
-module _ (sizes : List ℕ) (truth : List ℕ → Bool) (verdict : List ℕ → Verdict) (p : ℕ) (f : List ℕ) (e : verdict [] ≡ Open) where
-  abbrev reached_past : ℕ → ℕ
-  reached_past q = kept (past q (is_reached_from (p ∷ f) verdict)) (all_prefixes sizes)
-
-  abbrev true_past : ℕ → ℕ
-  true_past q = kept (past q (is_true_from (p ∷ f) truth)) (choices sizes)
-
-  beside : (q : ℕ) → q ≢ p → IsBounded sizes (past q truth) (past q verdict) → reached_past q ≤ 1 + true_past q * sum sizes
-  beside q other own = elim (cases_order q p) [
-    | inl same ↦ absurd (other same)
-    | inr (inl less) ↦
-        subst (λ n. n ≤ 1 + true_past q * sum sizes)
-        (sym (kept_none (past q (is_reached_from (p ∷ f) verdict)) (all_prefixes sizes) (λ x. reached_before verdict q p f x less)))
-        (omega arith)
-    | inr (inr more) ↦
-        subst (λ n. reached_past q ≤ 1 + n * sum sizes)
-        (sym (kept_same (past q (is_true_from (p ∷ f) truth)) (past q truth) (choices sizes) (λ c. true_behind truth q p f c more)))
-        (at_most_same (reached_past q) (kept (past q (is_reached verdict)) (all_prefixes sizes)) (kept (is_reached (past q verdict)) (all_prefixes sizes)) _
-        (kept_more (past q (is_reached_from (p ∷ f) verdict)) (past q (is_reached verdict)) (all_prefixes sizes) (λ x. reached_alone (p ∷ f) verdict (q ∷ x)))
-        (kept_same (past q (is_reached verdict)) (is_reached (past q verdict)) (all_prefixes sizes) (λ x. reached_behind verdict q x e))
-        own)
-  ]
-
-  along : IsBoundedFrom f sizes (past p truth) (past p verdict) → reached_past p ≤ 1 + (true_past p + 1) * sum sizes
-  along own = grind (arith, common_steps, kept_same, reached_at, true_at_own)
-
-reached_from_at_most : (sizes : List ℕ) (truth : List ℕ → Bool) (verdict : List ℕ → Verdict) (f : List ℕ) → IsOpenAtSome sizes truth verdict → IsWhole sizes f → IsBoundedFrom f sizes truth verdict
-reached_from_at_most [] truth verdict f some w = omega (arith, kept_all (is_reached_from f verdict) ([] ∷ []))
-reached_from_at_most (size ∷ sizes) truth verdict [] some w = absurd (omega (arith, w.1))
-reached_from_at_most (size ∷ sizes) truth verdict (p ∷ f) some w =
-    let parts = and_parts (nat_lt p size) (admits sizes f) w.0 in
-    let below : p < size = grind (arith, nat_tests, parts.0) in
-    by below (verdict []) refl
-    (λ q high. reached_at_most sizes (past q truth) (past q verdict) (open_behind size sizes truth verdict q high some))
-    (reached_from_at_most sizes (past p truth) (past p verdict) f (open_behind size sizes truth verdict p below some) (parts.1, omega (arith, w.1)))
-  where
-    closed : is_open (verdict []) ≡ false → IsBoundedFrom (p ∷ f) (size ∷ sizes) truth verdict
-    closed e =
-        let prefixes : List (List ℕ) = behind 0 size (all_prefixes sizes) in
-        one_alone (kept (is_reached_from (p ∷ f) verdict) prefixes) (kept (is_reached verdict) prefixes) _
-        (kept_more (is_reached_from (p ∷ f) verdict) (is_reached verdict) prefixes (reached_alone (p ∷ f) verdict))
-        (ap length (none_reached verdict 0 size (all_prefixes sizes) e))
-
-    by : p < size → (v : Verdict) → verdict [] ≡ v → ((q : ℕ) → q < size → IsBounded sizes (past q truth) (past q verdict))
-        → IsBoundedFrom f sizes (past p truth) (past p verdict) → IsBoundedFrom (p ∷ f) (size ∷ sizes) truth verdict
-    by below Yes e others own = closed (ap is_open e)
-    by below No e others own = closed (ap is_open e)
-    by below Open e others own =
-        under_open size sizes (kept (is_true_from (p ∷ f) truth) (choices (size ∷ sizes)) + 1) (kept (is_reached_from (p ∷ f) verdict) (behind 0 size (all_prefixes sizes)))
-        (omega arith)
-        (behind_cut (is_reached_from (p ∷ f) verdict) (all_prefixes sizes) (is_true_from (p ∷ f) truth) (choices sizes) (sum sizes) 0 size p (omega arith) (omega (arith, below))
-        (λ q low high other. beside sizes truth verdict p f e q other (others q (omega (arith, high))))
-        (along sizes truth verdict p f e own))
+-- a prefix whose proper fronts each have a true completion
+from_fronts : (sizes : List ℕ) (truth : List ℕ → Bool) (prefix : List ℕ) → admits sizes prefix ≡ true
+    → ((front : List ℕ) → starts_with nat_eq prefix front ≡ true → comes_before front prefix ≡ true → admits sizes front ≡ true → list_any truth (completions sizes front) ≡ true)
+    → has_true_fronts sizes truth prefix ≡ true
+from_fronts sizes truth [] a each = refl
+from_fronts [] truth (q ∷ prefix) a each = cc
+from_fronts (size ∷ sizes) truth (q ∷ prefix) a each =
+    let parts = and_parts (nat_lt q size) (admits sizes prefix) a in
+    let below : q < size = grind (arith, nat_tests, parts.0) in
+    and_from (list_any truth (choices (size ∷ sizes))) (has_true_fronts sizes (past q truth) prefix)
+    (subst (λ cs. list_any truth cs ≡ true) (completions_are_below (size ∷ sizes) [] refl) (each [] refl refl refl))
+    (from_fronts sizes (past q truth) prefix parts.1 (λ front h less b.
+    sym (list_any-map truth (λ c. q ∷ c) (completions sizes front)) ∙ ap (list_any truth) (sym (completions_behind size sizes q front below))
+    ∙ each (q ∷ front) (begins_same q prefix front ∙ h) (before_same q front prefix ∙ less) (and_from (nat_lt q size) (admits sizes front) parts.0 b)))
 
 -- ---- What is judged from a start on.
 
-reaches_as_test : (f prefix : List ℕ) → ReachesTo f prefix → reaches_to f prefix ≡ true
-reaches_as_test f prefix (inl begins) = ap (λ b. b || comes_before f prefix) begins
-reaches_as_test f prefix (inr less) = grind (arith, common_steps)
+some_true : {X : Type 0} (test : X → Bool) (xs : List X) → list_any test xs ≡ true → (x : X) × IsIn xs x × (test x ≡ true)
+some_true test [] h = absurd (false≢true h)
+some_true test (x ∷ xs) h = grind (arith, common_steps, some_true test xs)
 
-module _ (sizes : List ℕ) (truth : List ℕ → Bool) (verdict : List ℕ → Verdict) where
-  open_at_some : IsExactJudge sizes truth verdict → IsOpenAtSome sizes truth verdict
-  open_at_some exact prefix a e = kept_some truth (completions sizes prefix) (exact.some prefix a e)
+is_some_true : {X : Type 0} (test : X → Bool) (xs : List X) (x : X) → IsIn xs x → test x ≡ true → list_any test xs ≡ true
+is_some_true test [] x i h = absurd i
+is_some_true test (y ∷ xs) x i h = grind (arith, common_steps, is_some_true test xs x)
 
-  visited_parts : (start : Start) (prefix : List ℕ) → is_visited sizes verdict start prefix ≡ true
-      → (is_reached verdict prefix ≡ true) × (nat_lt 0 (length (completions_from sizes start prefix)) ≡ true)
-  visited_parts start prefix h = and_parts (is_reached verdict prefix) (nat_lt 0 (length (completions_from sizes start prefix))) h
+is_open_then : (v : Verdict) → is_open v ≡ true → v ≡ Open
+is_open_then Open e = refl
+is_open_then v e = absurd (false≢true e)
 
-  pub visited_at_most : (start : Start) → IsExactJudge sizes truth verdict
-      → length (visited sizes verdict start) ≤ 1 + (length (answers_from sizes truth start) + 1) * sum sizes
-  visited_at_most start exact = by (first_of_start sizes start) refl
-    where
-      by : (first : Option (List ℕ)) → first_of_start sizes start ≡ first → length (visited sizes verdict start) ≤ 1 + (length (answers_from sizes truth start) + 1) * sum sizes
-      by None e = subst (λ ps. length ps ≤ 1 + (length (answers_from sizes truth start) + 1) * sum sizes) (sym (none_visited sizes verdict start e)) (omega arith)
-      by (Some f) e =
-          subst (λ n. length (visited sizes verdict start) ≤ 1 + (n + 1) * sum sizes)
-          (sym (ap (λ o. length (filter truth (at_or_after o (choices sizes)))) e ∙ ap length (twice (λ c. not (comes_before c f)) truth (choices sizes))))
-          (at_most_same (length (visited sizes verdict start)) (kept (is_reached_from f verdict) (all_prefixes sizes)) _ _
-          (kept_more (is_visited sizes verdict start) (is_reached_from f verdict) (all_prefixes sizes) from_there)
-          refl
-          (reached_from_at_most sizes truth verdict f (open_at_some exact) (first_is_whole sizes start f e)))
-        where
-          from_there : (prefix : List ℕ) → is_visited sizes verdict start prefix ≡ true → is_reached_from f verdict prefix ≡ true
-          from_there prefix h =
-              let parts = visited_parts start prefix h in
-              and_from (is_reached verdict prefix) (reaches_to f prefix) parts.0
-              (reaches_as_test f prefix (reaches sizes f prefix (subst (λ o. nat_lt 0 (length (at_or_after o (completions sizes prefix))) ≡ true) e parts.1)))
+-- a search that comes to a prefix comes to its fronts too
+reaches_front : (f prefix front : List ℕ) → starts_with nat_eq prefix front ≡ true → ReachesTo f prefix → ReachesTo f front
+reaches_front f prefix front h reach = grind (arith, common_steps, cases_Bool, begins_through, before_beside, other_before, not_back)
 
-  pub visited_from_first : IsExactJudge sizes truth verdict
-      → length (visited sizes verdict (At [])) ≤ 1 + length (answers_from sizes truth (At [])) * sum sizes
-  visited_from_first exact =
-      subst (λ cs. length (visited sizes verdict (At [])) ≤ 1 + kept truth cs * sum sizes) (sym (first_of_all sizes))
-      (at_most_same (length (visited sizes verdict (At []))) (kept (is_reached verdict) (all_prefixes sizes)) _ _
-      (kept_more (is_visited sizes verdict (At [])) (is_reached verdict) (all_prefixes sizes) (λ prefix h. (visited_parts (At []) prefix h).0))
-      refl
-      (reached_at_most sizes truth verdict (open_at_some exact)))
+module _ (sizes : List ℕ) (truth : List ℕ → Bool) (verdict : List ℕ → Verdict) (exact : IsExactJudge sizes truth verdict) where
+  -- if each open prefix has a completion that passes a test, at most so many are visited
+  visited_by : (start : Start) (f : List ℕ) (test : List ℕ → Bool) → first_of_start sizes start ≡ Some f
+      → ((prefix : List ℕ) → IsTrue (admits sizes prefix) → verdict prefix ≡ Open → ReachesTo f prefix → list_any test (completions sizes prefix) ≡ true)
+      → length (visited sizes verdict start) ≤ 1 + kept test (choices sizes) * sum sizes
+  visited_by start f test begins passes =
+      at_most_same _ (kept (has_true_fronts sizes test) (all_prefixes sizes)) _
+      (kept_more (is_visited sizes verdict start) (has_true_fronts sizes test) (all_prefixes sizes) (λ prefix i h.
+      let is : IsVisited sizes verdict f prefix = in_visited sizes verdict start f begins prefix (into_filter (is_visited sizes verdict start) (all_prefixes sizes) prefix i h) in
+      from_fronts sizes test prefix is.admitted (λ front b less admitted.
+      passes front admitted (is_open_then (verdict front) (front_passes (λ front. is_open (verdict front)) front prefix is.fronts b less)) (reaches_front f prefix front b is.reaches_to))))
+      (has_true_fronts_at_most sizes test)
+
+  -- the first choice may be the only one that an open prefix along it has
+  module _ (start : Start) (f : List ℕ) (begins : first_of_start sizes start ≡ Some f) where
+    abbrev is_at_or_true : List ℕ → Bool
+    is_at_or_true c = truth c || not (comes_before f c)
+
+    passes : (prefix : List ℕ) → IsTrue (admits sizes prefix) → verdict prefix ≡ Open → ReachesTo f prefix → list_any (λ c. not (comes_before c f) && is_at_or_true c) (completions sizes prefix) ≡ true
+    passes prefix a e (inl h) =
+        is_some_true _ (completions sizes prefix) f (in_completions sizes prefix f (first_is_whole sizes start f begins) h) (grind (arith, common_steps, not_itself))
+    passes prefix a e (inr less) =
+        let s = some_true truth (completions sizes prefix) (exact.some prefix a e) in
+        let late : comes_before s.0 f ≡ false = not_back f s.0 (before_begins f prefix s.0 less (completion_whole sizes prefix s.0 s.1).1) in
+        is_some_true _ (completions sizes prefix) s.0 s.1 (grind (arith, common_steps, late, s.2))
+
+    few_more : kept (λ c. not (comes_before c f) && is_at_or_true c) (choices sizes) ≤ length (answers_from sizes truth start) + 1
+    few_more =
+        let later : List (List ℕ) = filter (comes_before f) (choices sizes) in
+        let from : filter (λ c. not (comes_before c f)) (choices sizes) ≡ f ∷ later = from_member (choices sizes) f (choices_sorted sizes) (in_choices sizes f (first_is_whole sizes start f begins)) in
+        let first : at_or_after (first_of_start sizes start) (choices sizes) ≡ f ∷ later = ap (λ o. at_or_after o (choices sizes)) begins ∙ from in
+        let more : kept is_at_or_true later ≤ kept truth later = kept_more is_at_or_true truth later (λ c i h. grind (arith, common_steps, in_filter)) in
+        rw (← twice (λ c. not (comes_before c f)) is_at_or_true (choices sizes), from, first) (grind (arith, common_steps))
+
+-- a start that begins nowhere visits nothing
+if_begun : (sizes : List ℕ) (verdict : List ℕ → Verdict) (start : Start) (n : ℕ) → ((f : List ℕ) → first_of_start sizes start ≡ Some f → length (visited sizes verdict start) ≤ n)
+    → length (visited sizes verdict start) ≤ n
+if_begun sizes verdict start n h = by (first_of_start sizes start) refl
+  where
+    by : (first : Option (List ℕ)) → first_of_start sizes start ≡ first → length (visited sizes verdict start) ≤ n
+    by None e = omega (arith, ap length (none_visited sizes verdict start e))
+    by (Some f) e = h f e
+
+pub visited_from_first : (sizes : List ℕ) (truth : List ℕ → Bool) (verdict : List ℕ → Verdict) → IsExactJudge sizes truth verdict
+    → length (visited sizes verdict (At [])) ≤ 1 + length (answers_from sizes truth (At [])) * sum sizes
+visited_from_first sizes truth verdict exact =
+    subst (λ cs. length (visited sizes verdict (At [])) ≤ 1 + kept truth cs * sum sizes) (sym (first_of_all sizes))
+    (if_begun sizes verdict (At []) _ (λ f begins. visited_by sizes truth verdict exact (At []) f truth begins (λ prefix a e r. exact.some prefix a e)))
+
+pub visited_at_most : (sizes : List ℕ) (truth : List ℕ → Bool) (verdict : List ℕ → Verdict) (start : Start) → IsExactJudge sizes truth verdict
+    → length (visited sizes verdict start) ≤ 1 + (length (answers_from sizes truth start) + 1) * sum sizes
+visited_at_most sizes truth verdict start exact =
+    if_begun sizes verdict start _ (λ f begins. more_times _ _ _ (sum sizes)
+    (visited_by sizes truth verdict exact start f _ begins (passes sizes truth verdict exact start f begins))
+    (few_more sizes truth verdict exact start f begins))

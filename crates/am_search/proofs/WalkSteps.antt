@@ -24,7 +24,7 @@ use Rattle.am_search.specs.NextPrefix.{next_beside}
 use Rattle.am_search.specs.Walk.{if_begins, first_position, IsJudging, IsGiving, IsDone, IsWalk}
 use Rattle.am_search.proofs.ChoiceOrder.{got_at, none_found, Ascends, not_itself, not_back, filter_all, filter_step, from_first, member_then_rest}
 use Rattle.am_search.proofs.Odometer.{ArePositive, admits_at_most, filled, first_completion_is, next_choice_is}
-use Rattle.am_search.proofs.PrefixOrder.{begins_same, begins_parts, before_begins, before_beside, begins_front, begins_taken, taken_is, begins_length, begins_whole, begins_behind}
+use Rattle.am_search.proofs.PrefixOrder.{before_begins, before_beside, begins_front, begins_taken, taken_is, begins_length, begins_whole, begins_behind, begins_through}
 use Rattle.am_search.proofs.NextPrefix.{IsBeside, beside_is, none_beside, none_of_front, beside_front, beside_begins}
 use Rattle.am_search.proofs.VisitedPrefixes.{none_visited, in_completions, reached}
 use Rattle.am_search.proofs.VisitSteps.{taken_pushed, past_length, begins_next, judged_is, open_along, open_behind, closed_next, closed_none}
@@ -217,15 +217,6 @@ module _ (sizes : List ℕ) (verdict : List ℕ → Verdict) (start : Start) (so
         given_next = ap (λ x. (given ++ c ∷ []) ++ at_or_after (Some d) (completions sizes x)) same
             ∙ ap (λ o. (given ++ c ∷ []) ++ at_or_after o (completions sizes (take depth c))) (sym found) ∙ given_one;
       }
-    where
-      begins_through : (a b x : List ℕ) → starts_with nat_eq b a ≡ true → starts_with nat_eq x b ≡ true → starts_with nat_eq x a ≡ true
-      begins_through [] b x h k = refl
-      begins_through (p ∷ a) [] x h k = absurd (false≢true h)
-      begins_through (p ∷ a) (q ∷ b) [] h k = absurd (false≢true k)
-      begins_through (p ∷ a) (q ∷ b) (r ∷ x) h k =
-          let ab = begins_parts q p b a h in
-          let bx = begins_parts r q x b k in
-          ap (λ t. starts_with nat_eq (t ∷ x) (p ∷ a)) (bx.0 ∙ ab.0) ∙ begins_same p x a ∙ begins_through a b x ab.1 bx.1
 
   -- a later completion of these positions is not the choice itself
   other_choice : (x : List ℕ) → IsWhole sizes x → comes_before c x ≡ true → starts_with nat_eq x c ≡ false
