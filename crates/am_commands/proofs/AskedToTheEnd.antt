@@ -1,5 +1,5 @@
 -- Calls of `ask` in a row come to an end: each begins later than the one before it.
-use Rattle.std.proofs.Common.{◌≡◌, ℕ, ◌<◌, ◌≤◌, List, [], ◌∷◌, length, Option, None, Some}
+use Rattle.std.proofs.Common.{◌≡◌, ℕ, suc, ◌-◌, ◌<◌, ◌≤◌, List, [], ◌∷◌, length, Option, None, Some}
 use Rattle.std.proofs.Common.{MatchOption, ap, sym, subst, ◌∙◌, refl, arith}
 use Rattle.std.specs.Prelude.{option_map}
 use Rattle.am_universe.specs.Universe.{sizes}
@@ -55,59 +55,50 @@ left_from s start = length (choices_from (sizes s.labels) start)
 abbrev all_of : Space → ℕ
 all_of s = length (choices (sizes s.labels))
 
--- calls in a row have ended; or they go on, and are fewer than the choices from the first start on;
--- or there are none
-data HowFar (inputs : Inputs) (row : List Asked) (left : ℕ) : Type 0 where
-  ended : AreAskedInARow inputs row → ((n : ℕ) → 0 < n → left ≤ n → length row ≤ n)
-      → HowFar inputs row left
-  unfinished : length row < left → HowFar inputs row left
-  not_begun : row ≡ [] → HowFar inputs row left
-
--- what follows a trailer that leaves this start, if it leaves one
-abbrev Follows : (Inputs → List Asked → Type 0) → Inputs → List Asked → Option Start → Type 0
-Follows IsRow inputs more o =
-    MatchOption (option_map (token_text (inputs_fingerprint inputs)) o) (more ≡ [])
-    (λ token. IsRow (after_token inputs token) more)
-
-how_far : (inputs : Inputs) (row : List Asked) (s : Space) (w : World) (q : Question)
+-- there are at most as many calls in a row as choices from the first start on, or one call; and if
+-- there are as many, they have ended
+row_within : (inputs : Inputs) (row : List Asked) (s : Space) (w : World) (q : Question)
     (start : Start) → AreAskedSoFar inputs row → AcceptsInputs inputs s w q start
-    → HowFar inputs row (left_from s start)
-how_far inputs [] s w q start h accepts = not_begun refl
-how_far inputs (asked ∷ more) s w q start h accepts =
-    subst (HowFar inputs (asked ∷ more)) same_left
-    (by (start_after asked.trailer) refl h.1 (λ next ends k. how_far
+    → (n : ℕ) → 0 < n → left_from s start ≤ n
+    → (length row ≤ n) × (n ≤ length row → AreAskedInARow inputs row)
+row_within inputs [] s w q start h accepts n some within =
+    (omega arith, λ full. absurd (omega (arith, some, full)))
+row_within inputs (asked ∷ more) s w q start h accepts n some within =
+    by (start_after asked.trailer) refl h.1 (λ next ends k. row_within
     (after_token inputs (token_text (inputs_fingerprint inputs) next)) more h.0.2.space
-    h.0.2.world h.0.2.question next k (asked_goes_on inputs asked next h.0 ends)))
+    h.0.2.world h.0.2.question next k (asked_goes_on inputs asked next h.0 ends))
   where
+    Follows : (Inputs → List Asked → Type 0) → Option Start → Type 0
+    Follows IsRow o =
+        MatchOption (option_map (token_text (inputs_fingerprint inputs)) o) (more ≡ [])
+        (λ token. IsRow (after_token inputs token) more)
+
     same_left : left_from h.0.2.space h.0.2.start ≡ left_from s start
     same_left =
         let same = one_meaning_of_inputs inputs h.0.2.space s h.0.2.world w h.0.2.question q
         h.0.2.start start h.0.2.accepts accepts in
         λ k. left_from (same.0 k) (same.3 k)
 
-    by : (o : Option Start) → start_after asked.trailer ≡ o → Follows AreAskedSoFar inputs more o
+    by : (o : Option Start) → start_after asked.trailer ≡ o → Follows AreAskedSoFar o
         → ((next : Start) → start_after asked.trailer ≡ Some next
         → AreAskedSoFar (after_token inputs (token_text (inputs_fingerprint inputs) next)) more
-        → HowFar (after_token inputs (token_text (inputs_fingerprint inputs) next)) more
-        (left_from h.0.2.space next))
-        → HowFar inputs (asked ∷ more) (left_from h.0.2.space h.0.2.start)
+        → (m : ℕ) → 0 < m → left_from h.0.2.space next ≤ m
+        → (length more ≤ m) × (m ≤ length more
+        → AreAskedInARow (after_token inputs (token_text (inputs_fingerprint inputs) next)) more))
+        → (length (asked ∷ more) ≤ n) × (n ≤ length (asked ∷ more) → AreAskedInARow inputs (asked ∷ more))
     by None ends none goes =
-        ended (h.0, subst (Follows AreAskedInARow inputs more) (sym ends) none)
-        (λ n some within. omega (arith, ap length none))
+        (omega (arith, ap length none), λ full. (h.0, subst (Follows AreAskedInARow) (sym ends) none))
     by (Some next) ends again goes =
         let ns : List ℕ = sizes h.0.2.space.labels in
         let later = goes_later inputs asked next h.0 ends in
         let fewer = later_fewer ns h.0.2.start next later in
-        let some = later_some ns h.0.2.start next later in
-        elim (goes next ends again) [
-          | ended row few ↦
-              let bound : length more ≤ left_from h.0.2.space next =
-              few (left_from h.0.2.space next) some (omega arith) in
-              ended (h.0, subst (Follows AreAskedInARow inputs more) (sym ends) row)
-              (λ n positive within. omega (arith, bound, fewer, within))
-          | unfinished less ↦ unfinished (omega (arith, less, fewer))
-          | not_begun none ↦ unfinished (omega (arith, ap length none, fewer, some))
-        ]
+        let some_left = later_some ns h.0.2.start next later in
+        let less : suc (n - 1) ≡ n = omega arith in
+        let rest = goes next ends again (n - 1) (omega (arith, fewer, same_left, some_left, within))
+        (omega (arith, fewer, same_left, within)) in (
+          omega (arith, rest.0, less),
+          λ full. (h.0, subst (Follows AreAskedInARow) (sym ends) (rest.1 (omega (arith, full, less)))),
+        )
 
 -- there are at most as many calls in a row as choices, and if there are as many, they have ended
 pub row_ends : (inputs : Inputs) (s : Space) (row : List Asked)
@@ -119,14 +110,9 @@ row_ends inputs s [] says h =
 row_ends inputs s (asked ∷ more) says h =
     let here = h.0.2 in
     let ns : List ℕ = sizes here.space.labels in
-    let some = some_choice ns (sizes_of_universe here.space.labels here.accepts.says_universe.3.is_universe) in
-    let within = from_at_most ns here.start in
-    let same : all_of here.space ≡ all_of s =
-    ap all_of (one_space inputs.universe here.space s here.accepts.says_universe says) in
-    elim (how_far inputs (asked ∷ more) here.space here.world here.question here.start h here.accepts) [
-      | ended row few ↦
-          (omega (arith, same, few (all_of here.space) some within), λ full. row)
-      | unfinished less ↦
-          (omega (arith, same, less, within), λ full. absurd (omega (arith, same, less, within, full)))
-      | not_begun none ↦ absurd (omega (arith, ap length none))
-    ]
+    subst (λ n. (length (asked ∷ more) ≤ n) × (n ≤ length (asked ∷ more) → AreAskedInARow inputs (asked ∷ more)))
+    (ap all_of (one_space inputs.universe here.space s here.accepts.says_universe says))
+    (row_within inputs (asked ∷ more) here.space here.world here.question here.start h here.accepts
+    (all_of here.space)
+    (some_choice ns (sizes_of_universe here.space.labels here.accepts.says_universe.3.is_universe))
+    (from_at_most ns here.start))

@@ -27,12 +27,12 @@ pub page_of_all : (ending : Trailer) (xs : List (List ℕ)) (limit : Option ℕ)
 page_of_all ending xs None h = refl
 page_of_all ending xs (Some n) h = ap (λ b. cond b (part_page xs n) (all_page ending xs)) (le-ltb n (length xs) h)
 
--- ---- How far it has come: `done` are written, there is room for so many more under the limit, and where there is one, the last of them is `last`.
+-- ---- How far it has come: `done` are written, there is room for so many more under the limit, and the last of them is `last`.
 pub record IsSoFar (xs : List (List ℕ)) (limit : Option ℕ) (IsWritten : List (List ℕ) → Type 0) (left : List (List ℕ)) (room : Option ℕ) (last : List ℕ) : Type 0 where
   pub done : List (List ℕ)
   pub all : xs ≡ done ++ left
   pub limit_is : limit ≡ option_map (λ r. length done + r) room
-  pub last_is : IfSome room (λ _. last ≡ get_or done (length done - 1) [])
+  pub last_is : last ≡ get_or done (length done - 1) []
   pub written : IsWritten done
 
 pub begun : (xs : List (List ℕ)) (limit : Option ℕ) (IsWritten : List (List ℕ) → Type 0) (last : List ℕ) → last ≡ [] → IsWritten [] → IsSoFar xs limit IsWritten xs limit last
@@ -70,10 +70,9 @@ module _ {xs : List (List ℕ)} {limit : Option ℕ} {IsWritten : List (List ℕ
               )
           under false h = (rest, ap (λ l. (page_ending ending xs l).choices) is ∙ ap (λ b. (cond b (part_page xs n) (all_page ending xs)).choices) h ∙ same)
 
-module _ {xs : List (List ℕ)} {limit : Option ℕ} {IsWritten : List (List ℕ) → Type 0} {left : List (List ℕ)} {room : Option ℕ} {last : List ℕ} (so_far : IsSoFar xs limit IsWritten left room last) where
-  pub one_more : {IsWrittenNow : List (List ℕ) → Type 0} (c : List ℕ) (rest : List (List ℕ)) (after : Option ℕ) (now : List ℕ) → left ≡ c ∷ rest → room ≡ option_map (λ r. r + 1) after → IfSome after (λ _. now ≡ c) → IsWrittenNow (so_far.done ++ c ∷ []) → IsSoFar xs limit IsWrittenNow rest after now
-  one_more c rest after now found less is_last w =
-      grind (arith, common_steps, append_assoc, length-append, get_or-append_seam)
+pub one_more : {xs : List (List ℕ)} {limit : Option ℕ} {IsWritten IsWrittenNow : List (List ℕ) → Type 0} {left : List (List ℕ)} {room : Option ℕ} {last : List ℕ} (so_far : IsSoFar xs limit IsWritten left room last)
+    (c : List ℕ) (rest : List (List ℕ)) (after : Option ℕ) → left ≡ c ∷ rest → room ≡ option_map (λ r. 1 + r) after → IsWrittenNow (so_far.done ++ c ∷ []) → IsSoFar xs limit IsWrittenNow rest after c
+one_more so_far c rest after found less w = grind (arith, common_steps, append_assoc, length-append, get_or-append_seam)
 
 -- ---- The tests of the loop.
 
@@ -83,16 +82,6 @@ no_room (Some n) e = ap Some (eqb-true n 0 (sym e))
 
 pub some_room : (room : Option ℕ) → false ≡ option_eq nat_eq room (Some 0) → room ≢ Some 0
 some_room room e full = false≢true (e ∙ ap (λ o. option_eq nat_eq o (Some 0)) full)
-
-pub one_less : (room : Option ℕ) (n : ℕ) → room ≡ Some n → room ≢ Some 0 → 1 ≤ n
-one_less room zero is some = absurd (some is)
-one_less room (suc n) is some = omega arith
-
-pub less_by_one : (n : ℕ) → 1 ≤ n → Some n ≡ option_map (λ r. r + 1) (Some (n - 1))
-less_by_one n h = ap Some (omega arith)
-
-pub no_limit : (room : Option ℕ) → room ≡ None → room ≡ option_map (λ r. r + 1) room
-no_limit room none = none ∙ sym (ap (option_map (λ r. r + 1)) none)
 
 pub fewer : {X : Type 0} {xs ys : List X} {x : X} → xs ≡ x ∷ ys → suc (length ys) ≤ length xs
 fewer e = omega (arith, ap length e)

@@ -23,28 +23,20 @@ use Rattle.am_search.specs.Token.{token_text}
 use Rattle.am_search.specs.TrailerText.{trailer_text}
 use Rattle.am_search.proofs.ChoiceOrder.{Ascends, before_trans, not_back, filter_all, filter_same, in_filter, into_filter, filters_swapped, from_found, after_taken, up_to_taken, taken_last}
 use Rattle.am_search.proofs.Odometer.{filled, first_completion_is, positive}
+use Rattle.am_search.proofs.PrefixOrder.{before_nothing}
 use Rattle.am_search.proofs.Walks.{first_is_whole, one_more}
 use Rattle.am_search.proofs.PageLines.{page_of_part, page_of_all}
 
 -- ---- The choices from a start on.
 
 -- the same whole choices come before a prefix and before its first completion
-nothing_before : (d : List ℕ) → comes_before d [] ≡ false
-nothing_before [] = refl
-nothing_before (p ∷ d) = refl
-
-before_first : (ns d : List ℕ) → length d ≡ length ns → comes_before d (filled ns []) ≡ false
-before_first [] [] e = refl
-before_first [] (p ∷ d) e = absurd (omega arith)
-before_first (n ∷ ns) [] e = absurd (omega arith)
-before_first (n ∷ ns) (zero ∷ d) e = before_first ns d (omega arith)
-before_first (n ∷ ns) (suc p ∷ d) e = not_back (0 ∷ filled ns []) (suc p ∷ d) (ap is_lt (less_first 0 (suc p) (filled ns []) d (omega arith)))
-
 before_filled : (ns prefix d : List ℕ) → admits ns prefix ≡ true → length d ≡ length ns → comes_before d (filled ns prefix) ≡ comes_before d prefix
-before_filled ns [] d a e = before_first ns d e ∙ sym (nothing_before d)
-before_filled [] (p ∷ prefix) d a e = cc
-before_filled (n ∷ ns) (p ∷ prefix) [] a e = absurd (omega arith)
+before_filled [] [] d a e = refl
+before_filled (n ∷ ns) [] (zero ∷ d) a e = before_filled ns [] d refl (omega arith) ∙ before_nothing d
+before_filled (n ∷ ns) [] (suc p ∷ d) a e = not_back (0 ∷ filled ns []) (suc p ∷ d) (ap is_lt (less_first 0 (suc p) (filled ns []) d (omega arith)))
 before_filled (n ∷ ns) (p ∷ prefix) (q ∷ d) a e = search (rules, before_filled ns prefix d, and_parts, filled)
+before_filled [] (p ∷ prefix) d a e = cc
+before_filled (n ∷ ns) prefix [] a e = absurd (omega arith)
 
 pub choices_at : (ns prefix : List ℕ) → AreSizes ns → admits ns prefix ≡ true → choices_from ns (At prefix) ≡ filter (λ c. not (comes_before c prefix)) (choices ns)
 choices_at ns prefix h a =

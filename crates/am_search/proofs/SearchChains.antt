@@ -1,6 +1,6 @@
 -- Consecutive pages of searches, under budgets that are enough: which choices they have together,
 -- and that they come to an end.
-use Rattle.std.proofs.Common.{◌≡◌, ◌⊎◌, ℕ, ◌<◌, ◌≤◌, Bool, true, false, not, nat_eq, ◌-◌, get_or, List, [], ◌∷◌, ◌++◌, length, Option, Some, None, IfSome, MatchOption, ap, sym, subst, ◌∙◌, refl, inl, inr, arith, rules}
+use Rattle.std.proofs.Common.{◌≡◌, ℕ, ◌<◌, ◌≤◌, Bool, true, false, not, nat_eq, ◌-◌, get_or, List, [], ◌∷◌, ◌++◌, length, Option, Some, None, IfSome, MatchOption, ap, sym, subst, ◌∙◌, refl, inl, inr, arith, rules}
 use Rattle.std.specs.List.{filter, starts_with}
 use Rattle.std.proofs.lemmas.Grind.{common_steps}
 use Rattle.am_universe.specs.Choice.{choices, admits}
@@ -163,25 +163,19 @@ search_chain_joined ns truth verdict start (page ∷ pages) law h =
     by None e more = ap all_choices_of e
     by (Some next) k more = more next k
 
--- there is at most one page, or there are no more pages than choices from their start on
+-- there are no more pages than choices from their start on, or one page
 at_most_from : (ns : List ℕ) (truth : List ℕ → Bool) (verdict : List ℕ → Verdict) (start : Start) (pages : List AnswerPage) → IsJudge ns truth verdict → IsSearchChain ns verdict start pages
-    → (length pages ≤ 1) ⊎ (length pages ≤ length (choices_from ns start))
-at_most_from ns truth verdict start [] law h = absurd h
-at_most_from ns truth verdict start (page ∷ pages) law h =
+    → (n : ℕ) → 0 < n → length (choices_from ns start) ≤ n → length pages ≤ n
+at_most_from ns truth verdict start [] law h n some within = absurd h
+at_most_from ns truth verdict start (page ∷ pages) law h n some within =
     by (start_after page.trailer) refl h.1 (λ next k. at_most_from ns truth verdict next pages law k)
   where
     by : (o : Option Start) → start_after page.trailer ≡ o → MatchOption o (pages ≡ []) (λ next. IsSearchChain ns verdict next pages)
-        → ((next : Start) → IsSearchChain ns verdict next pages → (length pages ≤ 1) ⊎ (length pages ≤ length (choices_from ns next)))
-        → (length (page ∷ pages) ≤ 1) ⊎ (length (page ∷ pages) ≤ length (choices_from ns start))
-    by None e none more = inl (omega (arith, ap length none))
+        → ((next : Start) → IsSearchChain ns verdict next pages → (n : ℕ) → 0 < n → length (choices_from ns next) ≤ n → length pages ≤ n) → length (page ∷ pages) ≤ n
+    by None e none more = omega (arith, ap length none)
     by (Some next) e k more =
         let on = goes_on ns truth verdict start page law h.0 next e in
-        let fewer = later_fewer ns start next on.later in
-        let some = later_some ns start next on.later in
-        elim (more next k) [
-          | inl one ↦ inr (omega (arith, one, fewer, some))
-          | inr most ↦ inr (omega (arith, most, fewer))
-        ]
+        omega (arith, more next k (length (choices_from ns next)) (later_some ns start next on.later) (omega arith), later_fewer ns start next on.later)
 
 pub from_at_most : (ns : List ℕ) (start : Start) → length (choices_from ns start) ≤ length (choices ns)
 from_at_most ns start = grind (arith, common_steps, kept_all)
@@ -194,7 +188,4 @@ some_choice ns are =
 
 pub search_chain_ends : (ns : List ℕ) (truth : List ℕ → Bool) (verdict : List ℕ → Verdict) (start : Start) (pages : List AnswerPage) → IsJudge ns truth verdict → IsSearchChain ns verdict start pages
     → length pages ≤ length (choices ns)
-search_chain_ends ns truth verdict start pages law h = elim (at_most_from ns truth verdict start pages law h) [
-  | inl one ↦ omega (arith, one, some_choice ns law.limits)
-  | inr most ↦ omega (arith, most, from_at_most ns start)
-]
+search_chain_ends ns truth verdict start pages law h = at_most_from ns truth verdict start pages law h (length (choices ns)) (some_choice ns law.limits) (from_at_most ns start)

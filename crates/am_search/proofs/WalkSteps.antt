@@ -23,10 +23,10 @@ use Rattle.am_search.specs.Visits.{all_prefixes, is_visited, visited, given_at, 
 use Rattle.am_search.specs.NextPrefix.{next_beside}
 use Rattle.am_search.specs.Walk.{if_begins, first_position, IsJudging, IsGiving, IsDone, IsWalk}
 use Rattle.am_search.proofs.ChoiceOrder.{got_at, none_found, Ascends, not_itself, not_back, filter_all, filter_step, from_first, member_then_rest}
-use Rattle.am_search.proofs.Odometer.{ArePositive, admits_at_most, filled, first_completion_is, next_choice_is}
+use Rattle.am_search.proofs.Odometer.{ArePositive, positive, admits_at_most, filled, first_completion_is, next_choice_is}
 use Rattle.am_search.proofs.PrefixOrder.{before_begins, before_beside, begins_front, begins_taken, taken_is, begins_length, begins_whole, begins_behind, begins_through}
 use Rattle.am_search.proofs.NextPrefix.{IsBeside, beside_is, none_beside, none_of_front, beside_front, beside_begins}
-use Rattle.am_search.proofs.VisitedPrefixes.{none_visited, in_completions, reached}
+use Rattle.am_search.proofs.VisitedPrefixes.{IsVisited, none_visited, in_completions, reached}
 use Rattle.am_search.proofs.VisitSteps.{taken_pushed, past_length, begins_next, judged_is, open_along, open_behind, closed_next, closed_none}
 use Rattle.am_search.proofs.Walks.{first_is_whole, completion_whole}
 
@@ -83,101 +83,125 @@ module _ {sizes : List ℕ} {verdict : List ℕ → Verdict} {start : Start} whe
 
 -- ---- After a judgement.
 
-module _ (sizes : List ℕ) (verdict : List ℕ → Verdict) (start : Start) (some : ArePositive sizes) (p : List ℕ) (along : Option (List ℕ)) (judged given : List (List ℕ))
-    (front : judged ≡ take (length judged) (visited sizes verdict start)) (here : IsJudging sizes verdict start p along judged given) where
+module _ {sizes : List ℕ} {truth : List ℕ → Bool} {verdict : List ℕ → Verdict} {start : Start} {stage : Stage} {p : List ℕ} {along : Option (List ℕ)} {judged given : List (List ℕ)}
+    (law : IsJudge sizes truth verdict) (walk : IsWalk sizes verdict start stage p along judged given) (at : stage ≡ Judging) where
+  some : ArePositive sizes
+  some = positive sizes law.limits.values
+
+  here : IsJudging sizes verdict start p along judged given
+  here = walk.judging at
+
   longer : suc (length judged) ≡ length (judged ++ p ∷ [])
   longer = omega (arith, length-append judged (p ∷ []))
 
-  pub front_more : judged ++ p ∷ [] ≡ take (length (judged ++ p ∷ [])) (visited sizes verdict start)
-  front_more = grind (arith, common_steps, taken_pushed, longer)
+  front_more : judged ++ p ∷ [] ≡ take (length (judged ++ p ∷ [])) (visited sizes verdict start)
+  front_more = grind (arith, common_steps, taken_pushed, longer, walk.front, here.next)
 
-  given_more : given_by sizes verdict start (judged ++ p ∷ []) ≡ given_by sizes verdict start judged ++ given_at sizes verdict start p
-  given_more = grind (arith, common_steps, flat_map-append, append-nil)
+  given_more : given_by sizes verdict start (judged ++ p ∷ []) ≡ given ++ given_at sizes verdict start p
+  given_more = grind (arith, common_steps, flat_map-append, append-nil, here.given_all)
 
   given_none : is_yes (verdict p) ≡ false → given ≡ given_by sizes verdict start (judged ++ p ∷ [])
-  given_none e = grind (arith, common_steps, append-nil)
+  given_none e = grind (arith, common_steps, append-nil, given_more)
 
   begun : HasBegun sizes start
   begun = begun_at sizes verdict start (length judged) p here.next
 
+  is_visited_now : IsVisited sizes verdict begun.first p
+  is_visited_now = judged_is sizes verdict start begun.first begun.begins begun.whole some (length judged) p here.next
+
   pub judged_admits : admits sizes p ≡ true
-  judged_admits = (judged_is sizes verdict start begun.first begun.begins begun.whole some (length judged) p here.next).admitted
+  judged_admits = is_visited_now.admitted
+
+  -- an open prefix is shorter than a choice
+  pub open_room : verdict p ≡ Open → length p < length sizes
+  open_room e = grind (arith, common_steps, cases_lt, admits_at_most, judged_admits, law.whole p)
 
   along_of : {o : Option (List ℕ)} → along ≡ o → if_begins p (Some begun.first) ≡ o
   along_of e = ap (if_begins p) (sym begun.begins) ∙ sym here.along_is ∙ e
 
   -- the choice along which the prefix lies is the one at which the start begins
-  pub along_some : (f : List ℕ) → along ≡ Some f → (first_of_start sizes start ≡ Some f) × IsWhole sizes f × (starts_with nat_eq f p ≡ true)
+  along_some : (f : List ℕ) → along ≡ Some f → (first_of_start sizes start ≡ Some f) × IsWhole sizes f × (starts_with nat_eq f p ≡ true)
   along_some f e = grind (arith, common_steps, cases_Bool, along_if, along_of, begun)
 
   along_none : along ≡ None → starts_with nat_eq begun.first p ≡ false
   along_none e = grind (arith, common_steps, false_from_ne_true, along_if, along_of)
 
   less_none : along ≡ None → comes_before begun.first p ≡ true
-  less_none e = elim (judged_is sizes verdict start begun.first begun.begins begun.whole some (length judged) p here.next).reaches_to [
+  less_none e = elim is_visited_now.reaches_to [
     | inl b ↦ absurd (false≢true (sym (along_none e) ∙ b))
     | inr l ↦ l
   ]
 
+  pub along_longer : verdict p ≡ Open → {n : ℕ} → n ≡ length p → IfSome along (λ f. n < length f)
+  along_longer e {n} same = by along refl
+    where
+      by : (o : Option (List ℕ)) → along ≡ o → IfSome o (λ f. n < length f)
+      by None is = tt
+      by (Some f) is = omega (arith, same, open_room e, (along_some f is).1.1)
+
   -- the verdict is `Open`
-  pub after_open : verdict p ≡ Open → length p < length sizes → (o : Option (List ℕ)) → along ≡ o → IsWalk sizes verdict start Judging (p ++ first_position o (length p) ∷ []) along (judged ++ p ∷ []) given
-  after_open e room None none =
+  after_open : verdict p ≡ Open → (o : Option (List ℕ)) → along ≡ o → IsWalk sizes verdict start Judging (p ++ first_position o (length p) ∷ []) along (judged ++ p ∷ []) given
+  after_open e None none =
       let b = along_none none in
-      let next = open_behind sizes verdict start begun.first begun.begins begun.whole some (length judged) p here.next e room b in
+      let next = open_behind sizes verdict start begun.first begun.begins begun.whole some (length judged) p here.next e (open_room e) b in
       at_judging front_more (record {
         next = ap (slice_get (visited sizes verdict start)) (sym longer) ∙ next;
         along_is = none ∙ sym (along_if (p ++ 0 ∷ []) begun.first (false_from_ne_true (starts_with nat_eq begun.first (p ++ 0 ∷ [])) (λ h. false≢true (sym b ∙ begins_front p begun.first 0 h)))) ∙ ap (if_begins (p ++ 0 ∷ [])) (sym begun.begins);
         given_all = given_none (ap is_yes e);
       })
-  after_open e room (Some f) is =
+  after_open e (Some f) is =
       let parts = along_some f is in
       let q : ℕ = slice_index f (length p) in
-      let next = open_along sizes verdict start f parts.0 parts.1 some (length judged) p here.next e room parts.2 in
+      let next = open_along sizes verdict start f parts.0 parts.1 some (length judged) p here.next e (open_room e) parts.2 in
       at_judging front_more (record {
         next = ap (slice_get (visited sizes verdict start)) (sym longer) ∙ next;
-        along_is = is ∙ sym (along_if (p ++ q ∷ []) f (begins_next p f parts.2 (omega (arith, parts.1.1, room)))) ∙ ap (if_begins (p ++ q ∷ [])) (sym parts.0);
+        along_is = is ∙ sym (along_if (p ++ q ∷ []) f (begins_next p f parts.2 (omega (arith, parts.1.1, open_room e)))) ∙ ap (if_begins (p ++ q ∷ [])) (sym parts.0);
         given_all = given_none (ap is_yes e);
       })
+
+  pub opened : verdict p ≡ Open → {n q : ℕ} {next : List ℕ} {more : List (List ℕ)} → n ≡ length p → q ≡ first_position along n → next ≡ p ++ q ∷ [] → more ≡ judged ++ p ∷ []
+      → IsWalk sizes verdict start stage next along more given
+  opened e {n} {q} {next} {more} length_is position_is next_is more_is = rw (at, next_is, more_is, position_is, length_is) (after_open e along refl)
 
   -- the verdict is `Yes`
   last_judged : slice_get (visited sizes verdict start) (length (judged ++ p ∷ []) - 1) ≡ Some p
-  last_judged = grind (arith, common_steps, longer)
+  last_judged = grind (arith, common_steps, longer, here.next)
 
-  pub after_yes : verdict p ≡ Yes → (f c : List ℕ) → first_of_start sizes start ≡ Some f → IsWhole sizes c → starts_with nat_eq c p ≡ true
+  after_yes : verdict p ≡ Yes → (f c : List ℕ) → first_of_start sizes start ≡ Some f → IsWhole sizes c → starts_with nat_eq c p ≡ true
       → at_or_after (Some c) (completions sizes p) ≡ at_or_after (Some f) (completions sizes p)
       → IsGiving sizes verdict start (length p) c (judged ++ p ∷ []) given
-  after_yes e f c begins w b same = grind (arith, common_steps, taken_is, longer, last_judged, begins_length)
+  after_yes e f c begins w b same = grind (arith, common_steps, taken_is, longer, last_judged, begins_length, given_more)
 
-  pub after_yes_along : verdict p ≡ Yes → (f : List ℕ) → along ≡ Some f → IsGiving sizes verdict start (length p) f (judged ++ p ∷ []) given
-  after_yes_along e f is = let parts = along_some f is in after_yes e f f parts.0 parts.1 parts.2 refl
-
-  pub after_yes_behind : verdict p ≡ Yes → along ≡ None → (c : List ℕ) → slice_get (completions sizes p) 0 ≡ Some c → IsGiving sizes verdict start (length p) c (judged ++ p ∷ []) given
-  after_yes_behind e none c first =
+  after_yes_at : verdict p ≡ Yes → (o : Option (List ℕ)) → along ≡ o → (c : List ℕ) → MatchOption o (slice_get (completions sizes p) 0 ≡ Some c) (λ f. c ≡ f)
+      → IsGiving sizes verdict start (length p) c (judged ++ p ∷ []) given
+  after_yes_at e None none c first =
       let member = completion_whole sizes p c (got_at (completions sizes p) 0 c first) in
       after_yes e begun.first c begun.begins member.0 member.1 (all_from sizes p begun.first c (less_none none) first)
+  after_yes_at e (Some f) is c same =
+      let parts = along_some f is in
+      rw same (after_yes e f f parts.0 parts.1 parts.2 refl)
 
-  pub after_yes_at : verdict p ≡ Yes → (o : Option (List ℕ)) → along ≡ o → (c : List ℕ) → MatchOption o (slice_get (completions sizes p) 0 ≡ Some c) (λ f. c ≡ f)
-      → IsGiving sizes verdict start (length p) c (judged ++ p ∷ []) given
-  after_yes_at e None none c h = after_yes_behind e none c h
-  after_yes_at e (Some f) is c h = subst (λ x. IsGiving sizes verdict start (length p) x (judged ++ p ∷ []) given) (sym h) (after_yes_along e f is)
+  pub confirmed : verdict p ≡ Yes → {n : ℕ} {c : List ℕ} {other : Option (List ℕ)} {more : List (List ℕ)} → n ≡ length p → MatchOption along (slice_get (completions sizes p) 0 ≡ Some c) (λ f. c ≡ f)
+      → more ≡ judged ++ p ∷ [] → IsWalk sizes verdict start (Giving n) c other more given
+  confirmed e {n} {c} {other} {more} length_is first more_is = rw (length_is, more_is) (at_giving (length p) front_more (after_yes_at e along refl c first))
 
   -- the verdict is `No`
-  pub after_no : verdict p ≡ No → (next : List ℕ) → next_beside sizes p ≡ Some next → IsWalk sizes verdict start Judging next None (judged ++ p ∷ []) given
-  after_no e next beside =
+  pub denied : verdict p ≡ No → {next : List ℕ} {more : List (List ℕ)} → next_beside sizes p ≡ Some next → more ≡ judged ++ p ∷ [] → IsWalk sizes verdict start stage next None more given
+  denied e {next} {more} beside more_is =
       let r = closed_next sizes verdict start begun.first begun.begins begun.whole some (length judged) p here.next (ap is_open e) next beside in
-      at_judging front_more (record {
+      rw (at, more_is) (at_judging front_more (record {
         next = ap (slice_get (visited sizes verdict start)) (sym longer) ∙ r.0;
         along_is = sym (along_if next begun.first (behind_false next begun.first r.1)) ∙ ap (if_begins next) (sym begun.begins);
         given_all = given_none (ap is_yes e);
-      })
+      }))
 
-  pub after_no_last : verdict p ≡ No → next_beside sizes p ≡ None → {current : List ℕ} {other : Option (List ℕ)} → IsWalk sizes verdict start Done current other (judged ++ p ∷ []) given
-  after_no_last e beside =
+  pub denied_last : verdict p ≡ No → next_beside sizes p ≡ None → {current : List ℕ} {other : Option (List ℕ)} {more : List (List ℕ)} → more ≡ judged ++ p ∷ [] → IsWalk sizes verdict start Done current other more given
+  denied_last e beside {current} {other} {more} more_is =
       let none = closed_none sizes verdict start begun.first begun.begins begun.whole some (length judged) p here.next (ap is_open e) beside in
-      at_done front_more (record {
+      rw more_is (at_done front_more (record {
         all = omega (arith, past_length (visited sizes verdict start) (suc (length judged)) none, longer);
         given_all = given_none (ap is_yes e);
-      })
+      }))
 
 -- ---- After a choice was given.
 
@@ -186,63 +210,73 @@ found_kept : (test keep : List ℕ → Bool) (xs : List (List ℕ)) (d : List �
 found_kept test keep [] d e k = cc
 found_kept test keep (x ∷ xs) d e k = grind (arith, common_steps, found_kept test keep xs d)
 
-module _ (sizes : List ℕ) (verdict : List ℕ → Verdict) (start : Start) (some : ArePositive sizes) (depth : ℕ) (c : List ℕ) (judged given : List (List ℕ))
-    (front : judged ≡ take (length judged) (visited sizes verdict start)) (here : IsGiving sizes verdict start depth c judged given) where
+module _ {sizes : List ℕ} {truth : List ℕ → Bool} {verdict : List ℕ → Verdict} {start : Start} {stage : Stage} {c : List ℕ} {along : Option (List ℕ)} {judged given : List (List ℕ)} {depth : ℕ}
+    (law : IsJudge sizes truth verdict) (walk : IsWalk sizes verdict start stage c along judged given) (at : stage ≡ Giving depth) where
+  positive_sizes : ArePositive sizes
+  positive_sizes = positive sizes law.limits.values
+
+  giving : IsGiving sizes verdict start depth c judged given
+  giving = walk.giving depth at
+
   begun_giving : HasBegun sizes start
-  begun_giving = begun_at sizes verdict start (length judged - 1) (take depth c) here.last
+  begun_giving = begun_at sizes verdict start (length judged - 1) (take depth c) giving.last
 
   -- the completions from the choice on are the choice and those from the next on
   given_one : (given ++ c ∷ []) ++ at_or_after (find (comes_before c) (completions sizes (take depth c))) (completions sizes (take depth c)) ≡ given_by sizes verdict start judged
-  given_one = search (rules, append_assoc, member_then_rest, completions_ascend, in_completions, begins_taken)
+  given_one = search (rules, append_assoc, member_then_rest, completions_ascend, in_completions, begins_taken, giving)
 
   -- the next choice begins with the same `depth` positions
-  pub given_longer : (next d : List ℕ) → next_beside sizes c ≡ Some next → depth < length next → slice_get (completions sizes next) 0 ≡ Some d → IsGiving sizes verdict start depth d judged (given ++ c ∷ [])
+  given_longer : (next d : List ℕ) → next_beside sizes c ≡ Some next → depth < length next → slice_get (completions sizes next) 0 ≡ Some d → IsGiving sizes verdict start depth d judged (given ++ c ∷ [])
   given_longer next d e long first =
-      let beside = beside_is sizes c next here.whole.0 e in
-      let is : filled sizes next ≡ d = (let both : Some (filled sizes next) ≡ Some d = sym (first_completion_is sizes next some beside.admitted) ∙ first in cc) in
+      let beside = beside_is sizes c next giving.whole.0 e in
+      let is : filled sizes next ≡ d = (let both : Some (filled sizes next) ≡ Some d = sym (first_completion_is sizes next positive_sizes beside.admitted) ∙ first in cc) in
       let member = completion_whole sizes next d (got_at (completions sizes next) 0 d first) in
       let next_begins : starts_with nat_eq next (take depth c) ≡ true = beside_begins sizes c next depth e long in
       let d_begins : starts_with nat_eq d (take depth c) ≡ true = begins_through (take depth c) next d next_begins member.1 in
-      let length_is : length (take depth c) ≡ depth = length-take-le depth c here.depth_is in
+      let length_is : length (take depth c) ≡ depth = length-take-le depth c giving.depth_is in
       let same : take depth d ≡ take depth c = ap (λ n. take n d) (sym length_is) ∙ taken_is (take depth c) d d_begins in
       let found : find (comes_before c) (completions sizes (take depth c)) ≡ Some d =
       found_kept (comes_before c) (λ x. starts_with nat_eq x (take depth c)) (choices sizes) d
-      (next_choice_is sizes c some here.whole ∙ ap (option_map (filled sizes)) e ∙ ap Some is) d_begins in
+      (next_choice_is sizes c positive_sizes giving.whole ∙ ap (option_map (filled sizes)) e ∙ ap Some is) d_begins in
       record {
-        some = here.some;
-        last = here.last ∙ ap Some (sym same);
-        yes = ap verdict same ∙ here.yes;
+        some = giving.some;
+        last = giving.last ∙ ap Some (sym same);
+        yes = ap verdict same ∙ giving.yes;
         whole = member.0;
         depth_is = omega (arith, begins_length (take depth c) d d_begins, length_is);
         given_next = ap (λ x. (given ++ c ∷ []) ++ at_or_after (Some d) (completions sizes x)) same
             ∙ ap (λ o. (given ++ c ∷ []) ++ at_or_after o (completions sizes (take depth c))) (sym found) ∙ given_one;
       }
 
+  pub goes_on_giving : {next d : List ℕ} {other : Option (List ℕ)} {after : List (List ℕ)} → next_beside sizes c ≡ Some next → depth < length next → slice_get (completions sizes next) 0 ≡ Some d
+      → after ≡ given ++ c ∷ [] → IsWalk sizes verdict start stage d other judged after
+  goes_on_giving {next} {d} e long first after_is = rw (at, after_is) (at_giving depth walk.front (given_longer next d e long first))
+
   -- a later completion of these positions is not the choice itself
   other_choice : (x : List ℕ) → IsWhole sizes x → comes_before c x ≡ true → starts_with nat_eq x c ≡ false
-  other_choice x w less = search (rules, false_from_ne_true, begins_whole, not_itself)
+  other_choice x w less = search (rules, false_from_ne_true, begins_whole, not_itself, giving)
 
   given_all_of : find (comes_before c) (completions sizes (take depth c)) ≡ None → given ++ c ∷ [] ≡ given_by sizes verdict start judged
   given_all_of none = sym (append-nil (given ++ c ∷ [])) ∙ ap (λ o. (given ++ c ∷ []) ++ at_or_after o (completions sizes (take depth c))) (sym none) ∙ given_one
 
   upcoming : suc (length judged - 1) ≡ length judged
-  upcoming = omega (arith, here.some)
+  upcoming = omega (arith, giving.some)
 
   -- no other completion of these positions is left, but a prefix is
-  pub given_last : (next : List ℕ) → next_beside sizes c ≡ Some next → length next ≤ depth → IsWalk sizes verdict start Judging next None judged (given ++ c ∷ [])
-  given_last next e short =
+  pub given_last : {next : List ℕ} {after : List (List ℕ)} → next_beside sizes c ≡ Some next → length next ≤ depth → after ≡ given ++ c ∷ [] → IsWalk sizes verdict start Judging next None judged after
+  given_last {next} e short after_is =
       let y : List ℕ = take depth c in
       let from_front : next_beside sizes y ≡ Some next = beside_front sizes c next depth e short in
-      let r = closed_next sizes verdict start begun_giving.first begun_giving.begins begun_giving.whole some (length judged - 1) y here.last (ap is_open here.yes) next from_front in
-      let y_admits = (judged_is sizes verdict start begun_giving.first begun_giving.begins begun_giving.whole some (length judged - 1) y here.last).admitted in
-      let beside = beside_is sizes c next here.whole.0 e in
+      let r = closed_next sizes verdict start begun_giving.first begun_giving.begins begun_giving.whole positive_sizes (length judged - 1) y giving.last (ap is_open giving.yes) next from_front in
+      let y_admits = (judged_is sizes verdict start begun_giving.first begun_giving.begins begun_giving.whole positive_sizes (length judged - 1) y giving.last).admitted in
+      let beside = beside_is sizes c next giving.whole.0 e in
       let beside_y = beside_is sizes y next y_admits from_front in
       let none : find (comes_before c) (completions sizes y) ≡ None = none_found (comes_before c) (completions sizes y) (none_of beside beside_y) in
-      at_judging front (record {
+      rw after_is (at_judging walk.front (record {
         next = ap (slice_get (visited sizes verdict start)) (sym upcoming) ∙ r.0;
         along_is = sym (along_if next begun_giving.first (behind_false next begun_giving.first r.1)) ∙ ap (if_begins next) (sym begun_giving.begins);
         given_all = given_all_of none;
-      })
+      }))
     where
       none_of : IsBeside sizes c next → IsBeside sizes (take depth c) next → (x : List ℕ) → IsIn (completions sizes (take depth c)) x
           → comes_before c x ≡ false
@@ -252,36 +286,20 @@ module _ (sizes : List ℕ) (verdict : List ℕ → Verdict) (start : Start) (so
           false≢true (sym late ∙ before_beside (take depth c) next x beside_y.after beside_y.apart member.1))
 
   -- nothing is left
-  pub given_end : next_beside sizes c ≡ None → {current : List ℕ} {other : Option (List ℕ)} → IsWalk sizes verdict start Done current other judged (given ++ c ∷ [])
-  given_end e =
+  pub given_end : next_beside sizes c ≡ None → {current : List ℕ} {other : Option (List ℕ)} {after : List (List ℕ)} → after ≡ given ++ c ∷ [] → IsWalk sizes verdict start Done current other judged after
+  given_end e after_is =
       let y : List ℕ = take depth c in
-      let after = closed_none sizes verdict start begun_giving.first begun_giving.begins begun_giving.whole some (length judged - 1) y here.last (ap is_open here.yes) (none_of_front sizes c depth e) in
+      let after = closed_none sizes verdict start begun_giving.first begun_giving.begins begun_giving.whole positive_sizes (length judged - 1) y giving.last (ap is_open giving.yes) (none_of_front sizes c depth e) in
       let none : find (comes_before c) (completions sizes y) ≡ None = none_found (comes_before c) (completions sizes y) none_of in
-      at_done front (record {
+      rw after_is (at_done walk.front (record {
         all = omega (arith, past_length (visited sizes verdict start) (suc (length judged - 1)) after, upcoming);
         given_all = given_all_of none;
-      })
+      }))
     where
       none_of : (x : List ℕ) → IsIn (completions sizes (take depth c)) x → comes_before c x ≡ false
       none_of x i = false_from_ne_true (comes_before c x) (λ less.
           let member = completion_whole sizes (take depth c) x i in
-          false≢true (sym (other_choice x member.0 less) ∙ none_beside sizes c x e here.whole.0 member.0.0 less))
-
--- ---- The same current under other names.
-
-pub walk_at : {sizes : List ℕ} {verdict : List ℕ → Verdict} {start : Start} {along : Option (List ℕ)} {given given' : List (List ℕ)} (stage stage' : Stage) (current current' : List ℕ) (judged judged' : List (List ℕ))
-    → stage ≡ stage' → current ≡ current' → judged ≡ judged' → given ≡ given' → IsWalk sizes verdict start stage current along judged given → IsWalk sizes verdict start stage' current' along judged' given'
-walk_at {sizes} {verdict} {start} {along} {given} {given'} stage stage' current current' judged judged' s p j t h =
-    grind (arith, common_steps)
-
--- ---- An open prefix is shorter than a choice.
-
-pub open_room : (sizes : List ℕ) (truth : List ℕ → Bool) (verdict : List ℕ → Verdict) → IsJudge sizes truth verdict → (p : List ℕ) → admits sizes p ≡ true → verdict p ≡ Open → length p < length sizes
-open_room sizes truth verdict law p a e = grind (arith, common_steps, cases_lt, admits_at_most)
-
-pub along_longer : (o : Option (List ℕ)) (n m : ℕ) → n ≡ m → ((f : List ℕ) → o ≡ Some f → m < length f) → IfSome o (λ f. n < length f)
-along_longer None n m e h = tt
-along_longer (Some f) n m e h = omega (arith, h f refl)
+          false≢true (sym (other_choice x member.0 less) ∙ none_beside sizes c x e giving.whole.0 member.0.0 less))
 
 -- ---- Where the search begins.
 
@@ -295,20 +313,16 @@ first_visited sizes verdict start f some begins w = by sizes refl
     by [] e = ap (λ xs. slice_get xs 0) (filter_step (is_visited sizes verdict start) [] [] true judged)
     by (n ∷ ns) e = ap (λ xs. slice_get xs 0) (filter_step (is_visited sizes verdict start) [] (flat_map (λ p. map (λ prefix. p ∷ prefix) (all_prefixes ns)) (range_with_len 0 n)) true judged)
 
-begins_at : (sizes : List ℕ) (verdict : List ℕ → Verdict) (start : Start) → ArePositive sizes → (o : Option (List ℕ)) (stage : Stage) → first_of_start sizes start ≡ o → MatchOption o (stage ≡ Done) (λ f. stage ≡ Judging) → IsWalk sizes verdict start stage [] o [] []
-begins_at sizes verdict start some None stage begins is =
-    walk_at Done stage [] [] [] [] (sym is) refl refl refl (at_done refl (record { all = omega (arith, ap length (none_visited sizes verdict start begins)); given_all = refl }))
-begins_at sizes verdict start some (Some f) stage begins is =
-    walk_at Judging stage [] [] [] [] (sym is) refl refl refl (at_judging refl (record {
-      next = first_visited sizes verdict start f some begins (first_is_whole sizes start f begins);
-      along_is = ap (if_begins []) (sym begins);
+pub walk_begins : {sizes : List ℕ} {truth : List ℕ → Bool} {verdict : List ℕ → Verdict} (start : Start) → IsJudge sizes truth verdict → (o : Option (List ℕ)) {stage : Stage} {current : List ℕ} {judged given : List (List ℕ)}
+    → o ≡ first_of_start sizes start → MatchOption o (stage ≡ Done) (λ f. stage ≡ Judging) → current ≡ [] → judged ≡ [] → given ≡ [] → IsWalk sizes verdict start stage current o judged given
+walk_begins {sizes} {truth} {verdict} start law None begins is p j t =
+    rw (is, p, j, t) (at_done refl (record { all = omega (arith, ap length (none_visited sizes verdict start (sym begins))); given_all = refl }))
+walk_begins {sizes} {truth} {verdict} start law (Some f) begins is p j t =
+    rw (is, p, j, t) (at_judging refl (record {
+      next = first_visited sizes verdict start f (positive sizes law.limits.values) (sym begins) (first_is_whole sizes start f (sym begins));
+      along_is = ap (if_begins []) begins;
       given_all = refl;
     }))
-
-pub walk_begins : (sizes : List ℕ) (verdict : List ℕ → Verdict) (start : Start) → ArePositive sizes → (o : Option (List ℕ)) (stage : Stage) (current : List ℕ) (judged given : List (List ℕ))
-    → first_of_start sizes start ≡ o → MatchOption o (stage ≡ Done) (λ f. stage ≡ Judging) → current ≡ [] → judged ≡ [] → given ≡ [] → IsWalk sizes verdict start stage current o judged given
-walk_begins sizes verdict start some o stage current judged given begins is p j t =
-    walk_at stage stage [] current [] judged refl (sym p) (sym j) (sym t) (begins_at sizes verdict start some o stage begins is)
 
 pub nothing_given : (given all : List (List ℕ)) → given ≡ [] → drop (length given) all ≡ all
 nothing_given given all e = ap (λ l. drop (length l) all) e

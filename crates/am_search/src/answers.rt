@@ -284,13 +284,13 @@ fn choice_after<J: Judge>(judge: &J, choice: &Choice) -> Option<Choice>
     }
 }
 
-/// What is left of a budget after one more step, or `None` if there is no budget.
-fn one_less(left: Option<u64>) -> Option<u64>
+/// What is left of a budget or a limit after one more, or `None` if there is none.
+pub(crate) fn one_less(left: Option<u64>) -> Option<u64>
     requires { left ≢ Some 0 }
     ensures { left ≡ option_map (λ n. 1 + n) result }
 {
     match left {
-        Some(steps) => Some(steps - 1),
+        Some(count) => Some(count - 1),
         None => None,
     }
 }

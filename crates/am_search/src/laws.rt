@@ -162,6 +162,7 @@ pub fn a_page_that_does_not_stop_is_the_page_without_a_budget()
 /// prefix.
 ///
 /// So it has those before the first completion of the prefix.
+#[tactic(auto, using(crate::proofs::BudgetPages::stopped_before))]
 pub fn a_stopped_page_has_the_answers_before_its_prefix()
     ensures before { (ns prefix : List ℕ) (truth : List ℕ → Bool) (verdict : List ℕ → Verdict)
         (start : Start) (limit budget : Option ℕ) → IsJudge ns truth verdict

@@ -7,7 +7,7 @@ ghost use Rattle.am_search.specs.AnswersView.{answers_judge, answers_page, state
 ghost use Rattle.am_search.specs.PageText.{lines_text, page_text};
 ghost use Rattle.am_search.specs.BudgetPage.{trailer_at};
 
-use crate::answers::{Answers, State};
+use crate::answers::{Answers, State, one_less};
 use crate::judge::Judge;
 use crate::trailer::Trailer;
 use crate::trailer_text::write_trailer;
@@ -61,11 +61,8 @@ fn write_lines<J: Judge, W: Sink>(
             return Ok(Trailer::Next(last));
         }
         table.write_line(&choice, out)?;
-        // Without a limit no trailer names a choice.
-        if let Some(lines) = room {
-            last = choice;
-            room = Some(lines - 1);
-        }
+        last = choice;
+        room = one_less(room);
     }
     Ok(trailer_of(answers.state()))
 }

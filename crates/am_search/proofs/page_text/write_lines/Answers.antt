@@ -1,4 +1,4 @@
-use Rattle.std.proofs.Common.{◌≡◌, ◌≢◌, Some, IfSome, ap, refl, sym, subst, ◌∙◌}
+use Rattle.std.proofs.Common.{◌≡◌, ◌≢◌, Some, ap, refl, sym, subst, ◌∙◌}
 use Rattle.std.proofs.lemmas.Result.{IfOk-from_err}
 use Rattle.std.specs.List.{flat_map}
 use Rattle.am_universe.specs.Universe.{sizes}
@@ -8,7 +8,7 @@ use Rattle.am_universe.proofs.Writing.{◌⟩◌, ends, fails, wrote_then, wrote
 use Rattle.am_search.specs.AnswersView.{answers_stop, state_at}
 use Rattle.am_search.specs.BudgetPage.{trailer_at}
 use Rattle.am_search.proofs.WalkBudgets.{same_stop}
-use Rattle.am_search.proofs.PageLines.{begun, all_written, full, through, one_more, no_room, some_room, one_less, less_by_one, no_limit, fewer, lines_more, lines_through}
+use Rattle.am_search.proofs.PageLines.{begun, all_written, full, through, one_more, no_room, some_room, fewer, lines_more, lines_through}
 use Rattle.am_search.proofs.page_text.write_lines.Goals as goal
 
 pub loop-choice-init : goal.loop-choice-init
@@ -40,29 +40,17 @@ returns-in_err-write_line-clause-written g c =
     writes_as (lines_through f c.loop-choice.invariant.0.done c.in-Some.choice page.0 ∙ ap (flat_map f) (sym page.1))
     (c.loop-choice.invariant.0.written ⟩ fails _ c.from_residual.ensures (writes_as (ap (λ u. line u c.in-Some.choice) c.loop-choice.invariant.2) c.in_err-write_line.ensures.written))
 
-pub overflow_sub-room : goal.overflow_sub-room
-overflow_sub-room g c = one_less _ _ c.in-Some-room.is (some_room _ c.if-eq.ensures)
-
-pub loop-choice-smaller-in-Some-room : goal.loop-choice-smaller-in-Some-room
-loop-choice-smaller-in-Some-room g c = fewer c.in-Some.ensures.first
-
-pub loop-choice-preserved-in-Some-room-whole : goal.loop-choice-preserved-in-Some-room-whole
-loop-choice-preserved-in-Some-room-whole g c =
-    let so_far = c.loop-choice.invariant.0 in
-    let less = less_by_one _ (one_less _ _ c.in-Some-room.is (some_room _ c.if-eq.ensures)) in
-    let written = wrote_as (lines_more (line c.args.table.now) so_far.done c.in-Some.choice) (wrote_then so_far.written (wrote_as (ap (λ u. line u c.in-Some.choice) c.loop-choice.invariant.2) c.in_ok-write_line.ensures.written.ok)) in
-    let more = one_more so_far _ _ _ c.in-Some.choice c.in-Some.ensures.first (c.in-Some-room.is ∙ less) refl written in
-    (more, c.in-Some.ensures.judge ∙ c.loop-choice.invariant.1, c.in_ok-write_line.ensures.same ∙ c.loop-choice.invariant.2, same_stop c.next.new.self c.loop-choice.answers c.in-Some.ensures.judge c.in-Some.ensures.start c.in-Some.ensures.budget ∙ c.loop-choice.invariant.3)
+pub one_less-room-requires : goal.one_less-room-requires
+one_less-room-requires g c = some_room _ c.if-eq.ensures
 
 pub loop-choice-smaller : goal.loop-choice-smaller
 loop-choice-smaller g c = fewer c.in-Some.ensures.first
 
-pub loop-choice-preserved-whole : goal.loop-choice-preserved-whole
-loop-choice-preserved-whole g c =
+pub loop-choice-preserved : goal.loop-choice-preserved
+loop-choice-preserved g c =
     let so_far = c.loop-choice.invariant.0 in
     let written = wrote_as (lines_more (line c.args.table.now) so_far.done c.in-Some.choice) (wrote_then so_far.written (wrote_as (ap (λ u. line u c.in-Some.choice) c.loop-choice.invariant.2) c.in_ok-write_line.ensures.written.ok)) in
-    let none = c.in_default-room.is in
-    let more = one_more so_far _ _ _ c.loop-choice.last c.in-Some.ensures.first (no_limit _ none) (subst (λ r. IfSome r (λ _. c.loop-choice.last ≡ c.in-Some.choice)) (sym none) tt) written in
+    let more = one_more so_far _ _ _ c.in-Some.ensures.first c.one_less-room.ensures written in
     (more, c.in-Some.ensures.judge ∙ c.loop-choice.invariant.1, c.in_ok-write_line.ensures.same ∙ c.loop-choice.invariant.2, same_stop c.next.new.self c.loop-choice.answers c.in-Some.ensures.judge c.in-Some.ensures.start c.in-Some.ensures.budget ∙ c.loop-choice.invariant.3)
 
 pub returns-clause-trailer : goal.returns-clause-trailer

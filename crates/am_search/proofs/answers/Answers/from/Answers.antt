@@ -1,6 +1,5 @@
-use Rattle.std.proofs.Common.{sym, arith}
+use Rattle.std.proofs.Common.{arith}
 use Rattle.std.proofs.lemmas.Grind.{common_steps}
-use Rattle.am_search.proofs.Odometer.{positive}
 use Rattle.am_search.proofs.VisitsGive.{visited_give}
 use Rattle.am_search.proofs.WalkSteps.{walk_begins, nothing_given}
 use Rattle.am_search.proofs.WalkBudgets.{left_first}
@@ -8,11 +7,8 @@ use Rattle.am_search.proofs.answers.Answers.from.Goals as goal
 
 pub invariant_of-result : goal.invariant_of-result
 invariant_of-result g c =
-    let judge = c.args.judge.now in
-    let ns = g.J.Judge.sizes judge in
     record {
-      walk = walk_begins ns (g.J.Judge.verdict judge) c.args.start (positive ns (g.met.J.Judge.laws judge).limits.values) _ _ _ _ _
-          (sym c.first_choice-along.ensures) c.first_stage-stage.ensures c.empty.ensures.no_position c.none.ensures.nothing c.new.ensures.nothing;
+      walk = walk_begins c.args.start (g.met.J.Judge.laws c.args.judge.now) _ c.first_choice-along.ensures c.first_stage-stage.ensures c.empty.ensures.no_position c.none.ensures.nothing c.new.ensures.nothing;
       steps = left_first c.args.steps _ c.none.ensures.nothing;
       ended = λ e. cc;
       stopped = λ prefix e. cc;
