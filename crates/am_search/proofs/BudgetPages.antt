@@ -26,7 +26,7 @@ use Rattle.am_search.proofs.VisitSteps.{past_length}
 use Rattle.am_search.proofs.VisitsGive.{visited_give}
 use Rattle.am_search.proofs.WalkSteps.{HasBegun, begun_at}
 use Rattle.am_search.proofs.PageLines.{all_page, page_of_part, page_of_all}
-use Rattle.am_search.proofs.Pages.{choices_at, filter_within, part, whole, kind_of, page_rest}
+use Rattle.am_search.proofs.Pages.{choices_at, filter_within, page_rest}
 
 -- what does not come before a later choice does not come before an earlier one
 pub stays_from : (f p c : List ℕ) → comes_before f p ≡ true → not (comes_before c p) ≡ true → not (comes_before c f) ≡ true
@@ -85,10 +85,7 @@ module _ (sizes : List ℕ) (verdict : List ℕ → Verdict) (start : Start) (k 
       let less = before_at (visited sizes verdict start) k p q (visited_sorted sizes verdict start) at_k i in
       let given = given_at_is sizes verdict start q c j in
       let here = visited_is p (got_at (visited sizes verdict start) k p at_k) in
-      elim (cases_Bool (starts_with nat_eq p q)) [
-        | inl b ↦ absurd (false≢true (sym given.closed ∙ front_passes (λ front. is_open (verdict front)) q p here.fronts b less))
-        | inr other ↦ before_beside q p c less other given.begins
-      ]
+      grind (arith, common_steps, cases_Bool, false≢true, front_passes, before_beside)
 
   given_late : (q c : List ℕ) → IsIn (drop k (visited sizes verdict start)) q → IsIn (given_at sizes verdict start q) c → comes_before c p ≡ false
   given_late q c i j =
@@ -109,23 +106,10 @@ module _ (sizes : List ℕ) (verdict : List ℕ → Verdict) (start : Start) (k 
 
     -- the answers before the prefix were given, and the others are left
     pub given_before : given_by sizes verdict start (take k (visited sizes verdict start)) ≡ filter (λ c. comes_before c p) (answers_from sizes truth start)
-    given_before =
-        let early : List (List ℕ) = given_by sizes verdict start (take k (visited sizes verdict start)) in
-        let late : List (List ℕ) = given_by sizes verdict start (drop k (visited sizes verdict start)) in
-        sym (append-nil early)
-        ∙ ap (λ l. early ++ l) (sym (none_joined (λ c. comes_before c p) (given_at sizes verdict start) (drop k (visited sizes verdict start)) given_late))
-        ∙ ap (λ l. l ++ filter (λ c. comes_before c p) late) (sym (all_joined (λ c. comes_before c p) (given_at sizes verdict start) (take k (visited sizes verdict start)) given_early))
-        ∙ sym (filter-append (λ c. comes_before c p) early late)
-        ∙ ap (filter (λ c. comes_before c p)) (sym answers_cut)
+    given_before = search (rules, append-nil, none_joined, given_late, all_joined, given_early, filter-append, answers_cut)
 
     left_from : given_by sizes verdict start (drop k (visited sizes verdict start)) ≡ filter (λ c. not (comes_before c p)) (answers_from sizes truth start)
-    left_from =
-        let early : List (List ℕ) = given_by sizes verdict start (take k (visited sizes verdict start)) in
-        let late : List (List ℕ) = given_by sizes verdict start (drop k (visited sizes verdict start)) in
-        ap (λ l. l ++ late) (sym (none_joined (λ c. not (comes_before c p)) (given_at sizes verdict start) (take k (visited sizes verdict start)) (λ q c i j. ap not (given_early q c i j))))
-        ∙ ap (λ l. filter (λ c. not (comes_before c p)) early ++ l) (sym (all_joined (λ c. not (comes_before c p)) (given_at sizes verdict start) (drop k (visited sizes verdict start)) (λ q c i j. ap not (given_late q c i j))))
-        ∙ sym (filter-append (λ c. not (comes_before c p)) early late)
-        ∙ ap (filter (λ c. not (comes_before c p))) (sym answers_cut)
+    left_from = search (rules, none_joined, given_early, all_joined, given_late, filter-append, answers_cut)
 
     -- if the prefix comes after the first choice, the answers left are those from the prefix on
     pub left_at : comes_before begun.first p ≡ true → given_by sizes verdict start (drop k (visited sizes verdict start)) ≡ answers_from sizes truth (At p)
@@ -256,10 +240,6 @@ module _ (sizes : List ℕ) (truth : List ℕ → Bool) (verdict : List ℕ → 
       by_stop None e = without (same_unstopped limit budget e)
       by_stop (Some p) e = by_limit p e limit refl some
 
--- a page without a budget does not stop
-pub never_stopped : (sizes : List ℕ) (truth : List ℕ → Bool) (start : Start) (limit : Option ℕ) (p : List ℕ) → IfSome limit (λ n. 0 < n) → (page_from sizes truth start limit).trailer ≡ Stopped p → ⊥
-never_stopped sizes truth start limit p some e = grind (arith, common_steps, kind_of, part, whole)
-
 -- ---- Laws of pages under a budget.
 
 module _ (sizes : List ℕ) (truth : List ℕ → Bool) (verdict : List ℕ → Verdict) (start : Start) (limit budget : Option ℕ) (law : IsJudge sizes truth verdict) (some : IfSome limit (λ n. 0 < n)) where
@@ -279,7 +259,7 @@ module _ (sizes : List ℕ) (truth : List ℕ → Bool) (verdict : List ℕ → 
   -- a page that stops at a prefix has the answers before that prefix
   pub stopped_before : (p : List ℕ) → (page_under sizes verdict start limit budget).trailer ≡ Stopped p
       → (page_under sizes verdict start limit budget).choices ≡ filter (λ c. comes_before c p) (answers_from sizes truth start)
-  stopped_before p e = grind (arith, common_steps, under_kind, never_stopped, given_before)
+  stopped_before p e = grind (arith, common_steps, under_kind, given_before)
 
   module _ (enough : IsEnough sizes budget) where
     pub enough_steps : (k : ℕ) → budget ≡ Some k → length sizes < k

@@ -1,5 +1,5 @@
 -- The order of choices, and lists of choices that ascend in it.
-use Rattle.std.proofs.Common.{◌≡◌, ◌⊎◌, ℕ, zero, suc, ◌-◌, ◌<◌, Bool, true, false, not, cond, ◌&&◌, List, [], ◌∷◌, length, take, drop, get_or, Option, Some, None, IfSome, slice_get, ap, sym, subst, ◌∙◌, refl, inl, inr, arith, rules}
+use Rattle.std.proofs.Common.{◌≡◌, ℕ, zero, suc, ◌-◌, ◌<◌, Bool, true, false, not, cond, ◌&&◌, List, [], ◌∷◌, length, take, drop, get_or, Option, Some, None, IfSome, slice_get, ap, sym, subst, ◌∙◌, refl, inl, inr, arith, rules}
 use Rattle.std.specs.List.{filter, find}
 use Rattle.std.specs.List.Sorted.{IsStrictlySortedBy}
 use Rattle.std.specs.Ordering.{nat_cmp, is_lt, ordering_reverse}
@@ -30,11 +30,8 @@ not_itself c = not_both (slice_cmp nat_cmp c c) (nat_list_cmp_total.antisymm c c
 pub before_trans : (a b c : List ℕ) → comes_before a b ≡ true → comes_before b c ≡ true → comes_before a c ≡ true
 before_trans a b c h k = ap is_lt (nat_list_cmp_total.trans a b c (is_less _ h) (is_less _ k))
 
-reversed : (o : Ordering) → o ≡ Less → is_lt (ordering_reverse o) ≡ false
-reversed o e = ap (λ p. is_lt (ordering_reverse p)) e
-
 pub not_back : (a b : List ℕ) → comes_before a b ≡ true → comes_before b a ≡ false
-not_back a b h = ap is_lt (nat_list_cmp_total.antisymm b a) ∙ reversed (slice_cmp nat_cmp a b) (is_less _ h)
+not_back a b h = ap is_lt (nat_list_cmp_total.antisymm b a) ∙ ap (λ o. is_lt (ordering_reverse o)) (is_less _ h)
 
 -- ---- Filters.
 
@@ -63,15 +60,9 @@ filters_swapped {X} f g xs =
     let same : (x : X) → (g x && f x) ≡ (f x && g x) = λ x. grind (arith, common_steps) in
     twice g f xs ∙ filter_same _ _ xs (λ x i. same x) ∙ sym (twice f g xs)
 
--- a filter keeps only members that pass the test
-in_cond : {X : Type 0} (test : X → Bool) (x y : X) (l : List X) (b : Bool) → test x ≡ b → IsIn (cond b (x ∷ l) l) y → ((x ≡ y) × (test y ≡ true)) ⊎ IsIn l y
-in_cond test x y l true e (inl s) = inl (s, sym (ap test s) ∙ e)
-in_cond test x y l true e (inr i) = inr i
-in_cond test x y l false e i = inr i
-
 pub in_filter : {X : Type 0} (test : X → Bool) (xs : List X) (y : X) → IsIn (filter test xs) y → IsIn xs y × (test y ≡ true)
 in_filter test [] y h = absurd h
-in_filter test (x ∷ xs) y h = grind (arith, common_steps, in_cond, in_filter test xs y)
+in_filter test (x ∷ xs) y h = grind (arith, common_steps, in_filter test xs y)
 
 -- a filter keeps all members that pass the test
 pub into_filter : {X : Type 0} (test : X → Bool) (xs : List X) (x : X) → IsIn xs x → test x ≡ true → IsIn (filter test xs) x
@@ -142,8 +133,8 @@ member_then_rest xs c s i = from_member xs c s i ∙ ap (λ l. c ∷ l) (sym (fr
 
 -- ---- What is left behind so many of them.
 
-in_at : (ys : List (List ℕ)) (k : ℕ) → k < length ys → IsIn ys (get_or ys k [])
-in_at ys k h = IsIn-from_Contains ys (get_or ys k []) (Contains-get_or ys k [] h)
+pub in_at : {X : Type 0} (ys : List X) (k : ℕ) (d : X) → k < length ys → IsIn ys (get_or ys k d)
+in_at ys k d h = IsIn-from_Contains ys (get_or ys k d) (Contains-get_or ys k d h)
 
 after_nth : (xs : List (List ℕ)) (n : ℕ) → Ascends xs → n < length xs → filter (comes_before (get_or xs n [])) xs ≡ drop (suc n) xs
 after_nth [] n s h = absurd (omega arith)
@@ -168,4 +159,4 @@ up_to_taken xs n s some h =
     up_to_nth xs (n - 1) s (omega arith) ∙ ap (λ k. take k xs) same
 
 pub taken_last : (xs : List (List ℕ)) (n : ℕ) → 0 < n → n < length xs → IsIn xs (get_or xs (n - 1) [])
-taken_last xs n some h = in_at xs (n - 1) (omega arith)
+taken_last xs n some h = in_at xs (n - 1) [] (omega arith)

@@ -1,5 +1,5 @@
 -- The prefix beside another: which one it is among all that are admitted.
-use Rattle.std.proofs.Common.{◌≡◌, ◌⊎◌, ℕ, zero, suc, ◌+◌, ◌<◌, ◌≤◌, Bool, true, false, cond, nat_eq, nat_lt, List, [], ◌∷◌, length, take, Some, None, ap, sym, subst, ◌∙◌, refl, inl, inr, arith, rules}
+use Rattle.std.proofs.Common.{◌≡◌, ◌⊎◌, ℕ, zero, suc, ◌+◌, ◌<◌, ◌≤◌, Bool, true, false, nat_eq, nat_lt, List, [], ◌∷◌, length, take, Some, None, sym, subst, refl, inl, inr, arith, rules}
 use Rattle.std.specs.List.{starts_with, list_all}
 use Rattle.std.proofs.lemmas.Bool.{false≢true, and_parts, and_from}
 use Rattle.std.proofs.lemmas.Bool.Decides.{nat_tests}
@@ -24,13 +24,9 @@ pub record IsFirstBeside (size : ℕ) (sizes prefix : List ℕ) (p : ℕ) (next 
   pub below : p + 1 < size
   pub is : next ≡ (p + 1) ∷ []
 
-by_less : (size p : ℕ) (next : List ℕ) (b : Bool) → nat_lt (p + 1) size ≡ b → cond b (Some ((p + 1) ∷ [])) None ≡ Some next → (p + 1 < size) × (next ≡ (p + 1) ∷ [])
-by_less size p next true less e = (grind (arith, nat_tests, less), cc)
-by_less size p next false less e = cc
-
 pub beside_parts : (size : ℕ) (sizes prefix : List ℕ) (p : ℕ) (next : List ℕ) → next_beside (size ∷ sizes) (p ∷ prefix) ≡ Some next
     → IsRestBeside sizes prefix p next ⊎ IsFirstBeside size sizes prefix p next
-beside_parts size sizes prefix p next e = grind (arith, common_steps, by_less)
+beside_parts size sizes prefix p next e = grind (arith, common_steps)
 
 none_parts : (size : ℕ) (sizes prefix : List ℕ) (p : ℕ) → next_beside (size ∷ sizes) (p ∷ prefix) ≡ None → (next_beside sizes prefix ≡ None) × (size ≤ p + 1)
 none_parts size sizes prefix p e = grind (arith, common_steps, nat_tests)
@@ -56,23 +52,8 @@ pub record IsBeside (sizes prefix next : List ℕ) : Type 0 where
   pub fronts : (test : List ℕ → Bool) → list_all test (proper_fronts prefix) ≡ true → list_all test (proper_fronts next) ≡ true
 
 behind_rest : (size : ℕ) (sizes prefix rest : List ℕ) (p : ℕ) → nat_lt p size ≡ true → IsBeside sizes prefix rest → IsBeside (size ∷ sizes) (p ∷ prefix) (p ∷ rest)
-behind_rest size sizes prefix rest p below h = record {
-  admitted = and_from (nat_lt p size) (admits sizes rest) below h.admitted;
-  after = before_same p prefix rest ∙ h.after;
-  apart = begins_same p rest prefix ∙ h.apart;
-  least = least;
-  fronts = λ test all. let parts = fronts_parts test p prefix all in fronts_from test p rest parts.0 (h.fronts (λ front. test (p ∷ front)) parts.1);
-}
-  where
-    least : (x : List ℕ) → admits (size ∷ sizes) x ≡ true → comes_before (p ∷ prefix) x ≡ true → starts_with nat_eq x (p ∷ prefix) ≡ false → comes_before x (p ∷ rest) ≡ false
-    least [] a less other = absurd (false≢true less)
-    least (q ∷ x) a less other = elim (before_parts p q prefix x less) [
-      | inl l ↦ not_back (p ∷ rest) (q ∷ x) (before_less p q rest x l)
-      | inr same ↦
-          ap (λ r. comes_before (q ∷ x) (r ∷ rest)) same.0 ∙ before_same q x rest
-          ∙ h.least x (and_parts (nat_lt q size) (admits sizes x) a).1 same.1
-          (sym (begins_same p x prefix) ∙ ap (λ r. starts_with nat_eq (r ∷ x) (p ∷ prefix)) same.0 ∙ other)
-    ]
+behind_rest size sizes prefix rest p below h =
+    grind (arith, common_steps, and_from, before_same, begins_same, fronts_parts, fronts_from, false≢true, before_parts, not_back, before_less, and_parts)
 
 behind_last : (size : ℕ) (sizes prefix : List ℕ) (p : ℕ) → admits sizes prefix ≡ true → next_beside sizes prefix ≡ None → p + 1 < size → IsBeside (size ∷ sizes) (p ∷ prefix) ((p + 1) ∷ [])
 behind_last size sizes prefix p a none below =

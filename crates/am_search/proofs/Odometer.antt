@@ -15,11 +15,12 @@ use borrow.Author.Tests.{le-ltb}
 use Rattle.am_universe.specs.Choice.{choices, admits, IsWhole}
 use Rattle.am_universe.specs.declared.limits.TheConstants.{MAX_VALUES}
 use Rattle.am_universe.specs.Completions.{completions}
+use Rattle.am_universe.proofs.ListLemmas.{AllByRecursion-at}
 use Rattle.am_universe.proofs.ChoiceLemmas.{behind, same_first, less_first}
 use Rattle.am_universe.proofs.CompletionLemmas.{below, completions_are_below}
 use Rattle.am_search.specs.Start.{comes_before}
 use Rattle.am_search.specs.NextPrefix.{next_beside}
-use Rattle.am_search.proofs.ChoiceOrder.{none_found, not_itself, not_back}
+use Rattle.am_search.proofs.ChoiceOrder.{in_at, none_found, not_itself, not_back}
 
 -- ---- A prefix and the position 0 of each label left.
 
@@ -71,16 +72,11 @@ first_completion_is sizes prefix some a = ap (λ cs. slice_get cs 0) (completion
 
 -- ---- The next prefix, not longer, that does not begin with a prefix: the last position that can be greater is.
 
-beside_by : (b : Bool) (r : ℕ) (more : List ℕ) (less : Option (List ℕ)) (other : Option (List ℕ))
-    → option_or (option_map (λ c. r ∷ c) (cond b (Some more) less)) other ≡ cond b (Some (r ∷ more)) (option_or (option_map (λ c. r ∷ c) less) other)
-beside_by true r more less other = refl
-beside_by false r more less other = refl
-
 pub beside_last : (sizes prefix : List ℕ) (p : ℕ) → length prefix < length sizes
     → next_beside sizes (prefix ++ p ∷ []) ≡ cond (nat_lt (p + 1) (slice_index sizes (length prefix))) (Some (prefix ++ (p + 1) ∷ [])) (next_beside sizes prefix)
 beside_last [] prefix p h = absurd (omega arith)
 beside_last (size ∷ sizes) [] p h = refl
-beside_last (size ∷ sizes) (q ∷ prefix) p h = grind (arith, common_steps, beside_last sizes prefix p, beside_by)
+beside_last (size ∷ sizes) (q ∷ prefix) p h = grind (arith, common_steps, beside_last sizes prefix p)
 
 -- ---- The first choice after a whole one.
 
@@ -143,14 +139,7 @@ positive [] h = tt
 positive (size ∷ sizes) h = (h.0.0, positive sizes h.1)
 
 pub positive_at : (sizes : List ℕ) (i : ℕ) → ArePositive sizes → i < length sizes → 0 < slice_index sizes i
-positive_at [] i h k = absurd (omega arith)
-positive_at (size ∷ sizes) zero h k = h.0
-positive_at (size ∷ sizes) (suc i) h k = positive_at sizes i h.1 (omega arith)
-
-pub limited_at : (sizes : List ℕ) (i : ℕ) → AllByRecursion (λ size. (0 < size) × (size ≤ MAX_VALUES)) sizes → i < length sizes → slice_index sizes i ≤ MAX_VALUES
-limited_at [] i h k = absurd (omega arith)
-limited_at (size ∷ sizes) zero h k = h.0.1
-limited_at (size ∷ sizes) (suc i) h k = limited_at sizes i h.1 (omega arith)
+positive_at sizes i h k = AllByRecursion-at (λ size. 0 < size) sizes (slice_index sizes i) h (in_at sizes i 0 k)
 
 pub admits_at_most : (ns c : List ℕ) → admits ns c ≡ true → length c ≤ length ns
 admits_at_most ns [] a = omega arith

@@ -18,7 +18,7 @@ use Rattle.am_search.specs.declared.trailer.Trailer.{Trailer}
 use Rattle.am_search.specs.declared.trailer.Trailer.TheVariants.{End, Next, Stopped}
 use Rattle.am_search.specs.Judge.{AreSizes}
 use Rattle.am_search.specs.Start.{comes_before, IsStart, first_of_start, at_or_after, choices_from, answers_from}
-use Rattle.am_search.specs.Page.{AnswerPage, page_ending, page_from, rest_after, IsPage, IsChain, start_after, all_choices_of}
+use Rattle.am_search.specs.Page.{AnswerPage, page_ending, page_from, rest_after, IsPage, IsChainOf, IsChain, start_after, all_choices_of}
 use Rattle.am_search.specs.Token.{token_text}
 use Rattle.am_search.specs.TrailerText.{trailer_text}
 use Rattle.am_search.proofs.ChoiceOrder.{Ascends, before_trans, not_back, filter_all, filter_same, in_filter, into_filter, filters_swapped, from_found, after_taken, up_to_taken, taken_last}
@@ -105,9 +105,6 @@ pub after_answer : (ns c : List ℕ) (truth : List ℕ → Bool) (start : Start)
     → filter (comes_before c) (answers_from ns truth start) ≡ answers_from ns truth (After c)
 after_answer ns c truth start i = grind (arith, common_steps, filters_swapped, after_from, in_filter, choices_after)
 
-answer_whole : (ns c : List ℕ) (truth : List ℕ → Bool) (start : Start) → IsIn (answers_from ns truth start) c → IsWhole ns c
-answer_whole ns c truth start i = from_whole ns c start (in_filter truth (choices_from ns start) c i).0
-
 -- ---- Pages.
 
 -- a page of a list is cut by its limit, or it has the whole list
@@ -158,7 +155,7 @@ next_is_start ns c truth start page h e = elim (page_kind ns truth start page h)
   | part d n p ↦
       let xs : List (List ℕ) = answers_from ns truth start in
       let same : d ≡ c = cc (p.trailer, e) in
-      answer_whole ns c truth start (subst (IsIn xs) (sym p.last ∙ same) (taken_last xs n p.some p.more))
+      from_whole ns c start (in_filter truth (choices_from ns start) c (subst (IsIn xs) (sym p.last ∙ same) (taken_last xs n p.some p.more))).0
   | whole w ↦ cc (w.trailer, e)
 ]
 
@@ -213,13 +210,18 @@ trailer_end fingerprint (Stopped prefix) e = absurd (cc)
 
 -- ---- Pages in a row.
 
-pub chain_joined : (ns : List ℕ) (truth : List ℕ → Bool) (start : Start) (pages : List AnswerPage) → IsChain ns truth start pages → all_choices_of pages ≡ answers_from ns truth start
-chain_joined ns truth start [] h = absurd h
-chain_joined ns truth start (page ∷ pages) h =
-    ap (λ l. page.choices ++ l) (by page.trailer h.1 (λ next k. chain_joined ns truth next pages k)) ∙ sym (page_rest ns truth start page h.0)
+-- if each page and what its trailer leaves are the answers from its start on, the pages are too
+pub pages_joined : (ns : List ℕ) (truth : List ℕ → Bool) (IsPageFrom : Start → AnswerPage → Type 0) → ((start : Start) (page : AnswerPage) → IsPageFrom start page → answers_from ns truth start ≡ page.choices ++ rest_after ns truth page.trailer)
+    → (start : Start) (pages : List AnswerPage) → IsChainOf IsPageFrom start pages → all_choices_of pages ≡ answers_from ns truth start
+pages_joined ns truth IsPageFrom rest start [] h = absurd h
+pages_joined ns truth IsPageFrom rest start (page ∷ pages) h =
+    ap (λ l. page.choices ++ l) (by page.trailer h.1 (λ next k. pages_joined ns truth IsPageFrom rest next pages k)) ∙ sym (rest start page h.0)
   where
-    by : (t : Trailer) → MatchOption (start_after t) (pages ≡ []) (λ next. IsChain ns truth next pages) → ((next : Start) → IsChain ns truth next pages → all_choices_of pages ≡ answers_from ns truth next)
+    by : (t : Trailer) → MatchOption (start_after t) (pages ≡ []) (λ next. IsChainOf IsPageFrom next pages) → ((next : Start) → IsChainOf IsPageFrom next pages → all_choices_of pages ≡ answers_from ns truth next)
         → all_choices_of pages ≡ rest_after ns truth t
     by End e more = ap all_choices_of e
     by (Next c) k more = more (After c) k
     by (Stopped prefix) k more = more (At prefix) k
+
+pub chain_joined : (ns : List ℕ) (truth : List ℕ → Bool) (start : Start) (pages : List AnswerPage) → IsChain ns truth start pages → all_choices_of pages ≡ answers_from ns truth start
+chain_joined ns truth = pages_joined ns truth (IsPage ns truth) (page_rest ns truth)

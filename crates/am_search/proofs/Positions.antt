@@ -1,7 +1,7 @@
 -- Positions in decimal, and positions joined by full stops.
 use Rattle.std.proofs.Common.{◌≡◌, ℕ, zero, suc, ◌+◌, ◌<◌, ◌^◌, false, List, [], ◌∷◌, ◌++◌, length, map, take, drop, get_or, Result, Ok, Err, refl, sym, ap, ◌∙◌, arith, append_assoc, append-nil, add-one}
 use Rattle.std.specs.Prelude.{◌==◌}
-use Rattle.std.specs.List.{AllByRecursion, slice_split, join_with_byte, All}
+use Rattle.std.specs.List.{AllByRecursion, slice_split, join_with_byte, flat_map, All}
 use Rattle.std.specs.Fmt.{decimal}
 use Rattle.std.specs.Result.{OkIff}
 use Rattle.std.specs.Str.Parse.{AllDigits, digits_value, ParsesUnsigned}
@@ -9,7 +9,7 @@ use Rattle.std.proofs.lemmas.Fmt.{decimal_is_IsNumeral}
 use Rattle.std.proofs.lemmas.Str.Parse.{digit_from_value, parse_digits, numerals_by_value}
 use Rattle.std.proofs.lemmas.List.{take_more, drop_more, take-append-drop}
 use Rattle.std.proofs.lemmas.List.Splits.{slice_split_none, slice_split_at}
-use Rattle.std.proofs.lemmas.Grind.{common_steps}
+use Rattle.std.proofs.lemmas.Grind.{flat_map-append, common_steps}
 use borrow.Author.Tests.{ne_eqb}
 
 -- ---- One number.
@@ -79,20 +79,15 @@ separator (p ∷ ps) = 46 ∷ []
 
 -- the numbers that follow another, each after a full stop
 abbrev following : List ℕ → List ℕ
-following [] = []
-following (p ∷ ps) = 46 ∷ (decimal p ++ following ps)
+following = flat_map (λ p. 46 ∷ decimal p)
 
 joined-cons : (p : ℕ) (ps : List ℕ) → joined (p ∷ ps) ≡ decimal p ++ following ps
 joined-cons p [] = sym (append-nil (decimal p))
 joined-cons p (q ∷ qs) = ap (λ t. decimal p ++ (46 ∷ t)) (joined-cons q qs)
 
-following-append : (ps qs : List ℕ) → following (ps ++ qs) ≡ following ps ++ following qs
-following-append [] qs = refl
-following-append (p ∷ ps) qs = grind (arith, common_steps, following-append ps qs, append_assoc)
-
 joined_among : (ps : List ℕ) (p : ℕ) (qs : List ℕ) → joined (ps ++ p ∷ qs) ≡ joined ps ++ ((separator ps ++ decimal p) ++ following qs)
 joined_among [] p qs = joined-cons p qs
-joined_among (o ∷ ps) p qs = grind (arith, common_steps, joined-cons, following-append, append_assoc)
+joined_among (o ∷ ps) p qs = grind (arith, common_steps, joined-cons, flat_map-append, append_assoc)
 
 split_at : (c : List ℕ) (i p : ℕ) → i < length c → p ≡ get_or c i 0 → c ≡ take i c ++ p ∷ drop (i + 1) c
 split_at c i p h is = grind (arith, common_steps, take-append-drop, drop_more)

@@ -119,11 +119,6 @@ begins_one (s ∷ prefix) rest (r ∷ f) p q h less =
 
 -- ---- The positions at the front of a choice.
 
-pub begins_taken : (n : ℕ) (c : List ℕ) → starts_with nat_eq c (take n c) ≡ true
-begins_taken zero c = refl
-begins_taken (suc n) [] = refl
-begins_taken (suc n) (p ∷ c) = begins_same p c (take n c) ∙ begins_taken n c
-
 pub taken_is : (prefix c : List ℕ) → starts_with nat_eq c prefix ≡ true → take (length prefix) c ≡ prefix
 taken_is [] c h = refl
 taken_is (p ∷ prefix) [] h = absurd (false≢true h)

@@ -13,7 +13,7 @@ use Rattle.am_search.specs.declared.verdict.Verdict.{Verdict}
 use Rattle.am_search.specs.Judge.{AreSizes, IsJudge}
 use Rattle.am_search.specs.Start.{comes_before, IsStart, first_of_start, at_or_after, choices_from, answers_from}
 use Rattle.am_search.specs.Visits.{visited}
-use Rattle.am_search.specs.Page.{AnswerPage, page_from, rest_after, IsPage, start_after, answers_from_any, all_choices_of}
+use Rattle.am_search.specs.Page.{AnswerPage, page_from, rest_after, IsPage, start_after, all_choices_of}
 use Rattle.am_search.specs.BudgetPage.{page_under, IsSearchPage, IsSearchChain, BeginsLater}
 use Rattle.am_search.proofs.ChoiceOrder.{got_at, filter_step, in_filter, taken_last, not_itself, before_trans}
 use Rattle.am_search.proofs.Odometer.{ArePositive, positive, filled, first_completion_is}
@@ -21,7 +21,7 @@ use Rattle.am_search.proofs.PrefixOrder.{before_begins}
 use Rattle.am_search.proofs.Walks.{in_choices, first_is_whole, completion_whole}
 use Rattle.am_search.proofs.VisitedPrefixes.{member_some}
 use Rattle.am_search.proofs.VisitsBound.{kept_all, kept_more}
-use Rattle.am_search.proofs.Pages.{choices_after, begins_with, next_is_start, more_left, part, whole, kind_of}
+use Rattle.am_search.proofs.Pages.{pages_joined, choices_after, begins_with, next_is_start, more_left, part, whole, kind_of}
 use Rattle.am_search.proofs.BudgetPages.{begun, visited_is, past_first, under_kind, without, stopped, rest_under, stays_from, enough_steps}
 
 -- ---- Lists of which fewer pass.
@@ -153,15 +153,8 @@ module _ (ns : List ℕ) (truth : List ℕ → Bool) (verdict : List ℕ → Ver
 
 pub search_chain_joined : (ns : List ℕ) (truth : List ℕ → Bool) (verdict : List ℕ → Verdict) (start : Start) (pages : List AnswerPage) → IsJudge ns truth verdict → IsSearchChain ns verdict start pages
     → all_choices_of pages ≡ answers_from ns truth start
-search_chain_joined ns truth verdict start [] law h = absurd h
-search_chain_joined ns truth verdict start (page ∷ pages) law h =
-    ap (λ l. page.choices ++ l) (by (start_after page.trailer) h.1 (λ next k. search_chain_joined ns truth verdict next pages law k))
-    ∙ sym (search_rest ns truth verdict start page law h.0)
-  where
-    by : (o : Option Start) → MatchOption o (pages ≡ []) (λ next. IsSearchChain ns verdict next pages) → ((next : Start) → IsSearchChain ns verdict next pages → all_choices_of pages ≡ answers_from ns truth next)
-        → all_choices_of pages ≡ answers_from_any ns truth o
-    by None e more = ap all_choices_of e
-    by (Some next) k more = more next k
+search_chain_joined ns truth verdict start pages law h =
+    pages_joined ns truth (IsSearchPage ns verdict) (λ start page h. search_rest ns truth verdict start page law h) start pages h
 
 -- there are no more pages than choices from their start on, or one page
 at_most_from : (ns : List ℕ) (truth : List ℕ → Bool) (verdict : List ℕ → Verdict) (start : Start) (pages : List AnswerPage) → IsJudge ns truth verdict → IsSearchChain ns verdict start pages

@@ -64,14 +64,7 @@ IsForm form = IfSome form IsFingerprint
 
 -- the text of a form and what follows it determines both
 pub same_form : (f g : Option (List ℕ)) (a b : List ℕ) → IsForm f → IsForm g → form_text f a ≡ form_text g b → (f ≡ g) × (a ≡ b)
-same_form None None a b h k e = (refl, ap (drop 2) e)
-same_form (Some x) (Some y) a b h k e =
-    let size : length (encode_lower x) ≡ length (encode_lower y) = digits_length x h ∙ sym (digits_length y k) in
-    let behind : encode_lower x ++ (codes ":" ++ a) ≡ encode_lower y ++ (codes ":" ++ b) = ap (drop 2) e in
-    let digits : encode_lower x ≡ encode_lower y = fronts (encode_lower x) (encode_lower y) (codes ":" ++ a) (codes ":" ++ b) size behind in
-    let rest : codes ":" ++ a ≡ codes ":" ++ b = append_cancel_left (encode_lower x) (codes ":" ++ a) (codes ":" ++ b) (behind ∙ ap (λ d. d ++ (codes ":" ++ b)) (sym digits)) in
-    (ap Some (digits-injective x y h k digits), ap (drop 1) rest)
-same_form f g a b h k e = absurd (omega (arith, ap (λ t. get_or t 0 0) e))
+same_form f g a b h k e = grind (arith, common_steps, digits_length, fronts, append_cancel_left, digits-injective)
 
 -- ---- A token is a letter, a form and positions.
 
@@ -88,10 +81,6 @@ spelled_parts None (At prefix) = refl
 spelled_parts (Some h) (At prefix) = refl
 spelled_parts form start = refl
 
-pub start_positions : (ns : List ℕ) (start : Start) → IsStart ns start → admits ns (positions start) ≡ true
-start_positions ns (At prefix) is = is
-start_positions ns (After c) is = is.0
-
 -- starts with the same letter and the same positions are the same
 same_parts : (s t : Start) → letter s ≡ letter t → positions s ≡ positions t → s ≡ t
 same_parts (At c) (At d) l e = ap At e
@@ -102,7 +91,7 @@ same_parts s t l e = absurd (omega (arith, l))
 pub same_spelled : (ns ms : List ℕ) (f g : Option (List ℕ)) (s t : Start) → AreSizes ns → AreSizes ms → IsStart ns s → IsStart ms t → IsForm f → IsForm g
     → spelled_text f s ≡ spelled_text g t → (s ≡ t) × (f ≡ g)
 same_spelled ns ms f g s t sizes also a b h k e =
-    search (rules, spelled_parts, same_form, joined-injective, small_positions, start_positions, same_parts)
+    search (rules, spelled_parts, same_form, joined-injective, small_positions, same_parts)
 
 -- ---- What is read and what is refused.
 
@@ -155,10 +144,7 @@ no_token_of_others : (ns h text : List ℕ) → IsNoToken ns text → IsTokenOfO
 no_token_of_others ns h text none o = none o.other o.start o.is_fingerprint (o.is_start, inr o.is_written)
 
 pub one_cause : (ns h text : List ℕ) (a b : Kind) → RefusesToken ns h text a → RefusesToken ns h text b → a ≡ b
-one_cause ns h text a b (inl x) (inl y) = x.0 ∙ sym y.0
-one_cause ns h text a b (inl x) (inr y) = absurd (no_token_of_others ns h text x.1 y.1)
-one_cause ns h text a b (inr x) (inl y) = absurd (no_token_of_others ns h text y.1 x.1)
-one_cause ns h text a b (inr x) (inr y) = x.0 ∙ sym y.0
+one_cause ns h text a b first second = grind (arith, common_steps, no_token_of_others)
 
 -- ---- Two universes.
 

@@ -8,6 +8,7 @@ use Rattle.std.proofs.lemmas.Bool.{and_parts}
 use Rattle.std.proofs.lemmas.Bool.Decides.{nat_tests}
 use Rattle.std.proofs.lemmas.List.{map-append, length-map}
 use Rattle.std.proofs.lemmas.List.Splits.{join_with_byte-slice_split}
+use Rattle.std.proofs.lemmas.Grind.{common_steps}
 use Rattle.am_universe.specs.Choice.{admits}
 use Rattle.am_universe.specs.Universe.{Label, IsLabel, IsUniverse, sizes}
 use Rattle.am_universe.specs.declared.limits.TheConstants.{MAX_VALUES}
@@ -15,7 +16,6 @@ use Rattle.am_universe.proofs.CompletionLemmas.{admits_next}
 use Rattle.am_search.specs.Judge.{AreSizes}
 use Rattle.am_search.specs.Token.{positions_text}
 use Rattle.am_search.proofs.Positions.{AreSmall, pieces_of, pieces_of_joined}
-use Rattle.std.proofs.lemmas.Grind.{common_steps}
 
 -- ---- The sizes of a universe.
 
@@ -92,9 +92,11 @@ module _ {S : Type 0} (steps : S → Option (Bor (List ℕ)) → S → Type 0) w
   piece_read ns text front piece s t p next h is room below = search (rules, append_assoc, map-append, admits_next)
 
   -- each choice with this text has, after the front, the position that the next piece spells
-  pub seam : (ns text front piece c : List ℕ) (t : S) → AreLimited ns → 0 < length text → IsNext text front piece t
-      → admits ns c ≡ true → positions_text c ≡ text → IsAtSeam ns c front piece
-  seam ns text front piece c t h some next a e = grind (arith, common_steps, at_seam, pieces_are, small_positions)
+  pub seam : (ns text front c : List ℕ) (s t : S) (part : Bor (List ℕ)) → AreLimited ns → 0 < length text → IsReadSoFar ns text front s → steps s (Some part) t
+      → admits ns c ≡ true → positions_text c ≡ text → IsAtSeam ns c front part.now
+  seam ns text front c s t part h some so_far goes a e =
+      let next = next_piece ns text front s t part so_far goes in
+      at_seam ns c front part.now next.rest h a (sym (pieces_are text c some (small_positions ns c h a) e) ∙ next.all)
 
 -- a text that `strip_prefix` has cut is the prefix and then the rest
 pub cut : (prefix text rest : List ℕ) → StripsPrefix (FindsTextPrefix prefix) text rest → text ≡ prefix ++ rest

@@ -42,10 +42,7 @@ in_admitted (size ∷ sizes) (p ∷ prefix) a = search (rules, and_parts, nat_te
 in_admitted sizes prefix a = inl refl
 
 pub prefixes_admitted : (sizes prefix : List ℕ) → (Contains (all_prefixes sizes) prefix ↔ IsTrue (admits sizes prefix))
-prefixes_admitted sizes prefix = (
-  λ h. admitted_in sizes prefix (IsIn-from_Contains (all_prefixes sizes) prefix h),
-  λ h. Contains-from_IsIn (all_prefixes sizes) prefix (in_admitted sizes prefix h),
-)
+prefixes_admitted sizes prefix = grind (arith, common_steps, admitted_in, IsIn-from_Contains, Contains-from_IsIn, in_admitted)
 
 empty_first : (size first : ℕ) (cs : List (List ℕ)) → AllByRecursion (λ c. slice_cmp nat_cmp [] c ≡ Less) (behind first size cs)
 empty_first size first cs = AllByRecursion-each (λ c. slice_cmp nat_cmp [] c ≡ Less) (behind first size cs) (λ c i. let r = from_behind first size cs c i in subst (λ d. slice_cmp nat_cmp [] d ≡ Less) r.same refl)

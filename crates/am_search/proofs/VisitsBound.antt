@@ -1,5 +1,5 @@
 -- How many prefixes a search judges at most if the judge is exact.
-use Rattle.std.proofs.Common.{◌≡◌, ℕ, zero, suc, ◌+◌, ◌*◌, ◌<◌, ◌≤◌, Bool, true, false, not, nat_eq, nat_lt, ◌&&◌, ◌||◌, List, [], ◌∷◌, length, map, Option, Some, None, ap, sym, subst, ◌∙◌, refl, inl, inr, arith}
+use Rattle.std.proofs.Common.{◌≡◌, ℕ, zero, suc, ◌+◌, ◌*◌, ◌<◌, ◌≤◌, Bool, true, false, not, nat_eq, nat_lt, ◌&&◌, ◌||◌, List, [], ◌∷◌, length, map, Some, ap, sym, subst, ◌∙◌, refl, inl, inr, arith}
 use Rattle.std.specs.Prelude.{IsTrue}
 use Rattle.std.specs.List.{filter, list_any, sum, starts_with}
 use Rattle.std.proofs.Math.Nat.{add-mul, mul-add}
@@ -22,12 +22,13 @@ use Rattle.am_search.specs.declared.verdict.Verdict.TheVariants.{Open}
 use Rattle.am_search.specs.Judge.{is_open}
 use Rattle.am_search.specs.ExactJudge.{IsExactJudge}
 use Rattle.am_search.specs.Start.{comes_before, first_of_start, at_or_after, answers_from}
-use Rattle.am_search.specs.Visits.{all_prefixes, is_visited, visited}
+use Rattle.am_search.specs.Visits.{all_prefixes, visited}
 use Rattle.am_search.proofs.ChoiceOrder.{filter_none, in_filter, into_filter, twice, from_member, not_itself, not_back}
 use Rattle.am_search.proofs.PrefixOrder.{before_begins, before_beside, before_same, begins_same, begins_through, front_passes, other_before}
 use Rattle.am_search.proofs.Walks.{first_is_whole, first_of_all, in_choices, completion_whole}
-use Rattle.am_search.proofs.VisitedPrefixes.{ReachesTo, IsVisited, in_visited, in_completions, none_visited}
+use Rattle.am_search.proofs.VisitedPrefixes.{ReachesTo, in_visited, in_completions, none_visited}
 use Rattle.am_search.proofs.VisitsGive.{completions_behind}
+use Rattle.std.proofs.Common.{rules}
 
 -- a function of the lists that begin with the position `q`, by what follows that position
 abbrev past : {X : Type 0} → ℕ → (List ℕ → X) → List ℕ → X
@@ -43,10 +44,7 @@ kept_all test xs = rw (length-filter test xs) (count_by-le-length test xs)
 
 pub kept_more : {X : Type 0} (f g : X → Bool) (xs : List X) → ((x : X) → IsIn xs x → f x ≡ true → g x ≡ true) → kept f xs ≤ kept g xs
 kept_more f g [] h = omega arith
-kept_more f g (x ∷ xs) h =
-    let here : f x ≡ true → g x ≡ true = h x (inl refl) in
-    let more : kept f xs ≤ kept g xs = kept_more f g xs (λ y i. h y (inr i)) in
-    grind (arith, common_steps)
+kept_more f g (x ∷ xs) h = grind (arith, common_steps, kept_more f g xs)
 
 kept_map : (test : List ℕ → Bool) (q : ℕ) (xs : List (List ℕ)) → kept test (map (λ x. q ∷ x) xs) ≡ kept (past q test) xs
 kept_map test q xs = ap length (filter_of_map (λ x. q ∷ x) test xs) ∙ length-map (filter (past q test) xs) (λ x. q ∷ x)
@@ -68,9 +66,7 @@ behind_each : (test : List ℕ → Bool) (prefixes : List (List ℕ)) (truth : L
     → ((q : ℕ) → kept (past q test) prefixes ≤ 1 + kept (past q truth) cs * z) → kept test (behind first count prefixes) ≤ count + kept truth (behind first count cs) * z
 behind_each test prefixes truth cs z first zero each = omega arith
 behind_each test prefixes truth cs z first (suc count) each =
-    rw (kept_behind test first count prefixes, kept_behind truth first count cs)
-    (one_of_each (kept (past first test) prefixes) (kept test (behind (first + 1) count prefixes)) (kept (past first truth) cs) (kept truth (behind (first + 1) count cs)) count z
-    (each first) (behind_each test prefixes truth cs z (first + 1) count each))
+    search (rules, kept_behind, one_of_each, behind_each test prefixes truth cs z (first + 1) count each)
 
 -- ---- The prefixes each proper front of which has a true completion.
 
@@ -146,12 +142,7 @@ module _ (sizes : List ℕ) (truth : List ℕ → Bool) (verdict : List ℕ → 
       → ((prefix : List ℕ) → IsTrue (admits sizes prefix) → verdict prefix ≡ Open → ReachesTo f prefix → list_any test (completions sizes prefix) ≡ true)
       → length (visited sizes verdict start) ≤ 1 + kept test (choices sizes) * sum sizes
   visited_by start f test begins passes =
-      at_most_same _ (kept (has_true_fronts sizes test) (all_prefixes sizes)) _
-      (kept_more (is_visited sizes verdict start) (has_true_fronts sizes test) (all_prefixes sizes) (λ prefix i h.
-      let is : IsVisited sizes verdict f prefix = in_visited sizes verdict start f begins prefix (into_filter (is_visited sizes verdict start) (all_prefixes sizes) prefix i h) in
-      from_fronts sizes test prefix is.admitted (λ front b less admitted.
-      passes front admitted (is_open_then (verdict front) (front_passes (λ front. is_open (verdict front)) front prefix is.fronts b less)) (reaches_front f prefix front b is.reaches_to))))
-      (has_true_fronts_at_most sizes test)
+      search (rules, at_most_same, kept_more, in_visited, into_filter, from_fronts, passes, is_open_then, front_passes, reaches_front, has_true_fronts_at_most)
 
   -- the first choice may be the only one that an open prefix along it has
   module _ (start : Start) (f : List ℕ) (begins : first_of_start sizes start ≡ Some f) where
@@ -161,10 +152,7 @@ module _ (sizes : List ℕ) (truth : List ℕ → Bool) (verdict : List ℕ → 
     passes : (prefix : List ℕ) → IsTrue (admits sizes prefix) → verdict prefix ≡ Open → ReachesTo f prefix → list_any (λ c. not (comes_before c f) && is_at_or_true c) (completions sizes prefix) ≡ true
     passes prefix a e (inl h) =
         is_some_true _ (completions sizes prefix) f (in_completions sizes prefix f (first_is_whole sizes start f begins) h) (grind (arith, common_steps, not_itself))
-    passes prefix a e (inr less) =
-        let s = some_true truth (completions sizes prefix) (exact.some prefix a e) in
-        let late : comes_before s.0 f ≡ false = not_back f s.0 (before_begins f prefix s.0 less (completion_whole sizes prefix s.0 s.1).1) in
-        is_some_true _ (completions sizes prefix) s.0 s.1 (grind (arith, common_steps, late, s.2))
+    passes prefix a e (inr less) = grind (arith, common_steps, some_true, not_back, before_begins, completion_whole, is_some_true)
 
     few_more : kept (λ c. not (comes_before c f) && is_at_or_true c) (choices sizes) ≤ length (answers_from sizes truth start) + 1
     few_more =
@@ -177,11 +165,7 @@ module _ (sizes : List ℕ) (truth : List ℕ → Bool) (verdict : List ℕ → 
 -- a start that begins nowhere visits nothing
 if_begun : (sizes : List ℕ) (verdict : List ℕ → Verdict) (start : Start) (n : ℕ) → ((f : List ℕ) → first_of_start sizes start ≡ Some f → length (visited sizes verdict start) ≤ n)
     → length (visited sizes verdict start) ≤ n
-if_begun sizes verdict start n h = by (first_of_start sizes start) refl
-  where
-    by : (first : Option (List ℕ)) → first_of_start sizes start ≡ first → length (visited sizes verdict start) ≤ n
-    by None e = omega (arith, ap length (none_visited sizes verdict start e))
-    by (Some f) e = h f e
+if_begun sizes verdict start n h = grind (arith, common_steps, none_visited)
 
 pub visited_from_first : (sizes : List ℕ) (truth : List ℕ → Bool) (verdict : List ℕ → Verdict) → IsExactJudge sizes truth verdict
     → length (visited sizes verdict (At [])) ≤ 1 + length (answers_from sizes truth (At [])) * sum sizes

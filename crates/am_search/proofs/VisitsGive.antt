@@ -1,5 +1,5 @@
 -- What the judged prefixes give: the true choices from the start on.
-use Rattle.std.proofs.Common.{◌≡◌, ℕ, zero, suc, ◌+◌, ◌<◌, ◌≤◌, Bool, true, false, not, cond, nat_lt, ◌&&◌, List, [], ◌∷◌, ◌++◌, length, map, Option, Some, None, ap, sym, subst, ◌∙◌, refl, inl, inr, arith, append-nil, rules}
+use Rattle.std.proofs.Common.{◌≡◌, ℕ, zero, suc, ◌+◌, ◌<◌, ◌≤◌, Bool, true, false, not, cond, nat_lt, ◌&&◌, List, [], ◌∷◌, ◌++◌, length, map, Option, Some, None, ap, sym, ◌∙◌, refl, inl, inr, arith, append-nil, rules}
 use Rattle.std.specs.Prelude.{IsTrue}
 use Rattle.std.specs.List.{filter, flat_map, list_all, AllByRecursion}
 use Rattle.std.proofs.lemmas.Bool.{false≢true, and_from}
@@ -14,7 +14,7 @@ use Rattle.am_universe.proofs.ChoiceLemmas.{behind, from_behind}
 use Rattle.am_universe.proofs.CompletionLemmas.{at_its_own, completions_are_below, filter_of_map, map_of_flat_map}
 use Rattle.am_search.specs.declared.start.Start.{Start}
 use Rattle.am_search.specs.declared.verdict.Verdict.{Verdict}
-use Rattle.am_search.specs.declared.verdict.Verdict.TheVariants.{Yes, No, Open}
+use Rattle.am_search.specs.declared.verdict.Verdict.TheVariants.{Open}
 use Rattle.am_search.specs.Judge.{IsJudge, is_open, is_yes}
 use Rattle.am_search.specs.Start.{comes_before, first_of_start, at_or_after, answers_from}
 use Rattle.am_search.specs.Visits.{all_prefixes, proper_fronts, completions_from, given_at, given_under}
@@ -57,17 +57,12 @@ pub joined_same : {X Y : Type 0} (f g : X → List Y) (xs : List X) → ((x : X)
 joined_same f g [] same = refl
 joined_same f g (x ∷ xs) same = ap (λ l. l ++ flat_map f xs) (same x (inl refl)) ∙ ap (λ l. g x ++ l) (joined_same f g xs (λ y i. same y (inr i)))
 
--- below one position
-map_of_given : (q : ℕ) (b : Bool) (cs : List (List ℕ)) → cond b (map (λ c. q ∷ c) cs) [] ≡ map (λ c. q ∷ c) (cond b cs [])
-map_of_given q true cs = refl
-map_of_given q false cs = refl
-
 reached_behind : (verdict : List ℕ → Verdict) (q : ℕ) (prefix : List ℕ) → verdict [] ≡ Open → is_reached verdict (q ∷ prefix) ≡ is_reached (λ p. verdict (q ∷ p)) prefix
 reached_behind verdict q prefix open_ = grind (arith, common_steps, list_all-map)
 
 given_behind : (size : ℕ) (sizes : List ℕ) (verdict : List ℕ → Verdict) (q : ℕ) (prefix : List ℕ) → q < size
     → given_whole (size ∷ sizes) verdict (q ∷ prefix) ≡ map (λ c. q ∷ c) (given_whole sizes (λ p. verdict (q ∷ p)) prefix)
-given_behind size sizes verdict q prefix below = search (rules, completions_behind, map_of_given)
+given_behind size sizes verdict q prefix below = search (rules, completions_behind)
 
 all_given_behind : (size : ℕ) (sizes : List ℕ) (verdict : List ℕ → Verdict) (q : ℕ) (prefixes : List (List ℕ)) → q < size → verdict [] ≡ Open
     → all_given (size ∷ sizes) verdict (map (λ prefix. q ∷ prefix) prefixes) ≡ map (λ c. q ∷ c) (all_given sizes (λ p. verdict (q ∷ p)) prefixes)
@@ -91,19 +86,7 @@ closed_at (size ∷ sizes) verdict e = grind (arith, common_steps, none_reached,
 
 unless_open : (sizes : List ℕ) (truth : List ℕ → Bool) (verdict : List ℕ → Verdict) → IsJudge sizes truth verdict
     → (verdict [] ≡ Open → all_given sizes verdict (all_prefixes sizes) ≡ filter truth (choices sizes)) → all_given sizes verdict (all_prefixes sizes) ≡ filter truth (choices sizes)
-unless_open sizes truth verdict law open_ = by (verdict []) refl
-  where
-    all : completions sizes [] ≡ choices sizes
-    all = completions_are_below sizes [] refl
-
-    by : (v : Verdict) → verdict [] ≡ v → all_given sizes verdict (all_prefixes sizes) ≡ filter truth (choices sizes)
-    by Open e = open_ e
-    by Yes e =
-        closed_at sizes verdict (ap is_open e) ∙ ap (λ v. cond (is_yes v) (completions sizes []) []) e ∙ all
-        ∙ sym (filter_all truth (choices sizes) (λ c. AllByRecursion-at (λ c. IsTrue (truth c)) (choices sizes) c (subst (AllByRecursion (λ c. IsTrue (truth c))) all (law.yes [] refl e))))
-    by No e =
-        closed_at sizes verdict (ap is_open e) ∙ ap (λ v. cond (is_yes v) (completions sizes []) []) e
-        ∙ sym (filter_none truth (choices sizes) (λ c. AllByRecursion-at (λ c. truth c ≡ false) (choices sizes) c (subst (AllByRecursion (λ c. truth c ≡ false)) all (law.no [] refl e))))
+unless_open sizes truth verdict law open_ = grind (arith, common_steps, completions_are_below, closed_at, filter_all, AllByRecursion-at, filter_none)
 
 gives_true : (sizes : List ℕ) (truth : List ℕ → Bool) (verdict : List ℕ → Verdict) → IsJudge sizes truth verdict → all_given sizes verdict (all_prefixes sizes) ≡ filter truth (choices sizes)
 gives_true [] truth verdict law = unless_open [] truth verdict law (λ e. absurd (law.whole [] (refl, refl) e))

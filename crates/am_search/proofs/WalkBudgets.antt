@@ -1,5 +1,5 @@
 -- What a search has given and what it has left, under a budget.
-use Rattle.std.proofs.Common.{◌≡◌, ℕ, ◌+◌, ◌-◌, ◌<◌, ◌≤◌, List, [], ◌∷◌, ◌++◌, length, take, drop, get_or, Option, Some, None, IfSome, ap, sym, subst, ◌∙◌, refl, arith, append-nil, append_assoc, length-append, length-take}
+use Rattle.std.proofs.Common.{◌≡◌, ℕ, ◌+◌, ◌-◌, ◌<◌, ◌≤◌, List, [], ◌∷◌, ◌++◌, length, take, drop, get_or, Option, Some, None, IfSome, ap, sym, ◌∙◌, refl, arith, append-nil, append_assoc, length-append, length-take}
 use Rattle.std.specs.Prelude.{option_map}
 use Rattle.std.proofs.Math.Seq.{take-add, take-append_seam}
 use Rattle.std.proofs.lemmas.List.{drop_at, take_all, take-append-drop}
@@ -12,10 +12,10 @@ use Rattle.am_search.specs.declared.stage.Stage.{Stage}
 use Rattle.am_search.specs.declared.stage.Stage.TheVariants.{Judging, Giving, Done}
 use Rattle.am_search.specs.declared.verdict.Verdict.{Verdict}
 use Rattle.am_search.specs.Start.{at_or_after}
-use Rattle.am_search.specs.Visits.{visited, given_at, given_by, up_to_budget, given_under, IsPartOfSearch, IsWholeSearch, IsStoppedSearch, BeginsWithLast}
+use Rattle.am_search.specs.Visits.{visited, given_at, given_by, up_to_budget, given_under, IsPartOfSearch, BeginsWithLast}
 use Rattle.am_search.specs.BudgetPage.{page_under}
 use Rattle.am_search.specs.AnswersView.{answers_left, answers_stop, answers_page}
-use Rattle.am_search.specs.Walk.{IsLeft, IsAtStop, IsWalk}
+use Rattle.am_search.specs.Walk.{IsLeft, IsWalk}
 
 -- ---- What is left of a budget.
 
@@ -45,20 +45,7 @@ front_under all budget (Some n) judged is front = record {
   is = ap (λ b. up_to_budget b all) is ∙ take-add (length judged) n all ∙ ap (λ l. l ++ take n (drop (length judged) all)) (sym front);
 }
 
--- if all prefixes are judged, the budget leaves out none
-pub all_under : (all : List (List ℕ)) (budget left : Option ℕ) (judged : List (List ℕ)) → IsLeft budget left judged → length all ≤ length judged → up_to_budget budget all ≡ all
-all_under all budget None judged is past = ap (λ b. up_to_budget b all) is
-all_under all budget (Some n) judged is past = grind (arith, common_steps, take_all)
-
-used_up : (budget : Option ℕ) (judged : List (List ℕ)) → IsLeft budget (Some 0) judged → budget ≡ Some (length judged)
-used_up budget judged is = is ∙ ap Some (omega arith)
-
 -- ---- What is left to give.
-
--- the choices that were given are the first of those that are given in all
-pub record IsGivenFront (sizes : List ℕ) (verdict : List ℕ → Verdict) (start : Start) (budget : Option ℕ) (judged given : List (List ℕ)) : Type 0 where
-  pub of_judged : (rest : List (List ℕ)) × (given ++ rest ≡ given_by sizes verdict start judged)
-  pub of_all : (rest : List (List ℕ)) × (given ++ rest ≡ given_under sizes verdict start budget)
 
 given_of_judged : (sizes : List ℕ) (verdict : List ℕ → Verdict) (start : Start) (stage : Stage) (current : List ℕ) (along : Option (List ℕ)) (judged given : List (List ℕ))
     → IsWalk sizes verdict start stage current along judged given → (rest : List (List ℕ)) × (given ++ rest ≡ given_by sizes verdict start judged)
@@ -66,54 +53,30 @@ given_of_judged sizes verdict start Judging current along judged given h = ([], 
 given_of_judged sizes verdict start (Giving depth) current along judged given h = (at_or_after (Some current) (completions sizes (take depth current)), (h.giving depth refl).given_next)
 given_of_judged sizes verdict start Done current along judged given h = ([], append-nil given ∙ (h.done refl).given_all)
 
+-- the choices that were given are the first of those that are given in all
 pub given_front : {sizes : List ℕ} {verdict : List ℕ → Verdict} {start : Start} {stage : Stage} {current : List ℕ} {along : Option (List ℕ)} {judged given : List (List ℕ)} (budget left : Option ℕ)
-    → IsWalk sizes verdict start stage current along judged given → IsLeft budget left judged → IsGivenFront sizes verdict start budget judged given
+    → IsWalk sizes verdict start stage current along judged given → IsLeft budget left judged → (rest : List (List ℕ)) × (given ++ rest ≡ given_under sizes verdict start budget)
 given_front {sizes} {verdict} {start} {stage} {current} {along} {judged} {given} budget left h is =
     let some = given_of_judged sizes verdict start stage current along judged given h in
     let front = front_under (visited sizes verdict start) budget left judged is h.front in
-    let later : List (List ℕ) = given_by sizes verdict start front.more in
-    record {
-      of_judged = some;
-      of_all = (
-        some.0 ++ later,
-        sym (append_assoc given some.0 later) ∙ ap (λ l. l ++ later) some.1
-            ∙ sym (flat_map-append (given_at sizes verdict start) judged front.more)
-            ∙ ap (given_by sizes verdict start) (sym front.is),
-      );
-    }
+    let later : List (List ℕ) = given_by sizes verdict start front.more in (
+      some.0 ++ later,
+      sym (append_assoc given some.0 later) ∙ ap (λ l. l ++ later) some.1
+          ∙ sym (flat_map-append (given_at sizes verdict start) judged front.more)
+          ∙ ap (given_by sizes verdict start) (sym front.is),
+    )
 
 pub left_one : (given rest all : List (List ℕ)) (c : List ℕ) → (given ++ c ∷ []) ++ rest ≡ all → drop (length given) all ≡ c ∷ drop (length (given ++ c ∷ [])) all
 left_one given rest all c e = grind (arith, common_steps, append_assoc, drop_at)
 
-module _ {sizes : List ℕ} {verdict : List ℕ → Verdict} {start : Start} {stage : Stage} {current : List ℕ} {along : Option (List ℕ)} {judged given : List (List ℕ)} (budget left : Option ℕ)
-    (h : IsWalk sizes verdict start stage current along judged given) (is : IsLeft budget left judged) where
-  pub part_of_search : IsPartOfSearch sizes verdict start budget judged given
-  part_of_search =
-      let front = front_under (visited sizes verdict start) budget left judged is h.front in
-      record {
-        judged_first = sym (ap (take (length judged)) front.is ∙ take-append_seam judged front.more);
-        given_first = (given_front budget left h is).of_judged;
-      }
-
-  whole_of : judged ≡ up_to_budget budget (visited sizes verdict start) → given ≡ given_by sizes verdict start judged → IsWholeSearch sizes verdict start budget judged given
-  whole_of same all = record { judged_all = same; given_all = all ∙ ap (given_by sizes verdict start) same }
-
-  -- all visited prefixes are judged
-  all_judged : stage ≡ Done → judged ≡ visited sizes verdict start
-  all_judged e = h.front ∙ take_all (length judged) (visited sizes verdict start) (h.done e).all
-
-  pub ended_search : stage ≡ Done → IsWholeSearch sizes verdict start None judged given
-  ended_search e = record { judged_all = all_judged e; given_all = (h.done e).given_all ∙ ap (given_by sizes verdict start) (all_judged e) }
-
-  pub whole_search : stage ≡ Done → IsWholeSearch sizes verdict start budget judged given
-  whole_search e = grind (arith, common_steps, whole_of, all_judged, all_under)
-
-  -- the budget is used up
-  used : left ≡ Some 0 → IsLeft budget (Some 0) judged
-  used none = subst (λ l. IsLeft budget l judged) none is
-
-  pub stopped_search : (prefix : List ℕ) → IsAtStop stage current left prefix → IsStoppedSearch sizes verdict start budget judged given prefix
-  stopped_search prefix at_stop = grind (arith, common_steps, used, used_up)
+pub part_of_search : {sizes : List ℕ} {verdict : List ℕ → Verdict} {start : Start} {stage : Stage} {current : List ℕ} {along : Option (List ℕ)} {judged given : List (List ℕ)} (budget left : Option ℕ)
+    → IsWalk sizes verdict start stage current along judged given → IsLeft budget left judged → IsPartOfSearch sizes verdict start budget judged given
+part_of_search {sizes} {verdict} {start} {stage} {current} {along} {judged} {given} budget left h is =
+    let front = front_under (visited sizes verdict start) budget left judged is h.front in
+    record {
+      judged_first = sym (ap (take (length judged)) front.is ∙ take-append_seam judged front.more);
+      given_first = given_of_judged sizes verdict start stage current along judged given h;
+    }
 
 pub begins_with_last : {sizes : List ℕ} {verdict : List ℕ → Verdict} {start : Start} {stage : Stage} {current : List ℕ} {along : Option (List ℕ)} {judged given : List (List ℕ)} (depth : ℕ)
     → IsWalk sizes verdict start stage current along judged given → stage ≡ Giving depth → BeginsWithLast judged current
@@ -140,13 +103,9 @@ page_is {J} {j} a judge start limit budget same begins under left = grind (arith
 taken_length : (judged all : List (List ℕ)) → judged ≡ take (length judged) all → length judged ≤ length all
 taken_length judged all e = omega (arith, ap length e, length-take (length judged) all)
 
-under_length : (budget : Option ℕ) (all : List (List ℕ)) → length (up_to_budget budget all) ≤ length all
-under_length None all = omega arith
-under_length (Some n) all = omega (arith, length-take n all)
-
 pub judged_within : (sizes : List ℕ) (verdict : List ℕ → Verdict) (start : Start) (budget : Option ℕ) (judged given : List (List ℕ)) → IsPartOfSearch sizes verdict start budget judged given
     → length judged ≤ length (visited sizes verdict start)
-judged_within sizes verdict start budget judged given h = grind (arith, common_steps, taken_length, under_length)
+judged_within sizes verdict start budget judged given h = grind (arith, common_steps, taken_length)
 
 pub judged_budget : (sizes : List ℕ) (verdict : List ℕ → Verdict) (start : Start) (budget : Option ℕ) (judged given : List (List ℕ)) → IsPartOfSearch sizes verdict start budget judged given
     → IfSome budget (λ n. length judged ≤ n)

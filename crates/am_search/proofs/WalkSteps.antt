@@ -1,5 +1,5 @@
 -- Where the search stands after it has judged a prefix, and after it has given a choice.
-use Rattle.std.proofs.Common.{◌≡◌, ℕ, suc, ◌-◌, ◌<◌, ◌≤◌, Bool, true, false, cond, nat_eq, List, [], ◌∷◌, ◌++◌, length, map, nat_lt, take, drop, slice_get, slice_index, Option, Some, None, IfSome, MatchOption, ap, sym, subst, ◌∙◌, refl, inl, inr, arith, append-nil, append_assoc, length-append, rules}
+use Rattle.std.proofs.Common.{◌≡◌, ℕ, suc, ◌-◌, ◌<◌, ◌≤◌, Bool, true, false, cond, nat_eq, List, [], ◌∷◌, ◌++◌, length, map, nat_lt, take, slice_get, Option, Some, None, IfSome, MatchOption, ap, sym, subst, ◌∙◌, refl, inl, inr, arith, append-nil, append_assoc, length-append, rules}
 use Rattle.std.specs.Prelude.{option_map}
 use Rattle.std.specs.List.{filter, find, flat_map, range_with_len, starts_with}
 use Rattle.std.proofs.lemmas.Bool.{false≢true, false_from_ne_true, cases_Bool, cases_lt}
@@ -24,7 +24,7 @@ use Rattle.am_search.specs.NextPrefix.{next_beside}
 use Rattle.am_search.specs.Walk.{if_begins, first_position, IsJudging, IsGiving, IsDone, IsWalk}
 use Rattle.am_search.proofs.ChoiceOrder.{got_at, none_found, Ascends, not_itself, not_back, filter_all, filter_step, from_first, member_then_rest}
 use Rattle.am_search.proofs.Odometer.{ArePositive, positive, admits_at_most, filled, first_completion_is, next_choice_is}
-use Rattle.am_search.proofs.PrefixOrder.{before_begins, before_beside, begins_front, begins_taken, taken_is, begins_length, begins_whole, begins_behind, begins_through}
+use Rattle.am_search.proofs.PrefixOrder.{before_begins, before_beside, begins_front, taken_is, begins_length, begins_whole, begins_behind, begins_through}
 use Rattle.am_search.proofs.NextPrefix.{IsBeside, beside_is, none_beside, none_of_front, beside_front, beside_begins}
 use Rattle.am_search.proofs.VisitedPrefixes.{IsVisited, none_visited, in_completions, reached}
 use Rattle.am_search.proofs.VisitSteps.{taken_pushed, past_length, begins_next, judged_is, open_along, open_behind, closed_next, closed_none}
@@ -133,44 +133,23 @@ module _ {sizes : List ℕ} {truth : List ℕ → Bool} {verdict : List ℕ → 
   ]
 
   pub along_longer : verdict p ≡ Open → {n : ℕ} → n ≡ length p → IfSome along (λ f. n < length f)
-  along_longer e {n} same = by along refl
-    where
-      by : (o : Option (List ℕ)) → along ≡ o → IfSome o (λ f. n < length f)
-      by None is = tt
-      by (Some f) is = omega (arith, same, open_room e, (along_some f is).1.1)
+  along_longer e {n} same = grind (arith, common_steps, open_room, along_some)
 
   -- the verdict is `Open`
   after_open : verdict p ≡ Open → (o : Option (List ℕ)) → along ≡ o → IsWalk sizes verdict start Judging (p ++ first_position o (length p) ∷ []) along (judged ++ p ∷ []) given
   after_open e None none =
-      let b = along_none none in
-      let next = open_behind sizes verdict start begun.first begun.begins begun.whole some (length judged) p here.next e (open_room e) b in
-      at_judging front_more (record {
-        next = ap (slice_get (visited sizes verdict start)) (sym longer) ∙ next;
-        along_is = none ∙ sym (along_if (p ++ 0 ∷ []) begun.first (false_from_ne_true (starts_with nat_eq begun.first (p ++ 0 ∷ [])) (λ h. false≢true (sym b ∙ begins_front p begun.first 0 h)))) ∙ ap (if_begins (p ++ 0 ∷ [])) (sym begun.begins);
-        given_all = given_none (ap is_yes e);
-      })
+      grind (arith, common_steps, along_none, open_behind, some, open_room, at_judging, front_more, longer, along_if, false_from_ne_true, false≢true, begins_front, given_none)
   after_open e (Some f) is =
-      let parts = along_some f is in
-      let q : ℕ = slice_index f (length p) in
-      let next = open_along sizes verdict start f parts.0 parts.1 some (length judged) p here.next e (open_room e) parts.2 in
-      at_judging front_more (record {
-        next = ap (slice_get (visited sizes verdict start)) (sym longer) ∙ next;
-        along_is = is ∙ sym (along_if (p ++ q ∷ []) f (begins_next p f parts.2 (omega (arith, parts.1.1, open_room e)))) ∙ ap (if_begins (p ++ q ∷ [])) (sym parts.0);
-        given_all = given_none (ap is_yes e);
-      })
+      grind (arith, common_steps, along_some, open_along, some, open_room, at_judging, front_more, longer, along_if, begins_next, given_none)
 
   pub opened : verdict p ≡ Open → {n q : ℕ} {next : List ℕ} {more : List (List ℕ)} → n ≡ length p → q ≡ first_position along n → next ≡ p ++ q ∷ [] → more ≡ judged ++ p ∷ []
       → IsWalk sizes verdict start stage next along more given
   opened e {n} {q} {next} {more} length_is position_is next_is more_is = rw (at, next_is, more_is, position_is, length_is) (after_open e along refl)
 
-  -- the verdict is `Yes`
-  last_judged : slice_get (visited sizes verdict start) (length (judged ++ p ∷ []) - 1) ≡ Some p
-  last_judged = grind (arith, common_steps, longer, here.next)
-
   after_yes : verdict p ≡ Yes → (f c : List ℕ) → first_of_start sizes start ≡ Some f → IsWhole sizes c → starts_with nat_eq c p ≡ true
       → at_or_after (Some c) (completions sizes p) ≡ at_or_after (Some f) (completions sizes p)
       → IsGiving sizes verdict start (length p) c (judged ++ p ∷ []) given
-  after_yes e f c begins w b same = grind (arith, common_steps, taken_is, longer, last_judged, begins_length, given_more)
+  after_yes e f c begins w b same = grind (arith, common_steps, taken_is, longer, begins_length, given_more)
 
   after_yes_at : verdict p ≡ Yes → (o : Option (List ℕ)) → along ≡ o → (c : List ℕ) → MatchOption o (slice_get (completions sizes p) 0 ≡ Some c) (λ f. c ≡ f)
       → IsGiving sizes verdict start (length p) c (judged ++ p ∷ []) given
@@ -189,19 +168,12 @@ module _ {sizes : List ℕ} {truth : List ℕ → Bool} {verdict : List ℕ → 
   pub denied : verdict p ≡ No → {next : List ℕ} {more : List (List ℕ)} → next_beside sizes p ≡ Some next → more ≡ judged ++ p ∷ [] → IsWalk sizes verdict start stage next None more given
   denied e {next} {more} beside more_is =
       let r = closed_next sizes verdict start begun.first begun.begins begun.whole some (length judged) p here.next (ap is_open e) next beside in
-      rw (at, more_is) (at_judging front_more (record {
-        next = ap (slice_get (visited sizes verdict start)) (sym longer) ∙ r.0;
-        along_is = sym (along_if next begun.first (behind_false next begun.first r.1)) ∙ ap (if_begins next) (sym begun.begins);
-        given_all = given_none (ap is_yes e);
-      }))
+      grind (arith, common_steps, at_judging, front_more, longer, along_if, behind_false, given_none)
 
   pub denied_last : verdict p ≡ No → next_beside sizes p ≡ None → {current : List ℕ} {other : Option (List ℕ)} {more : List (List ℕ)} → more ≡ judged ++ p ∷ [] → IsWalk sizes verdict start Done current other more given
   denied_last e beside {current} {other} {more} more_is =
       let none = closed_none sizes verdict start begun.first begun.begins begun.whole some (length judged) p here.next (ap is_open e) beside in
-      rw more_is (at_done front_more (record {
-        all = omega (arith, past_length (visited sizes verdict start) (suc (length judged)) none, longer);
-        given_all = given_none (ap is_yes e);
-      }))
+      grind (arith, common_steps, at_done, front_more, past_length, longer, given_none)
 
 -- ---- After a choice was given.
 
@@ -223,7 +195,7 @@ module _ {sizes : List ℕ} {truth : List ℕ → Bool} {verdict : List ℕ → 
 
   -- the completions from the choice on are the choice and those from the next on
   given_one : (given ++ c ∷ []) ++ at_or_after (find (comes_before c) (completions sizes (take depth c))) (completions sizes (take depth c)) ≡ given_by sizes verdict start judged
-  given_one = search (rules, append_assoc, member_then_rest, completions_ascend, in_completions, begins_taken, giving)
+  given_one = search (rules, append_assoc, member_then_rest, completions_ascend, in_completions, giving)
 
   -- the next choice begins with the same `depth` positions
   given_longer : (next d : List ℕ) → next_beside sizes c ≡ Some next → depth < length next → slice_get (completions sizes next) 0 ≡ Some d → IsGiving sizes verdict start depth d judged (given ++ c ∷ [])
@@ -238,15 +210,7 @@ module _ {sizes : List ℕ} {truth : List ℕ → Bool} {verdict : List ℕ → 
       let found : find (comes_before c) (completions sizes (take depth c)) ≡ Some d =
       found_kept (comes_before c) (λ x. starts_with nat_eq x (take depth c)) (choices sizes) d
       (next_choice_is sizes c positive_sizes giving.whole ∙ ap (option_map (filled sizes)) e ∙ ap Some is) d_begins in
-      record {
-        some = giving.some;
-        last = giving.last ∙ ap Some (sym same);
-        yes = ap verdict same ∙ giving.yes;
-        whole = member.0;
-        depth_is = omega (arith, begins_length (take depth c) d d_begins, length_is);
-        given_next = ap (λ x. (given ++ c ∷ []) ++ at_or_after (Some d) (completions sizes x)) same
-            ∙ ap (λ o. (given ++ c ∷ []) ++ at_or_after o (completions sizes (take depth c))) (sym found) ∙ given_one;
-      }
+      grind (arith, common_steps, some, begins_length, given_one)
 
   pub goes_on_giving : {next d : List ℕ} {other : Option (List ℕ)} {after : List (List ℕ)} → next_beside sizes c ≡ Some next → depth < length next → slice_get (completions sizes next) 0 ≡ Some d
       → after ≡ given ++ c ∷ [] → IsWalk sizes verdict start stage d other judged after
@@ -323,6 +287,3 @@ walk_begins {sizes} {truth} {verdict} start law (Some f) begins is p j t =
       along_is = ap (if_begins []) begins;
       given_all = refl;
     }))
-
-pub nothing_given : (given all : List (List ℕ)) → given ≡ [] → drop (length given) all ≡ all
-nothing_given given all e = ap (λ l. drop (length l) all) e

@@ -16,9 +16,6 @@ use Rattle.am_search.proofs.ChoiceOrder.{got_at, found_in, in_filter, from_first
 
 -- ---- A start begins at a whole choice.
 
-pub found : (test : List ℕ → Bool) (cs : List (List ℕ)) (c : List ℕ) → find test cs ≡ Some c → IsIn cs c
-found test cs c e = subst (λ o. IfSome o (IsIn cs)) e (found_in test cs)
-
 pub completion_whole : (ns prefix c : List ℕ) → IsIn (completions ns prefix) c
     → IsWhole ns c × (starts_with nat_eq c prefix ≡ true)
 completion_whole ns prefix c i =
@@ -27,7 +24,7 @@ completion_whole ns prefix c i =
 
 pub first_is_whole : (ns : List ℕ) (start : Start) (c : List ℕ) → first_of_start ns start ≡ Some c → IsWhole ns c
 first_is_whole ns (At prefix) c e = (completion_whole ns prefix c (got_at (completions ns prefix) 0 c e)).0
-first_is_whole ns (After d) c e = whole_from_in ns c (found (comes_before d) (choices ns) c e)
+first_is_whole ns (After d) c e = whole_from_in ns c (subst (λ o. IfSome o (IsIn (choices ns))) e (found_in (comes_before d) (choices ns)))
 
 -- ---- One choice, and then those behind it.
 

@@ -1,14 +1,14 @@
 -- Pages of a search under a budget. The budget says how many prefixes may be judged; the search
 -- stops before the next one.
-use Rattle.std.specs.Prelude.{◌≡◌, ℕ, ◌<◌, List, [], ◌∷◌, length, slice_get}
-use Rattle.std.specs.Prelude.{Option, Some, None, IfSome, MatchOption, IsTrue}
+use Rattle.std.specs.Prelude.{◌≡◌, ℕ, ◌<◌, List, length, slice_get}
+use Rattle.std.specs.Prelude.{Option, Some, None, IfSome, IsTrue}
 use Rattle.am_search.specs.declared.start.Start.{Start}
 use Rattle.am_search.specs.declared.trailer.Trailer.{Trailer}
 use Rattle.am_search.specs.declared.trailer.Trailer.TheVariants.{End, Stopped}
 use Rattle.am_search.specs.declared.verdict.Verdict.{Verdict}
 use Rattle.am_search.specs.Start.{comes_before, first_of_start}
 use Rattle.am_search.specs.Visits.{visited, given_under}
-use Rattle.am_search.specs.Page.{AnswerPage, page_ending, start_after}
+use Rattle.am_search.specs.Page.{AnswerPage, page_ending, IsChainOf}
 
 -- The prefix at which a search stops under a budget: the first visited prefix that the budget
 -- leaves out. There is none without a budget, or if the budget is enough for all visited prefixes.
@@ -54,17 +54,12 @@ pub record IsSearchPage (sizes : List ℕ) (verdict : List ℕ → Verdict) (sta
   pub enough : IsEnough sizes budget
   pub from_start : page ≡ page_under sizes verdict start limit budget
 
--- Consecutive pages of searches, at least one. Each has its own limit and budget. The first begins
--- at the start, each later one where the trailer before it says, and the last ends with `End`.
+-- Consecutive pages of searches, at least one. Each has its own limit and budget.
 -- Source: own choice.
 -- Example: over one label with three values, let all choices be true and judged one by one. A page
 -- under a budget of 3 is 0 and 1, and `Stopped` at 2; the page from there is 2, and `End`.
 abbrev pub IsSearchChain : List ℕ → (List ℕ → Verdict) → Start → List AnswerPage → Type 0
-IsSearchChain sizes verdict start [] = ⊥
-IsSearchChain sizes verdict start (page ∷ pages) =
-    IsSearchPage sizes verdict start page
-    × MatchOption (start_after page.trailer) (pages ≡ [])
-    (λ next. IsSearchChain sizes verdict next pages)
+IsSearchChain sizes verdict = IsChainOf (IsSearchPage sizes verdict)
 
 -- `next` begins later than `start`: both begin at a choice, and the choice of `start` comes first.
 -- Source: own choice.

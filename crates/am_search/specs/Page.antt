@@ -57,13 +57,17 @@ pub record IsPage (sizes : List ℕ) (truth : List ℕ → Bool) (start : Start)
   pub at_least_one : IfSome limit (λ n. 0 < n)
   pub from_start : page ≡ page_from sizes truth start limit
 
--- Consecutive pages, at least one. Each has its own limit. The first begins at the start, each
--- later one where the trailer before it says, and the last ends with `End`.
+-- Consecutive pages, at least one, each of which is a page from its start in the sense given. The
+-- first begins at the start, each later one where the trailer before it says, and the last ends
+-- with `End`. In `IsChain` they are pages of the answers, and each has its own limit.
+abbrev pub IsChainOf : (Start → AnswerPage → Type 0) → Start → List AnswerPage → Type 0
+IsChainOf IsPageFrom start [] = ⊥
+IsChainOf IsPageFrom start (page ∷ pages) =
+    IsPageFrom start page
+    × MatchOption (start_after page.trailer) (pages ≡ []) (λ next. IsChainOf IsPageFrom next pages)
+
 abbrev pub IsChain : List ℕ → (List ℕ → Bool) → Start → List AnswerPage → Type 0
-IsChain sizes truth start [] = ⊥
-IsChain sizes truth start (page ∷ pages) =
-    IsPage sizes truth start page
-    × MatchOption (start_after page.trailer) (pages ≡ []) (λ next. IsChain sizes truth next pages)
+IsChain sizes truth = IsChainOf (IsPage sizes truth)
 
 -- The choices of pages, joined.
 abbrev pub all_choices_of : List AnswerPage → List (List ℕ)

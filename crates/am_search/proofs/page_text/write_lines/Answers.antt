@@ -1,6 +1,7 @@
-use Rattle.std.proofs.Common.{◌≡◌, ◌≢◌, Some, ap, refl, sym, subst, ◌∙◌}
+use Rattle.std.proofs.Common.{◌≡◌, ◌≢◌, Some, ap, refl, sym, subst, ◌∙◌, arith}
 use Rattle.std.proofs.lemmas.Result.{IfOk-from_err}
 use Rattle.std.specs.List.{flat_map}
+use Rattle.std.proofs.lemmas.Grind.{common_steps}
 use Rattle.am_universe.specs.Universe.{sizes}
 use Rattle.am_universe.specs.Choice.{IsWhole}
 use Rattle.am_universe.specs.WrittenLabelSet.{line}
@@ -20,10 +21,7 @@ returns-then-eq-clause-trailer g c =
     sym (ap (λ p. p.trailer) (full _ c.loop-choice.invariant.0 _ _ c.in-Some.ensures.first none c.requires.limit))
 
 pub returns-then-eq-clause-written : goal.returns-then-eq-clause-written
-returns-then-eq-clause-written g c =
-    let none : c.loop-choice.room ≡ Some 0 = no_room _ c.if-eq.ensures in
-    let page = full _ c.loop-choice.invariant.0 _ _ c.in-Some.ensures.first none c.requires.limit in
-    ends _ (wrote_as (ap (λ p. flat_map (line c.args.table.now) p.choices) (sym page)) c.loop-choice.invariant.0.written)
+returns-then-eq-clause-written g c = grind (arith, common_steps, no_room, full, ends, wrote_as)
 
 pub write_line-requires : goal.write_line-requires
 write_line-requires g c =

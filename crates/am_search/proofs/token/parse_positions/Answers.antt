@@ -9,7 +9,7 @@ use Rattle.std.proofs.lemmas.Grind.{common_steps}
 use Rattle.am_universe.specs.Universe.{Label, sizes}
 use Rattle.am_search.proofs.Positions.{pieces_of, decimal-injective}
 use Rattle.am_search.proofs.Odometer.{admits_at_most}
-use Rattle.am_search.proofs.TokenTexts.{IsNext, next_piece, all_read, piece_read, seam, sizes_of_universe}
+use Rattle.am_search.proofs.TokenTexts.{next_piece, all_read, piece_read, seam, sizes_of_universe}
 use Rattle.am_search.proofs.token.parse_positions.Goals as goal
 
 pub loop-part-init : goal.loop-part-init
@@ -26,24 +26,18 @@ pub returns-then-len : goal.returns-then-len
 returns-then-len c = λ d a e.
     let u = c.args.universe.now in
     let ns = sizes u in
-    let text = c.args.text.now in
-    let some : 0 < length text = grind (arith, nat_tests) in
-    let next : IsNext (split_steps FindsChar (λ a b. b ≡ a)) text c.loop-part.prefix c.in-Some.part.now c.next.new.self =
-    next_piece _ ns text _ _ _ c.in-Some.part c.loop-part.invariant c.in-Some.ensures.steps in
-    let at = seam _ ns text c.loop-part.prefix _ d _ (sizes_of_universe u c.len-in-loop-part.ensures.universe).values some next a e in
+    let some : 0 < length c.args.text.now = grind (arith, nat_tests) in
+    let at = seam (split_steps FindsChar (λ a b. b ≡ a)) ns c.args.text.now c.loop-part.prefix d _ c.next.new.self c.in-Some.part (sizes_of_universe u c.len-in-loop-part.ensures.universe).values some c.loop-part.invariant c.in-Some.ensures.steps a e in
     omega (arith, at.label, length-map u (λ (l : Label). length l.values))
 
 pub returns-in_err-position : goal.returns-in_err-position
 returns-in_err-position c =
     let u = c.args.universe.now in
     let ns = sizes u in
-    let text = c.args.text.now in
-    let some : 0 < length text = grind (arith, nat_tests) in
-    let next : IsNext (split_steps FindsChar (λ a b. b ≡ a)) text c.loop-part.prefix c.in-Some.part.now c.next.new.self =
-    next_piece _ ns text _ _ _ c.in-Some.part c.loop-part.invariant c.in-Some.ensures.steps in
+    let some : 0 < length c.args.text.now = grind (arith, nat_tests) in
     let none = rw c.in_err-position.was at c.parse_position.ensures in
     rw c.from_residual.ensures (λ d a e.
-    let at = seam _ ns text c.loop-part.prefix _ d _ (sizes_of_universe u c.len-in-loop-part.ensures.universe).values some next a e in
+    let at = seam (split_steps FindsChar (λ a b. b ≡ a)) ns c.args.text.now c.loop-part.prefix d _ c.next.new.self c.in-Some.part (sizes_of_universe u c.len-in-loop-part.ensures.universe).values some c.loop-part.invariant c.in-Some.ensures.steps a e in
     none at.position (omega (arith, at.below, at.limit)) at.is)
 
 pub size-requires : goal.size-requires
@@ -53,12 +47,9 @@ pub returns-then-from-size : goal.returns-then-from-size
 returns-then-from-size c = λ d a e.
     let u = c.args.universe.now in
     let ns = sizes u in
-    let text = c.args.text.now in
-    let some : 0 < length text = grind (arith, nat_tests) in
-    let next : IsNext (split_steps FindsChar (λ a b. b ≡ a)) text c.loop-part.prefix c.in-Some.part.now c.next.new.self =
-    next_piece _ ns text _ _ _ c.in-Some.part c.loop-part.invariant c.in-Some.ensures.steps in
+    let some : 0 < length c.args.text.now = grind (arith, nat_tests) in
     let position = rw c.in_ok-position.was at c.parse_position.ensures in
-    let at = seam _ ns text c.loop-part.prefix _ d _ (sizes_of_universe u c.len-in-loop-part.ensures.universe).values some next a e in
+    let at = seam (split_steps FindsChar (λ a b. b ≡ a)) ns c.args.text.now c.loop-part.prefix d _ c.next.new.self c.in-Some.part (sizes_of_universe u c.len-in-loop-part.ensures.universe).values some c.loop-part.invariant c.in-Some.ensures.steps a e in
     let same : at.position ≡ c.in_ok-position.position = decimal-injective at.position c.in_ok-position.position (omega (arith, at.below, at.limit)) (omega arith) (at.is ∙ sym position) in
     let size : slice_index ns (length c.loop-part.prefix) ≡ c.size.result = get_or_from_slice_get ns (length c.loop-part.prefix) c.size.result 0 (rw c.len-in-loop-part-2.ensures.len at c.size.ensures.size) in
     omega (arith, at.below, size, same)

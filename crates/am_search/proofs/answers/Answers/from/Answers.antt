@@ -1,7 +1,7 @@
 use Rattle.std.proofs.Common.{arith}
 use Rattle.std.proofs.lemmas.Grind.{common_steps}
 use Rattle.am_search.proofs.VisitsGive.{visited_give}
-use Rattle.am_search.proofs.WalkSteps.{walk_begins, nothing_given}
+use Rattle.am_search.proofs.WalkSteps.{walk_begins}
 use Rattle.am_search.proofs.WalkBudgets.{left_first}
 use Rattle.am_search.proofs.answers.Answers.from.Goals as goal
 
@@ -15,4 +15,4 @@ invariant_of-result g c =
     }
 
 pub returns-clause-left : goal.returns-clause-left
-returns-clause-left g c = λ none. grind (arith, common_steps, nothing_given, visited_give)
+returns-clause-left g c = λ none. grind (arith, common_steps, visited_give)

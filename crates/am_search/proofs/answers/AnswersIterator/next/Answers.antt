@@ -1,4 +1,4 @@
-use Rattle.std.proofs.Common.{rules, ◌≡◌, ◌++◌, ◌∷◌, [], ℕ, List, length, drop, ap, sym, subst, ◌∙◌, arith}
+use Rattle.std.proofs.Common.{rules, ◌≡◌, ◌++◌, ◌∷◌, [], ℕ, List, ap, sym, subst, ◌∙◌, arith}
 use Rattle.std.proofs.lemmas.Grind.{common_steps}
 use Rattle.am_universe.specs.Choice.{IsWhole}
 use Rattle.am_search.specs.Visits.{given_under, BeginsWithLast}
@@ -16,11 +16,7 @@ returns-in-Giving-clause-first g c =
     let front = given_front new.budget new.left new.walk new.steps in
     let all : List (List ℕ) = given_under ns v new.start new.budget in
     let now_given : new.given.items ≡ old.given.items ++ c.give_next.result ∷ [] = c.give_next.ensures.given ∙ ap (λ l. l ++ c.give_next.result ∷ []) c.loop-self.invariant.given in
-    ap (λ j. drop (length old.given.items) (given_under (g.J.Judge.sizes j) (g.J.Judge.verdict j) old.start old.budget)) (sym (c.give_next.ensures.judge ∙ c.loop-self.invariant.judge))
-    ∙ ap (λ s. drop (length old.given.items) (given_under ns v s old.budget)) (sym (c.give_next.ensures.start ∙ c.loop-self.invariant.start))
-    ∙ ap (λ b. drop (length old.given.items) (given_under ns v new.start b)) (sym (c.give_next.ensures.budget ∙ c.loop-self.invariant.budget))
-    ∙ left_one old.given.items front.of_all.0 all c.give_next.result (ap (λ l. l ++ front.of_all.0) (sym now_given) ∙ front.of_all.1)
-    ∙ ap (λ l. c.give_next.result ∷ drop (length l) all) (sym now_given)
+    grind (arith, common_steps, left_one)
 
 pub returns-in-Giving-clause-fewer : goal.returns-in-Giving-clause-fewer
 returns-in-Giving-clause-fewer g c = progress answers_left _ _ _ (returns-in-Giving-clause-first g c)
