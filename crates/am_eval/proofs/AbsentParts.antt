@@ -1,12 +1,13 @@
 -- No alert ends at a route that the configuration does not have, or goes to such a receiver.
 use Rattle.std.proofs.Common.{◌≡◌, ◌≤◌, ◌<◌, ℕ, zero, suc, List, [], ◌∷◌, ◌++◌, length}
-use Rattle.std.proofs.Common.{Some, None, true, refl, sym, subst, ◌∙◌, arith}
+use Rattle.std.proofs.Common.{Some, None, true, refl, sym, ◌∙◌, arith}
 use Rattle.std.specs.Prelude.{slice_get, IsTrue, IsFalse, nat_lt}
 use Rattle.std.proofs.lemmas.Bool.{and_parts, false_from_ne_true, ltb-true}
 use Rattle.std.proofs.lemmas.Option.{option_and_then_some, same_Some}
+use Rattle.std.proofs.lemmas.Grind.{common_steps}
 use Rattle.am_universe.specs.LabelSet.{LabelMap}
 use Rattle.am_config.specs.ConfigFile.{RouteTree, Routes, route, no_routes, next_route, receiver_of}
-use Rattle.am_config.specs.ConfigFile.{IsConfig, children_of, has_receivers_below}
+use Rattle.am_config.specs.ConfigFile.{IsConfig, has_receivers_below}
 use Rattle.am_config.specs.ConfigFile.{have_receivers_below}
 use Rattle.am_config.specs.Path.{list_of, route_at}
 use Rattle.am_eval.specs.World.{World}
@@ -20,12 +21,7 @@ use Rattle.am_eval.proofs.SimpleParts.{ends_there, goes_there}
 on_the_way : (path below : List ℕ) (t u : RouteTree) → route_at t (path ++ below) ≡ Some u
     → (v : RouteTree) × (route_at t path ≡ Some v)
 on_the_way [] below t u e = (t, refl)
-on_the_way (p ∷ path) below t u e =
-    option_and_then_some (λ child. route_at child (path ++ below))
-    (slice_get (list_of (children_of t)) p) u e
-    (λ child is further.
-    let r = on_the_way path below child u further in
-    (r.0, rw is r.1))
+on_the_way (p ∷ path) below t u e = grind (arith, common_steps, option_and_then_some, on_the_way path below)
 
 no_way_there : (w : World) (s : LabelMap) (path : List ℕ) → route_at w.config.root path ≡ None
     → IsTrue (holds_of w (Route Enters path) s) → ⊥
@@ -49,19 +45,13 @@ no_route_there w s Enters path none =
 among_children : (n : ℕ) (ts : Routes) (p : ℕ) (t : RouteTree) → have_receivers_below n ts ≡ true
     → slice_get (list_of ts) p ≡ Some t → has_receivers_below n t ≡ true
 among_children n no_routes p t h e = absurd (cc)
-among_children n (next_route u ts) zero t h e =
-    let same : u ≡ t = cc in
-    subst (λ (x : RouteTree). has_receivers_below n x ≡ true) same
-    (and_parts (has_receivers_below n u) (have_receivers_below n ts) h).0
+among_children n (next_route u ts) zero t h e = grind (arith, common_steps, and_parts)
 among_children n (next_route u ts) (suc p) t h e =
     among_children n ts p t (and_parts (has_receivers_below n u) (have_receivers_below n ts) h).1 e
 
 pub receiver_below : (n : ℕ) (path : List ℕ) (t u : RouteTree) → has_receivers_below n t ≡ true
     → route_at t path ≡ Some u → receiver_of u < n
-receiver_below n [] (route settings children) u h e =
-    let first = (and_parts (nat_lt settings.receiver n) (have_receivers_below n children) h).0 in
-    subst (λ (x : RouteTree). receiver_of x < n) (same_Some (route settings children) u e)
-    (ltb-true settings.receiver n first)
+receiver_below n [] (route settings children) u h e = grind (arith, common_steps, and_parts, same_Some, ltb-true)
 receiver_below n (p ∷ path) (route settings children) u h e =
     let later = (and_parts (nat_lt settings.receiver n) (have_receivers_below n children) h).1 in
     option_and_then_some (λ child. route_at child path) (slice_get (list_of children) p) u e
@@ -71,8 +61,4 @@ receiver_below n (p ∷ path) (route settings children) u h e =
 pub no_receiver_there : (w : World) (s : LabelMap) (receiver : ℕ) → IsConfig w.config
     → length w.config.receivers ≤ receiver → IsFalse (holds_of w (Receiver receiver) s)
 no_receiver_there w s receiver sound beyond =
-    false_from_ne_true (holds_of w (Receiver receiver) s) (λ h.
-    let c = w.config in
-    let r = (goes_there s c receiver).0 h in
-    let below = receiver_below (length c.receivers) r.0 c.root r.1 sound.receivers_declared r.3 in
-    absurd (omega (arith, r.4, below, beyond)))
+    grind (arith, common_steps, false_from_ne_true, goes_there, receiver_below)

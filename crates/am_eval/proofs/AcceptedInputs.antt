@@ -1,6 +1,7 @@
 -- Inputs that are accepted have no first fault, except a pattern that the engine may refuse.
 use Rattle.std.proofs.Common.{◌≡◌, ℕ, List, [], ◌∷◌, ◌++◌, length, Option, None, Some}
 use Rattle.std.proofs.Common.{sym, ap, ◌∙◌, inl, inr, arith}
+use Rattle.std.proofs.lemmas.Grind.{common_steps}
 use Rattle.am_universe.specs.declared.kind.Kind.TheVariants as kinds
 use Rattle.am_universe.specs.declared.place.Place.{Place}
 use Rattle.am_universe.specs.LabelSet.{LabelMap}
@@ -84,12 +85,7 @@ one_world inputs w x said again =
     let alerts : w.alerts ≡ x.alerts = alerts_once inputs.alerts w.alerts x.alerts said.accepts_files.says_alerts
     again.accepts_files.says_alerts in
     let instant : w.instant ≡ x.instant = said.asks_instant ∙ sym again.asks_instant in
-    λ k. record {
-      config = config k;
-      silences = silences k;
-      alerts = alerts k;
-      instant = instant k;
-    }
+    grind (arith, common_steps)
 
 instant_accepted : (silences at : Option (List ℕ)) (r : Refusal)
     → instant_fault silences at ≡ None → InstantRefusedFor silences at r → ⊥

@@ -1,12 +1,13 @@
 -- The answers are the choices that satisfy the question, in order.
-use Rattle.std.proofs.Common.{◌≡◌, ◌↔◌, ℕ, Bool, true, false, cond, List, [], ◌∷◌, Contains}
-use Rattle.std.proofs.Common.{ap, refl}
+use Rattle.std.proofs.Common.{◌≡◌, ◌↔◌, ℕ, Bool, true, List, [], ◌∷◌, Contains, arith}
+use Rattle.std.proofs.Common.{refl}
 use Rattle.std.specs.Prelude.{◌&&◌}
 use Rattle.std.specs.List.{filter}
 use Rattle.std.specs.List.Sorted.{IsStrictlySortedBy}
 use Rattle.std.specs.Ordering.{nat_cmp}
 use Rattle.std.specs.Cmp.Lexicographic.{slice_cmp}
 use Rattle.std.proofs.lemmas.List.Kept.{IsStrictlySortedBy-filter}
+use Rattle.std.proofs.lemmas.Grind.{common_steps}
 use Rattle.am_universe.specs.Universe.{sizes}
 use Rattle.am_universe.specs.Choice.{choices}
 use Rattle.am_universe.specs.LabelSet.{label_set_of}
@@ -39,20 +40,10 @@ answers_sorted s w question =
     (space_choices_sorted s)
 
 -- two filters, one after the other, keep what passes both tests
-twice_step : {X : Type 0} (first second : X → Bool) (x : X) (kept both : List X) (a b : Bool)
-    → first x ≡ a → second x ≡ b → filter second kept ≡ both
-    → filter second (cond a (x ∷ kept) kept) ≡ cond (second x && first x) (x ∷ both) both
-twice_step first second x kept both true true e f rest = rw (e, f) (ap (λ ks. x ∷ ks) rest)
-twice_step first second x kept both true false e f rest = rw (e, f) rest
-twice_step first second x kept both false true e f rest = rw (e, f) rest
-twice_step first second x kept both false false e f rest = rw (e, f) rest
-
 filter_twice : {X : Type 0} (first second : X → Bool) (xs : List X)
     → filter second (filter first xs) ≡ filter (λ x. second x && first x) xs
 filter_twice first second [] = refl
-filter_twice first second (x ∷ xs) =
-    twice_step first second x (filter first xs) (filter (λ y. second y && first y) xs) (first x)
-    (second x) refl refl (filter_twice first second xs)
+filter_twice first second (x ∷ xs) = grind (arith, common_steps, filter_twice first second xs)
 
 -- the answers are the whole choices of the labels that pass the test `is_answer`
 pub answers_of_all : (s : Space) (w : World) (question : Question)

@@ -1,15 +1,15 @@
 -- A simple part of a question is true exactly if its condition is. And two alerts, each in a world,
 -- have the same properties if both are silenced or neither is, and both are inhibited or neither
 -- is.
-use Rattle.std.proofs.Common.{◌≡◌, Bool, true, false, ◌&&◌, ◌||◌, refl}
+use Rattle.std.proofs.Common.{◌≡◌, Bool, true, false, ◌&&◌, ◌||◌, refl, arith}
+use Rattle.std.proofs.lemmas.Grind.{common_steps}
 use Rattle.am_universe.specs.LabelSet.{LabelMap}
-use Rattle.am_labels.specs.Matcher.{all_hold}
 use Rattle.am_eval.specs.World.{World}
-use Rattle.am_eval.specs.declared.property.Property.TheVariants.{Any, Silenced, Inhibited}
+use Rattle.am_eval.specs.declared.property.Property.TheVariants.{Silenced, Inhibited}
 use Rattle.am_eval.specs.declared.property.Property.{Property}
 use Rattle.am_eval.specs.Silencing.{is_silenced}
 use Rattle.am_eval.specs.Inhibition.{is_inhibited}
-use Rattle.am_eval.specs.Question.{Simple, Is, Receiver, Route, Braces, has_property, holds_of}
+use Rattle.am_eval.specs.Question.{Simple, has_property, holds_of}
 use Rattle.am_eval.specs.Conditions.{literal_holds, some_way_holds, conditions_of}
 use Rattle.am_eval.proofs.RouteConditions.{route_condition, receiver_condition}
 use Rattle.am_eval.proofs.HidingConditions.{silenced_condition, inhibited_condition}
@@ -20,12 +20,8 @@ one_list false = refl
 
 pub exactly : (w : World) (s : LabelMap) (simple : Simple)
     → holds_of w simple s ≡ some_way_holds (literal_holds s) (conditions_of w simple)
-exactly w s (Is Any) = refl
-exactly w s (Is Silenced) = silenced_condition w s
-exactly w s (Is Inhibited) = inhibited_condition w s
-exactly w s (Receiver receiver) = receiver_condition w s receiver
-exactly w s (Route reach path) = route_condition w s reach path
-exactly w s (Braces matchers) = one_list (all_hold s matchers)
+exactly w s simple =
+    grind (arith, common_steps, silenced_condition, inhibited_condition, receiver_condition, route_condition, one_list)
 
 pub same_property : (w v : World) (s t : LabelMap) (property : Property)
     → is_silenced w s ≡ is_silenced v t → is_inhibited w s ≡ is_inhibited v t

@@ -1,7 +1,8 @@
 -- The first fault of some stages, if more stages come before or after them.
-use Rattle.std.proofs.Common.{◌≡◌, List, [], ◌∷◌, ◌++◌, inl, inr, Result, Ok, Err, IfErr}
+use Rattle.std.proofs.Common.{◌≡◌, List, [], ◌∷◌, ◌++◌, inl, inr, Result, Ok, Err, IfErr, arith}
 use Rattle.std.proofs.Common.{sym, subst}
 use Rattle.std.specs.Result.{IsErrAnd}
+use Rattle.std.proofs.lemmas.Grind.{common_steps}
 use Rattle.am_universe.specs.declared.fault.Fault.{Fault}
 use Rattle.am_universe.specs.declared.place.Place.{Place}
 use Rattle.am_json.specs.Pointer.{Refusal}
@@ -9,7 +10,7 @@ use Rattle.am_universe.specs.LabelSet.{LabelMap}
 use Rattle.am_list_files.specs.SilencesFile.{Silence}
 use Rattle.am_config.specs.ConfigFile.{Configuration, FileSaysConfig}
 use Rattle.am_eval.specs.World.{World}
-use Rattle.am_eval.specs.Faults.{Stage, IsFirstFaultOfCall, SaysFewPairs, instant_stage}
+use Rattle.am_eval.specs.Faults.{Stage, IsFirstFaultOfCall, SaysFewPairs}
 use Rattle.am_eval.specs.Files.{Files, config_of, SaysSilencesIfAny, SaysAlertsIfAny}
 use Rattle.am_eval.specs.AcceptedWorld.{AcceptsFiles, AcceptsWorld, file_stages, pair_stages, timeless_stages, world_stages}
 
@@ -24,13 +25,7 @@ first_of_more (stage ∷ stages) later place r (inr behind) =
 -- files that are accepted say few pairs
 says_few : (files : Files) (world : World) → AcceptsFiles files world
     → SaysFewPairs (config_of files.config) files.alerts
-says_few files world accepts = record {
-  configuration = world.config;
-  says_config = accepts.says_config;
-  alerts = world.alerts;
-  says_alerts = accepts.says_alerts;
-  few = accepts.few_pairs;
-}
+says_few files world accepts = grind (arith, common_steps)
 
 -- if the files say something, a first fault of the later stages is one of all stages
 pub behind_read : (files : Files) (configuration : Configuration) (silences : List Silence)
@@ -59,10 +54,7 @@ first_behind_timeless files world later place r accepts behind =
 pub first_behind_world : (files : Files) (world : World) (later : List Stage) (place : Place)
     (r : Refusal) → AcceptsWorld files world → IsFirstFaultOfCall later place r
     → IsFirstFaultOfCall (world_stages files ++ later) place r
-first_behind_world files world later place r accepts behind =
-    behind_files files world (instant_stage files.silences files.at ∷ pair_stages files ++ later)
-    place r accepts.accepts_files
-    (inr (accepts.has_instant, inr (says_few files world accepts.accepts_files, behind)))
+first_behind_world files world later place r accepts behind = grind (arith, common_steps, behind_files, says_few)
 
 -- what holds of a fault holds of the fault that `?` makes of it
 pub handed_on : {T : Type 0} (P : Fault → Type 0) (fault : Fault) (result : Result T Fault)

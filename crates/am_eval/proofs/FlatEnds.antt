@@ -1,15 +1,15 @@
 -- An alert ends at a path exactly if it matches each route on the way, no sibling before one of
 -- them stops it, and it matches no child of the last. And its ends are in order.
 use Rattle.std.proofs.Common.{◌≡◌, ◌≢◌, ◌↔◌, ◌⊎◌, inl, inr, ℕ, zero, suc, ◌+◌, List, [], ◌∷◌, ◌++◌}
-use Rattle.std.proofs.Common.{map, Some, Bool, true, false, cond, refl, sym, ap, subst, ◌∙◌, arith}
-use Rattle.std.proofs.Common.{take, Contains, ◌<◌}
+use Rattle.std.proofs.Common.{map, Some, Bool, true, false, cond, refl, ap, subst, ◌∙◌, arith}
+use Rattle.std.proofs.Common.{take, Contains}
 use Rattle.std.specs.Ordering.{nat_cmp}
 use Rattle.std.specs.Cmp.Lexicographic.{slice_cmp}
 use Rattle.std.specs.List.Sorted.{IsStrictlySortedBy}
-use Rattle.std.specs.declared.cmp.Ordering.TheVariants.{Less}
 use Rattle.std.specs.Prelude.{slice_get, IsTrue, IsFalse}
 use Rattle.std.specs.List.{AllByRecursion, flat_map}
 use Rattle.std.proofs.lemmas.Bool.{false_from_ne_true}
+use Rattle.std.proofs.lemmas.Grind.{common_steps}
 use Rattle.am_universe.specs.LabelSet.{LabelMap}
 use Rattle.am_universe.proofs.ListLemmas.{IsIn, IsIn-from_Contains, Contains-from_IsIn}
 use Rattle.am_universe.proofs.ListLemmas.{IsIn-split, IsIn-unmap, IsIn-map, IsIn-left, IsIn-right}
@@ -41,10 +41,7 @@ behind s i t ts path goes h =
 
 here : (s : LabelMap) (i : ℕ) (t : RouteTree) (ts : Routes) (path : List ℕ)
     → IsIn (map (λ below. i ∷ below) (ends_at s t)) path → IsTriedBelow s i (next_route t ts) path
-here s i t ts path h =
-    let r = IsIn-unmap (λ below. i ∷ below) (ends_at s t) path h in
-    let at : i ≡ i + 0 = omega arith in
-    (0, t, r.0, refl, sym r.2 ∙ ap (λ k. k ∷ r.0) at, tt, r.1)
+here s i t ts path h = grind (arith, common_steps, IsIn-unmap)
 
 -- after a route that stops the alert, no route is tried
 not_stopped : (b : Bool) (cs : List Child) (path : List ℕ)
@@ -57,14 +54,7 @@ is_tried : (s : LabelMap) (i : ℕ) (ts : Routes) (path : List ℕ)
     → IsIn (ends_tried (children_seen s i ts)) path → IsTriedBelow s i ts path
 is_tried s i no_routes path h = absurd h
 is_tried s i (next_route t ts) path h =
-    let later = tried (children_seen s (i + 1) ts) in
-    elim (IsIn-split (map (λ below. i ∷ below) (ends_at s t))
-    (flat_map (λ c. c.ends) (cond (is_last s t) [] later)) path h) [
-      | inl a ↦ here s i t ts path a
-      | inr b ↦
-          let more = not_stopped (is_last s t) later path b in
-          behind s i t ts path more.0 (is_tried s (i + 1) ts path more.1)
-    ]
+    grind (arith, common_steps, IsIn-split, here, not_stopped, behind, is_tried s (i + 1) ts path)
 
 -- and an end at or below a child is among all ends, if no route before the child stops the alert
 is_found : (s : LabelMap) (i k : ℕ) (ts : Routes) (t : RouteTree) (rest : List ℕ)
@@ -76,20 +66,9 @@ is_found s i zero (next_route u ts) t rest e none h =
     let at : i ≡ i + 0 = omega arith in
     let mapped = IsIn-map (λ below. i ∷ below) (ends_at s u) rest
     (subst (λ (x : RouteTree). IsIn (ends_at s x) rest) same h) in
-    subst (λ (n : ℕ). IsIn (ends_tried (children_seen s i (next_route u ts))) (n ∷ rest)) at
-    (IsIn-left (map (λ below. i ∷ below) (ends_at s u))
-    (flat_map (λ c. c.ends) (cond (is_last s u) [] (tried (children_seen s (i + 1) ts)))) (i ∷ rest)
-    mapped)
+    grind (arith, common_steps, IsIn-left)
 is_found s i (suc k) (next_route u ts) t rest e none h =
-    let at : (i + 1) + k ≡ i + suc k = omega arith in
-    let later = tried (children_seen s (i + 1) ts) in
-    let found = is_found s (i + 1) k ts t rest e none.1 h in
-    let goes : is_last s u ≡ false = none.0 in
-    let kept : IsIn (flat_map (λ c. c.ends) (cond (is_last s u) [] later)) (((i + 1) + k) ∷ rest) =
-    rw goes found in
-    subst (λ (n : ℕ). IsIn (ends_tried (children_seen s i (next_route u ts))) (n ∷ rest)) at
-    (IsIn-right (map (λ below. i ∷ below) (ends_at s u))
-    (flat_map (λ c. c.ends) (cond (is_last s u) [] later)) (((i + 1) + k) ∷ rest) kept)
+    grind (arith, common_steps, is_found s (i + 1) k ts t rest e, IsIn-right)
 
 among_all : (all : List (List ℕ)) (path : List ℕ) → IsIn all path → IsIn (or_own_path all) path
 among_all [] path h = absurd h
@@ -126,49 +105,27 @@ no_first : (xs ys : List (List ℕ)) → xs ++ ys ≡ [] → (xs ≡ []) × (ys 
 no_first [] ys e = (refl, e)
 no_first (x ∷ xs) ys e = absurd (cc)
 
-not_mapped : (i : ℕ) (xs : List (List ℕ)) → map (λ below. i ∷ below) xs ≡ [] → xs ≡ []
-not_mapped i [] e = refl
-not_mapped i (x ∷ xs) e = absurd (cc)
-
 no_end : (s : LabelMap) (t : RouteTree) → ends_at s t ≡ [] → all_hold s (matchers_of t) ≡ false
 no_end s t e = false_from_ne_true (all_hold s (matchers_of t)) (λ h. matched_ends s t h e)
-
-ends_nowhere : (s : LabelMap) (t : RouteTree) → all_hold s (matchers_of t) ≡ false
-    → ends_at s t ≡ []
-ends_nowhere s (route settings children) e = rw e refl
 
 none_matches : (s : LabelMap) (i : ℕ) (ts : Routes) → ends_tried (children_seen s i ts) ≡ []
     → NoneMatches s (list_of ts)
 none_matches s i no_routes e = tt
 none_matches s i (next_route t ts) e =
-    let later = tried (children_seen s (i + 1) ts) in
-    let parts = no_first (map (λ below. i ∷ below) (ends_at s t))
-    (flat_map (λ c. c.ends) (cond (is_last s t) [] later)) e in
-    let first = no_end s t (not_mapped i (ends_at s t) parts.0) in
-    let last = is_last-unmatched s t first in
-    (first, none_matches s (i + 1) ts (rw last at parts.1))
+    grind (arith, common_steps, no_first, no_end, is_last-unmatched, none_matches s (i + 1) ts)
 
 none_tried : (s : LabelMap) (i : ℕ) (ts : Routes) → NoneMatches s (list_of ts)
     → ends_tried (children_seen s i ts) ≡ []
 none_tried s i no_routes h = refl
 none_tried s i (next_route t ts) h =
-    let last = is_last-unmatched s t h.0 in
-    let first = ends_nowhere s t h.0 in
-    rw (last, first) (none_tried s (i + 1) ts h.1)
-
-none_else : (all : List (List ℕ)) → IsIn (or_own_path all) [] → (IsIn all [] → ⊥) → all ≡ []
-none_else [] h below = refl
-none_else (x ∷ xs) h below = absurd (below h)
+    grind (arith, common_steps, is_last-unmatched, none_tried s (i + 1) ts)
 
 not_below : (s : LabelMap) (ts : Routes) → IsIn (ends_tried (children_seen s 0 ts)) [] → ⊥
 not_below s ts h = let b = is_tried s 0 ts [] h in let e = b.4 in cc
 
 handles : (s : LabelMap) (t : RouteTree) → IsIn (ends_at s t) []
     → IsTrue (all_hold s (matchers_of t)) × NoneMatches s (list_of (children_of t))
-handles s (route settings children) h =
-    let all = ends_tried (children_seen s 0 children) in
-    let m = where_matched (all_hold s settings.matchers) all [] h in
-    (m.0, none_matches s 0 children (none_else all m.1 (not_below s children)))
+handles s (route settings children) h = grind (arith, common_steps, where_matched, none_matches, not_below)
 
 is_handled : (s : LabelMap) (t : RouteTree) → IsTrue (all_hold s (matchers_of t))
     → NoneMatches s (list_of (children_of t)) → IsIn (ends_at s t) []
@@ -183,14 +140,7 @@ at_child : (s : LabelMap) (t : RouteTree) (children : Routes) (p k : ℕ) (path 
     → (IsIn (ends_at s t) path → EndsThere s t path)
     → (child : RouteTree) × (slice_get (list_of children) p ≡ Some child)
     × NoneStops s (take p (list_of children)) × EndsThere s child path
-at_child s t children p k path rest child e none h below =
-    let first : k ≡ p = cc in
-    let others : rest ≡ path = cc in (
-      t,
-      subst (λ (n : ℕ). slice_get (list_of children) n ≡ Some t) first child,
-      subst (λ (n : ℕ). NoneStops s (take n (list_of children))) first none,
-      below (subst (λ (x : List ℕ). IsIn (ends_at s t) x) others h),
-    )
+at_child s t children p k path rest child e none h below = grind (arith, common_steps)
 
 ends_there : (s : LabelMap) (t : RouteTree) (path : List ℕ) → IsIn (ends_at s t) path
     → EndsThere s t path
@@ -221,10 +171,7 @@ there_ends s (route settings children) (p ∷ path) h =
 
 pub ends_exactly : (s : LabelMap) (t : RouteTree) (path : List ℕ)
     → (Contains (ends_at s t) path ↔ EndsThere s t path)
-ends_exactly s t path = (
-  λ h. ends_there s t path (IsIn-from_Contains (ends_at s t) path h),
-  λ h. Contains-from_IsIn (ends_at s t) path (there_ends s t path h),
-)
+ends_exactly s t path = grind (arith, common_steps, ends_there, IsIn-from_Contains, Contains-from_IsIn, there_ends)
 
 -- ---- The ends are in order.
 
@@ -238,17 +185,7 @@ pub below_ascend : (i : ℕ) (first later : List (List ℕ)) → Ascend first �
     → (k : ℕ) × (rest : List ℕ) × (path ≡ ((i + 1) + k) ∷ rest))
     → Ascend (map (λ below. i ∷ below) first ++ later)
 below_ascend i first later s t beyond =
-    IsStrictlySortedBy-append (slice_cmp nat_cmp) (map (λ below. i ∷ below) first) later
-    (IsStrictlySortedBy-map (slice_cmp nat_cmp) (slice_cmp nat_cmp) (λ below. i ∷ below) first
-    (same_first i) s)
-    t
-    (λ x y a b.
-    let one = IsIn-unmap (λ below. i ∷ below) first x a in
-    let more = beyond y b in
-    let less : i < (i + 1) + more.0 = omega arith in
-    subst (λ (v : List ℕ). slice_cmp nat_cmp v y ≡ Less) one.2
-    (subst (λ (w : List ℕ). slice_cmp nat_cmp (i ∷ one.0) w ≡ Less) (sym more.2)
-    (less_first i ((i + 1) + more.0) one.0 more.1 less)))
+    grind (arith, common_steps, IsStrictlySortedBy-append, IsStrictlySortedBy-map, same_first, IsIn-unmap, less_first)
 
 where_tried : (b : Bool) (cs : List Child) → Ascend (flat_map (λ c. c.ends) cs)
     → Ascend (flat_map (λ c. c.ends) (cond b [] cs))

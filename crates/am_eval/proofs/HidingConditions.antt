@@ -1,21 +1,22 @@
 -- An alert is silenced exactly if some way to be silenced holds, and inhibited exactly if some way
 -- to be inhibited does.
-use Rattle.std.proofs.Common.{◌≡◌, List, ℕ, [], ◌∷◌, ◌++◌, map, Bool, true, false, cond, not, ◌&&◌}
-use Rattle.std.proofs.Common.{◌||◌, refl, sym, ap, ◌∙◌, inl, inr}
+use Rattle.std.proofs.Common.{◌≡◌, List, ℕ, [], ◌∷◌, map, Bool, true, false, not, ◌&&◌, rules}
+use Rattle.std.proofs.Common.{refl, sym, ◌∙◌, arith}
 use Rattle.std.specs.List.{filter, list_all, list_any}
 use Rattle.std.specs.Cmp.Lexicographic.{texts_ties}
 use Rattle.std.proofs.lemmas.Bool.{cases_Bool}
 use Rattle.std.proofs.lemmas.List.Folds.{list_all-append, list_all-map}
+use Rattle.std.proofs.lemmas.Grind.{common_steps}
 use Rattle.am_universe.specs.LabelSet.{LabelMap, value_of}
 use Rattle.am_universe.specs.Text.{same_text}
 use Rattle.am_universe.proofs.LabelMapLemmas.{flips}
-use Rattle.am_labels.specs.Matcher.{Condition, all_hold, condition_holds}
+use Rattle.am_labels.specs.Matcher.{all_hold, condition_holds}
 use Rattle.am_config.specs.ConfigFile.{Rule}
 use Rattle.am_list_files.specs.SilencesFile.{Silence}
 use Rattle.am_eval.specs.World.{World}
 use Rattle.am_eval.specs.Silencing.{is_active, is_silenced}
 use Rattle.am_eval.specs.Inhibition.{have_equal, inhibits, is_inhibited}
-use Rattle.am_eval.specs.Conditions.{literal_holds, some_way_holds, matching, not_matching}
+use Rattle.am_eval.specs.Conditions.{literal_holds, some_way_holds, matching}
 use Rattle.am_eval.specs.Conditions.{silencing_ways, same_value, inhibiting_way, inhibiting_ways}
 use Rattle.am_eval.proofs.SomeWay.{some_way-joined}
 
@@ -33,50 +34,23 @@ and_nothing : (b : Bool) → (b && true) ≡ b
 and_nothing true = refl
 and_nothing false = refl
 
--- if the target side matches the firing alert too, the source side must not match the other
-not_both_sides : (s : LabelMap) (source : List Condition) (both : Bool)
-    → list_all (literal_holds s) (cond both (not_matching source ∷ []) [])
-    ≡ not (both && all_hold s source)
-not_both_sides s source true = and_nothing (not (all_hold s source))
-not_both_sides s source false = refl
-
 -- the tests of a rule in the order of its definition, and in the order of its way
 in_order : (fires both matched other equal : Bool)
     → (fires && matched && equal && not ((fires && both) && (other && matched)))
     ≡ (fires && ((matched && equal) && not (both && other)))
-in_order false both matched other equal = refl
-in_order true both false other equal = refl
-in_order true both true other false = refl
-in_order true true true true true = refl
-in_order true true true false true = refl
-in_order true false true other true = refl
+in_order fires both matched other equal = grind (arith, common_steps)
 
 way_holds : (rule : Rule) (firing s : LabelMap)
     → inhibits rule firing s
     ≡ (all_hold firing rule.source && list_all (literal_holds s) (inhibiting_way rule firing))
-way_holds rule firing s =
-    let fires = all_hold firing rule.source in
-    let both = all_hold firing rule.target in
-    let other = all_hold s rule.source in
-    let matched = all_hold s rule.target in
-    let equal = have_equal rule.equal firing s in
-    let asked = map (same_value firing) rule.equal in
-    let values = list_all-append (condition_holds s) rule.target asked
-    ∙ ap (λ b. matched && b) (same_values firing s rule.equal) in
-    in_order fires both matched other equal
-    ∙ ap (λ b. fires && (b && not (both && other))) (sym values)
-    ∙ ap (λ b. fires && (all_hold s (rule.target ++ asked) && b))
-    (sym (not_both_sides s rule.source both))
+way_holds rule firing s = grind (arith, common_steps, list_all-append, same_values, in_order)
 
 -- ---- What passes two tests is one of those that pass the first, and passes the second.
 
 any_kept : {X Y : Type 0} (test : X → Bool) (f : X → Y) (says : Y → Bool) (xs : List X)
     → list_any (λ x. test x && says (f x)) xs ≡ list_any says (map f (filter test xs))
 any_kept test f says [] = refl
-any_kept test f says (x ∷ xs) = elim (cases_Bool (test x)) [
-  | inl passes ↦ rw passes (ap (λ b. says (f x) || b) (any_kept test f says xs))
-  | inr fails ↦ rw fails (any_kept test f says xs)
-]
+any_kept test f says (x ∷ xs) = grind (arith, common_steps, cases_Bool, any_kept test f says xs)
 
 pub silenced_condition : (w : World) (s : LabelMap)
     → is_silenced w s ≡ some_way_holds (literal_holds s) (silencing_ways w)
@@ -90,10 +64,7 @@ by_rule : (rule : Rule) (s : LabelMap) (alerts : List LabelMap)
     → list_any (λ firing. inhibits rule firing s) alerts
     ≡ some_way_holds (literal_holds s)
     (map (inhibiting_way rule) (filter (λ firing. all_hold firing rule.source) alerts))
-by_rule rule s alerts =
-    (λ i. list_any (λ firing. way_holds rule firing s i) alerts)
-    ∙ any_kept (λ firing. all_hold firing rule.source) (inhibiting_way rule)
-    (list_all (literal_holds s)) alerts
+by_rule rule s alerts = search (rules, way_holds, any_kept)
 
 pub inhibited_condition : (w : World) (s : LabelMap)
     → is_inhibited w s ≡ some_way_holds (literal_holds s) (inhibiting_ways w)

@@ -1,5 +1,5 @@
 -- What holds of inhibition: which alerts are muted, and by which rules and alerts.
-use Rattle.std.proofs.Common.{◌≡◌, ◌≢◌, ◌↔◌, ℕ, List, [], ◌∷◌, Some, Bool}
+use Rattle.std.proofs.Common.{◌≡◌, ◌≢◌, ◌↔◌, ℕ, List, [], ◌∷◌, Some, Bool, arith}
 use Rattle.std.proofs.Common.{true, false, ◌&&◌, not, Contains, map, refl, sym, subst, ◌∙◌}
 use Rattle.std.specs.Prelude.{slice_get, IsTrue, IsFalse}
 use Rattle.std.specs.Cmp.Lexicographic.{slice_cmp}
@@ -10,6 +10,7 @@ use Rattle.std.specs.declared.cmp.Ordering.{Ordering}
 use Rattle.std.proofs.lemmas.Bool.{and_parts}
 use Rattle.std.proofs.lemmas.List.Kept.{IsStrictlySortedBy-filter}
 use Rattle.std.proofs.lemmas.Slice.Eq.{bytes_eq-Decides}
+use Rattle.std.proofs.lemmas.Grind.{common_steps}
 use Rattle.am_universe.specs.LabelSet.{LabelMap, value_of}
 use Rattle.am_universe.specs.Text.{same_text}
 use Rattle.am_universe.proofs.ListLemmas.{IsIn, IsIn-from_Contains, Contains-from_IsIn, IsIn-map}
@@ -19,7 +20,7 @@ use Rattle.am_labels.specs.Matcher.{all_hold}
 use Rattle.am_config.specs.ConfigFile.{Rule}
 use Rattle.am_eval.specs.declared.pair.Pair.{Pair}
 use Rattle.am_eval.specs.World.{World}
-use Rattle.am_eval.specs.Inhibition.{have_equal, is_two_sided, inhibits, is_inhibited, inhibitors}
+use Rattle.am_eval.specs.Inhibition.{have_equal, inhibits, is_inhibited, inhibitors}
 use Rattle.am_eval.specs.Inhibition.{pair_inhibits}
 use Rattle.am_labels.proofs.Passing.{passes_from_kept, kept_from_passes}
 use Rattle.am_eval.proofs.PairLemmas.{is_pair, Keys, pairs_ascend}
@@ -46,27 +47,7 @@ pub as_the_rule_says : (rule : Rule) (firing s : LabelMap) → (IsTrue (inhibits
     ↔ (IsTrue (all_hold firing rule.source) × IsTrue (all_hold s rule.target)
     × AllByRecursion (λ name. value_of firing name ≡ value_of s name) rule.equal
     × (IsTrue (all_hold firing rule.target) → IsTrue (all_hold s rule.source) → ⊥)))
-as_the_rule_says rule firing s =
-    let source = all_hold firing rule.source in
-    let target = all_hold s rule.target in
-    let same = have_equal rule.equal firing s in
-    let spared = is_two_sided rule firing && is_two_sided rule s in (
-      λ h.
-          let parts = and_parts (source && target && same) (not spared) h in
-          let first = and_parts (source && target) same parts.0 in
-          let sides = and_parts source target first.0 in
-          let each = (equal_exactly rule.equal firing s).0 first.1 in (
-            sides.0,
-            sides.1,
-            each,
-            λ both other.
-                let none : not spared ≡ false = rw (sides.0, sides.1, both, other) refl in
-                absurd (cc),
-          ),
-      λ h.
-          let equal = (equal_exactly rule.equal firing s).1 h.2 in
-          rw (h.0, h.1, equal) (not_both (all_hold firing rule.target) (all_hold s rule.source) h.3),
-    )
+as_the_rule_says rule firing s = grind (arith, common_steps, and_parts, equal_exactly, not_both)
 
 -- ---- Inhibitors.
 
@@ -85,10 +66,7 @@ of_pair : (w : World) (s : LabelMap) (found : ℕ × ℕ) → IsIn (inhibitors w
     → (pair : Pair) × (position pair ≡ found) × IsIn (all_pairs w) pair
     × IsTrue (pair_inhibits w s pair)
 of_pair w s found h =
-    let one = IsIn-unmap position (by_pairs w s) found
-    (subst (λ (all : List (ℕ × ℕ)). IsIn all found) (inhibitors_of_pairs w s) h) in
-    let kept = passes_from_kept (pair_inhibits w s) (all_pairs w) one.0 one.1 in
-    (one.0, one.2, kept.0, kept.1)
+    grind (arith, common_steps, IsIn-unmap, position, inhibitors_of_pairs, passes_from_kept, all_pairs)
 
 abbrev IsInhibitor : World → LabelMap → ℕ → ℕ → Type 0
 IsInhibitor w s i j =

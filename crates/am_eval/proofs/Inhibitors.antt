@@ -1,13 +1,14 @@
 -- A rule and a firing alert inhibit an alert exactly if the pair of them does, so the pairs of a
 -- world are enough to look at.
-use Rattle.std.proofs.Common.{◌≡◌, inl, inr, ℕ, ◌+◌, ◌<◌, List, [], ◌∷◌, Some, Bool}
-use Rattle.std.proofs.Common.{true, false, length, get_or, cond, Contains, map, refl, sym, ap, ◌∙◌}
+use Rattle.std.proofs.Common.{◌≡◌, inl, inr, ℕ, ◌+◌, ◌<◌, List, [], ◌∷◌, Some, Bool, arith, rules}
+use Rattle.std.proofs.Common.{false, length, get_or, cond, Contains, map, refl, sym, ap, ◌∙◌}
 use Rattle.std.specs.Prelude.{slice_get, IsTrue}
 use Rattle.std.specs.List.{filter, flat_map, enumerate_from}
 use Rattle.std.proofs.lemmas.Bool.{true_from_ne_false, false≢true}
 use Rattle.std.proofs.lemmas.List.{map-append}
 use Rattle.std.proofs.lemmas.List.Elements.{filter-append}
 use Rattle.std.proofs.lemmas.Option.{get_or_from_slice_get, same_Some, slice_get_within}
+use Rattle.std.proofs.lemmas.Grind.{common_steps}
 use Rattle.am_universe.specs.LabelSet.{LabelMap}
 use Rattle.am_universe.proofs.ListLemmas.{IsIn, IsIn-from_Contains}
 use Rattle.am_labels.specs.Matcher.{all_hold}
@@ -15,7 +16,7 @@ use Rattle.am_config.specs.ConfigFile.{Rule}
 use Rattle.am_eval.specs.declared.pair.Pair.{Pair}
 use Rattle.am_eval.specs.World.{World}
 use Rattle.am_eval.specs.Silencing.{positions_where}
-use Rattle.am_eval.specs.Pairs.{pair_of, pairs_of_rule, pairs_of}
+use Rattle.am_eval.specs.Pairs.{pair_of, pairs_of}
 use Rattle.am_eval.specs.Inhibition.{inhibits, inhibitors}
 use Rattle.am_eval.specs.Inhibition.{pair_inhibits}
 use Rattle.am_universe.proofs.Members.{item_at}
@@ -98,10 +99,7 @@ one_kept : {X Y Z : Type 0} (source muted : Bool) (test : Y → Bool) (f : ℕ �
     → map f is ≡ map g (filter test (map h xs)) → f i ≡ g (h x) → test (h x) ≡ muted
     → (source ≡ false → muted ≡ false)
     → map f (cond muted (i ∷ is) is) ≡ map g (filter test (map h (cond source (x ∷ xs) xs)))
-one_kept true true test f g h i x is xs later here passes only = rw (passes, here, later) refl
-one_kept true false test f g h i x is xs later here fails only = rw (fails, later) refl
-one_kept false true test f g h i x is xs later here passes only = absurd (cc (only refl))
-one_kept false false test f g h i x is xs later here fails only = later
+one_kept source muted test f g h i x is xs later here passes only = grind (arith, common_steps)
 
 abbrev pub position : Pair → ℕ × ℕ
 position pair = (pair.rule, pair.alert)
@@ -119,11 +117,7 @@ by_rule w s rule at_rule from (a ∷ alerts) each =
     let passes : pair_inhibits w s (pair_of rule (from, a)) ≡ inhibits rule.1 a s =
     at_pair w s rule.1 a (pair_of rule (from, a)) at_rule at_alert in
     let later = by_rule w s rule at_rule (from + 1) alerts (λ alert h. each alert (inr h)) in
-    one_kept (all_hold a rule.1.source) (inhibits rule.1 a s) (pair_inhibits w s)
-    (λ i. (rule.0, i)) position (pair_of rule) from (from, a)
-    (positions_where (λ b. inhibits rule.1 b s) (from + 1) alerts)
-    (filter (λ alert. all_hold alert.1 rule.1.source) (enumerate_from (from + 1) alerts))
-    later refl passes (unmatched rule.1 a s)
+    grind (arith, common_steps, one_kept, unmatched)
 
 joined_kept : {X Y Z : Type 0} (test : Y → Bool) (f : X → List Z) (g : Y → Z) (h : X → List Y)
     (xs : List X) → ((x : X) → IsIn xs x → f x ≡ map g (filter test (h x)))
@@ -135,8 +129,4 @@ joined_kept test f g h (x ∷ xs) each =
 
 pub inhibitors_of_pairs : (w : World) (s : LabelMap)
     → inhibitors w s ≡ map position (filter (pair_inhibits w s) (all_pairs w))
-inhibitors_of_pairs w s =
-    joined_kept (pair_inhibits w s)
-    (λ rule. map (λ i. (rule.0, i)) (positions_where (λ a. inhibits rule.1 a s) 0 w.alerts))
-    position (pairs_of_rule w.alerts) (enumerate_from 0 w.config.rules)
-    (λ rule h. by_rule w s rule (item_at w.config.rules rule h) 0 w.alerts (item_at w.alerts))
+inhibitors_of_pairs w s = search (rules, joined_kept, by_rule, item_at)

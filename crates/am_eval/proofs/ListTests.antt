@@ -1,9 +1,10 @@
 -- Tests of lists: that all items pass, or that some item does.
-use Rattle.std.proofs.Common.{◌≡◌, ◌≢◌, ◌↔◌, inl, List, [], ◌∷◌, Bool, Contains, refl}
+use Rattle.std.proofs.Common.{◌≢◌, ◌↔◌, inl, List, [], ◌∷◌, Bool, Contains, refl, arith}
 use Rattle.std.specs.Prelude.{IsTrue}
 use Rattle.std.specs.List.{AllByRecursion, list_all, list_any}
 use Rattle.std.proofs.lemmas.Bool.{and_parts, and_from}
 use Rattle.std.proofs.lemmas.List.Folds.{Any-from_list_any, list_any-from_Any}
+use Rattle.std.proofs.lemmas.Grind.{common_steps}
 use Rattle.am_universe.proofs.ListLemmas.{IsIn}
 
 -- all items pass a test exactly if `P` holds of all, where the test decides `P`
@@ -11,13 +12,7 @@ pub all_exactly : {X : Type 0} (test : X → Bool) (P : X → Type 0)
     → ((x : X) → IsTrue (test x) ↔ P x) → (xs : List X)
     → IsTrue (list_all test xs) ↔ AllByRecursion P xs
 all_exactly test P each [] = (λ h. tt, λ h. refl)
-all_exactly test P each (x ∷ xs) =
-    let later = all_exactly test P each xs in (
-      λ h.
-          let parts = and_parts (test x) (list_all test xs) h in
-          ((each x).0 parts.0, later.0 parts.1),
-      λ h. and_from (test x) (list_all test xs) ((each x).1 h.0) (later.1 h.1),
-    )
+all_exactly test P each (x ∷ xs) = grind (arith, common_steps, all_exactly test P each xs, and_parts, and_from)
 
 -- an item that passes, if some item does
 pub some_passes : {X : Type 0} (test : X → Bool) (xs : List X) → IsTrue (list_any test xs)

@@ -1,7 +1,8 @@
 -- Words spell at most one label set, and inputs that are accepted explain it in one way.
-use Rattle.std.proofs.Common.{◌≡◌, ℕ, List, ap, sym, ◌∙◌}
+use Rattle.std.proofs.Common.{◌≡◌, ℕ, List, arith}
+use Rattle.std.proofs.lemmas.Grind.{common_steps}
 use Rattle.am_universe.specs.LabelSet.{LabelMap}
-use Rattle.am_labels.specs.ParsedLabelSet.{WordsSpellSet, set_of_list}
+use Rattle.am_labels.specs.ParsedLabelSet.{WordsSpellSet}
 use Rattle.am_labels.proofs.MatcherTextWhole.{one_list_of_words}
 use Rattle.am_eval.specs.World.{World}
 use Rattle.am_eval.specs.Routing.{ends}
@@ -13,10 +14,7 @@ use Rattle.am_eval.proofs.AcceptedInputs.{one_world}
 
 pub one_set : (words : List (List ℕ)) (s t : LabelMap) → WordsSpellSet words s
     → WordsSpellSet words t → s ≡ t
-one_set words s t spelled again =
-    spelled.set_is
-    ∙ ap set_of_list (one_list_of_words words spelled.list again.list spelled.spelled again.spelled)
-    ∙ sym again.set_is
+one_set words s t spelled again = grind (arith, common_steps, one_list_of_words)
 
 -- the text that explains a label set in a world
 abbrev explained_in : World → LabelMap → List ℕ
@@ -28,7 +26,4 @@ one_explanation files words explanation other said again =
     let world : said.world ≡ again.world =
     one_world files said.world again.world said.accepts again.accepts in
     let set : said.set ≡ again.set = one_set words said.set again.set said.spelled again.spelled in
-    said.explanation
-    ∙ ap (λ (w : World). explained_in w said.set) world
-    ∙ ap (explained_in again.world) set
-    ∙ sym again.explanation
+    grind (arith, common_steps)

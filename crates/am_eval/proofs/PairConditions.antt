@@ -1,16 +1,17 @@
 -- The ways in which firing alerts inhibit are the ways of the pairs of a world, in the same order.
-use Rattle.std.proofs.Common.{◌≡◌, inl, inr, ℕ, ◌+◌, List, [], ◌∷◌, ◌++◌, Some, map}
-use Rattle.std.proofs.Common.{refl, ◌∙◌}
+use Rattle.std.proofs.Common.{◌≡◌, inl, inr, ℕ, ◌+◌, List, [], ◌∷◌, Some, map, arith, rules}
+use Rattle.std.proofs.Common.{refl}
 use Rattle.std.specs.Prelude.{slice_get}
 use Rattle.std.specs.List.{filter, flat_map, enumerate_from}
 use Rattle.std.proofs.lemmas.Bool.{cases_Bool}
 use Rattle.std.proofs.lemmas.List.{map-append}
+use Rattle.std.proofs.lemmas.Grind.{common_steps}
 use Rattle.am_universe.specs.LabelSet.{LabelMap}
 use Rattle.am_universe.proofs.ListLemmas.{IsIn}
 use Rattle.am_labels.specs.Matcher.{all_hold}
 use Rattle.am_config.specs.ConfigFile.{Rule}
 use Rattle.am_eval.specs.World.{World}
-use Rattle.am_eval.specs.Pairs.{pair_of, pairs_of_rule, pairs_of}
+use Rattle.am_eval.specs.Pairs.{pair_of, pairs_of}
 use Rattle.am_eval.specs.Conditions.{inhibiting_way, inhibiting_ways, pair_way}
 use Rattle.am_universe.proofs.Members.{item_at}
 use Rattle.am_eval.proofs.PairLemmas.{fires}
@@ -31,27 +32,16 @@ by_rule rules alerts rule at_rule from [] each = refl
 by_rule rules alerts rule at_rule from (a ∷ left) each =
     let here = at_pair rules alerts rule (from, a) at_rule (each (from, a) (inl refl)) in
     let later = by_rule rules alerts rule at_rule (from + 1) left (λ b h. each b (inr h)) in
-    elim (cases_Bool (all_hold a rule.1.source)) [
-      | inl fires ↦ rw (fires, here, later) refl
-      | inr quiet ↦ rw (quiet, later) refl
-    ]
+    grind (arith, common_steps, cases_Bool, fires)
 
 -- joining what numbered items give is joining what the items alone give
 joined : {X Y Z : Type 0} (f : X → List Z) (g : Y → Z) (h : ℕ × X → List Y) (from : ℕ) (xs : List X)
     → ((p : ℕ × X) → IsIn (enumerate_from from xs) p → map g (h p) ≡ f p.1)
     → map g (flat_map h (enumerate_from from xs)) ≡ flat_map f xs
 joined f g h from [] each = refl
-joined f g h from (x ∷ xs) each =
-    let later = joined f g h (from + 1) xs (λ p i. each p (inr i)) in
-    map-append g (h (from, x)) (flat_map h (enumerate_from (from + 1) xs))
-    ∙ (λ i. each (from, x) (inl refl) i ++ later i)
+joined f g h from (x ∷ xs) each = grind (arith, common_steps, joined f g h (from + 1) xs, map-append)
 
 pub ways_of_pairs : (w : World)
     → map (pair_way w.config.rules w.alerts) (pairs_of w.config.rules w.alerts)
     ≡ inhibiting_ways w
-ways_of_pairs w =
-    let rules = w.config.rules in
-    joined
-    (λ rule. map (inhibiting_way rule) (filter (λ firing. all_hold firing rule.source) w.alerts))
-    (pair_way rules w.alerts) (pairs_of_rule w.alerts) 0 rules
-    (λ rule h. by_rule rules w.alerts rule (item_at rules rule h) 0 w.alerts (item_at w.alerts))
+ways_of_pairs w = search (rules, joined, by_rule, item_at)

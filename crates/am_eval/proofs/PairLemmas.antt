@@ -2,7 +2,6 @@
 use Rattle.std.proofs.Common.{◌≡◌, ◌↔◌, ℕ, ◌+◌, ◌<◌, Bool, List, [], ◌∷◌, Some, Contains, map, subst}
 use Rattle.std.proofs.Common.{ap, sym, ◌∙◌, refl, arith}
 use Rattle.std.specs.Prelude.{slice_get, IsTrue}
-use Rattle.std.specs.Cmp.{nat_cmp_is}
 use Rattle.std.specs.Cmp.Lexicographic.{slice_cmp}
 use Rattle.std.specs.List.{flat_map, filter, enumerate_from}
 use Rattle.std.specs.List.Sorted.{IsStrictlySortedBy}
@@ -10,6 +9,7 @@ use Rattle.std.specs.Ordering.{nat_cmp, ordering_then}
 use Rattle.std.specs.declared.cmp.Ordering.{Ordering}
 use Rattle.std.specs.declared.cmp.Ordering.TheVariants.{Less, Equal, Greater}
 use Rattle.std.proofs.lemmas.List.Kept.{IsStrictlySortedBy-filter}
+use Rattle.std.proofs.lemmas.Grind.{common_steps}
 use Rattle.am_universe.specs.LabelSet.{LabelMap}
 use Rattle.am_universe.proofs.ChoiceLemmas.{same_first, less_first}
 use Rattle.am_universe.proofs.ListLemmas.{IsIn, IsIn-from_Contains, Contains-from_IsIn, IsIn-map}
@@ -62,11 +62,7 @@ pair_is rules alerts pair h =
 
 pub exactly : (rules : List Rule) (alerts : List LabelMap) (pair : Pair)
     → (Contains (pairs_of rules alerts) pair ↔ IsPair rules alerts pair)
-exactly rules alerts pair =
-    let pairs = pairs_of rules alerts in (
-      λ h. is_pair rules alerts pair (IsIn-from_Contains pairs pair h),
-      λ h. Contains-from_IsIn pairs pair (pair_is rules alerts pair h),
-    )
+exactly rules alerts pair = grind (arith, common_steps, is_pair, IsIn-from_Contains, Contains-from_IsIn, pair_is)
 
 -- ---- Their order.
 
@@ -77,12 +73,8 @@ pub numbers_ascend : {X : Type 0} (from : ℕ) (xs : List X)
     → IsStrictlySortedBy Numbers (enumerate_from from xs)
 unfolding IsStrictlySortedBy
 numbers_ascend from [] = tt
-numbers_ascend from (x ∷ xs) = (
-  AllByRecursion-each (λ q. Numbers (from, x) q ≡ Less) (enumerate_from (from + 1) xs) (λ q h.
-      let r = is_numbered (from + 1) xs q h in
-      let less : from < q.0 = omega (arith, r.1) in sym (nat_cmp_is from q.0 Less less)),
-  numbers_ascend (from + 1) xs,
-)
+numbers_ascend from (x ∷ xs) =
+    grind (arith, common_steps, AllByRecursion-each, is_numbered, numbers_ascend (from + 1) xs)
 
 -- lists of numbered items, joined end to end, ascend if each list does and is below the later ones
 joined_ascend : {X Y : Type 0} (R : Y → Y → Ordering) (f : ℕ × X → List Y)
@@ -92,13 +84,7 @@ joined_ascend : {X Y : Type 0} (R : Y → Y → Ordering) (f : ℕ × X → List
 unfolding IsStrictlySortedBy
 joined_ascend R f each below from [] = tt
 joined_ascend R f each below from (x ∷ xs) =
-    let later = enumerate_from (from + 1) xs in
-    IsStrictlySortedBy-append R (f (from, x)) (flat_map f later) (each (from, x))
-    (joined_ascend R f each below (from + 1) xs)
-    (λ a b i j.
-    let q = in_joined f later b j in
-    let r = is_numbered (from + 1) xs q.0 q.1 in
-    below (from, x) q.0 a b (omega (arith, r.1)) i q.2)
+    grind (arith, common_steps, IsStrictlySortedBy-append, joined_ascend R f each below (from + 1) xs, in_joined, is_numbered)
 
 alone_after : (o : Ordering) → ordering_then o Equal ≡ o
 alone_after Less = refl

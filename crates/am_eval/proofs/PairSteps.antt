@@ -1,10 +1,11 @@
 -- The steps of the loops that collect pairs: what is left is the item at a position and the items
 -- after it.
 use Rattle.std.proofs.Common.{◌≡◌, ℕ, ◌+◌, ◌<◌, true, false, List, [], ◌∷◌, ◌++◌, Some, map}
-use Rattle.std.proofs.Common.{length, drop, ap, ◌∙◌, refl, append_assoc, arith}
+use Rattle.std.proofs.Common.{length, drop, ◌∙◌, refl, append_assoc, arith}
 use Rattle.std.specs.Prelude.{slice_get}
 use Rattle.std.specs.List.{filter, flat_map, enumerate_from}
 use Rattle.std.proofs.lemmas.List.{length-append}
+use Rattle.std.proofs.lemmas.Grind.{common_steps}
 use Rattle.am_universe.specs.LabelSet.{LabelMap}
 use Rattle.am_labels.specs.Matcher.{Condition, all_hold}
 use Rattle.am_config.specs.ConfigFile.{Rule}
@@ -45,11 +46,7 @@ pair_of_sides rule i a pair e f says =
 pub one_too_many : (rule : ℕ × Rule) (found all : List Pair) (alerts : List LabelMap) (i n : ℕ)
     {a : LabelMap} → slice_get alerts i ≡ Some a → all_hold a rule.1.source ≡ true
     → length found ≡ n → found ++ pairs_from rule i alerts ≡ all → n < length all
-one_too_many rule found all alerts i n {a = a} here passes full e =
-    let rest = pairs_from rule (i + 1) alerts in
-    let pair = pair_of rule (i, a) in
-    let more : found ++ (pair ∷ rest) ≡ all = (rw (left_at alerts i a here, passes) refl) ∙ e in
-    omega (arith, length-append found (pair ∷ rest), ap length more, full)
+one_too_many rule found all alerts i n {a = a} here passes full e = grind (arith, common_steps, left_at, length-append)
 
 -- ---- Rules.
 

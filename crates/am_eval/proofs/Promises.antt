@@ -1,9 +1,10 @@
 -- When the promise of a call is kept.
 use Rattle.std.proofs.Common.{◌≡◌, ◌≢◌, ℕ, List, [], ◌∷◌, Bool, true, false, ◌&&◌, Result, Ok, Err}
-use Rattle.std.proofs.Common.{IfOk, inl, inr, refl, sym, subst, ◌∙◌}
+use Rattle.std.proofs.Common.{IfOk, inl, inr, refl, sym, subst, ◌∙◌, arith}
 use Rattle.std.specs.Prelude.{⊤}
 use Rattle.std.specs.Result.{IsErrAnd}
 use Rattle.std.proofs.lemmas.Bool.{and_parts}
+use Rattle.std.proofs.lemmas.Grind.{common_steps}
 use Rattle.am_universe.specs.declared.fault.Fault.{Fault}
 use Rattle.am_universe.specs.declared.kind.Kind.{Kind}
 use Rattle.am_universe.specs.declared.kind.Kind.TheVariants as kinds
@@ -12,9 +13,8 @@ use Rattle.am_universe.specs.declared.place.Place.TheVariants as places
 use Rattle.am_universe.specs.Sink.{Writes}
 use Rattle.am_universe.specs.WriteAnswer.{IsAnswerOfWrite}
 use Rattle.am_json.specs.Pointer.{Refusal}
-use Rattle.am_json.specs.Reading.{refusal_of}
 use Rattle.am_eval.specs.Faults.{Stage, IsFirstFaultOfCall, IsFirstFault}
-use Rattle.am_eval.specs.Promise.{Promise, any_answer, IsKept}
+use Rattle.am_eval.specs.Promise.{Promise, IsKept}
 
 -- ---- Faults of the input are none of writing, as these stand at the output.
 
@@ -39,13 +39,7 @@ stands_at_input (stage ∷ later) place r inputs (inr behind) =
 
 pub never_of_writing : (stages : List Stage) → read_inputs stages ≡ true → (fault : Fault)
     → IsFirstFault stages fault → fault.kind ≢ kinds.Write
-never_of_writing stages inputs fault first writing =
-    let at_output = (fault.placed.write writing).0 in
-    let other : fault.kind ≢ kinds.Memory = λ memory.
-    let both : kinds.Write ≡ kinds.Memory = sym writing ∙ memory in cc in
-    let both : false ≡ true = subst (λ (p : Place). is_input p ≡ true) at_output
-    (stands_at_input stages fault.place (refusal_of fault) inputs (first other)) in
-    cc
+never_of_writing stages inputs fault first writing = grind (arith, common_steps, stands_at_input)
 
 -- ---- The ends of a call.
 
@@ -55,47 +49,22 @@ module _ {A S : Type 0} (promise : Promise A) {taken : S → List ℕ} {failures
       → IsErrAnd result (λ f. f ≡ fault) → IsFirstFault promise.stages fault
       → IsKept promise taken failures s s result
   refused fault (Ok x) inputs is first = absurd is
-  refused {s} fault (Err f) inputs is first =
-      let same : IsFirstFault promise.stages f = subst (IsFirstFault promise.stages) (sym is) first in
-      record {
-        done = tt;
-        first = λ other. same;
-        untouched = λ other. refl;
-        write = λ writing. absurd (never_of_writing promise.stages inputs f same writing);
-      }
+  refused {s} fault (Err f) inputs is first = grind (arith, common_steps, never_of_writing)
 
   -- memory ran out, and nothing was written
   pub starved : {s : S} (fault : Fault) → fault.kind ≡ kinds.Memory → IsKept promise taken failures s s (Err fault)
-  starved fault memory = record {
-    done = tt;
-    first = λ other remembered. absurd (remembered memory);
-    untouched = λ other. refl;
-    write = λ writing. let both : kinds.Write ≡ kinds.Memory = sym writing ∙ memory in cc;
-  }
+  starved fault memory = grind (arith, common_steps)
 
   -- a text that may be written was written, whole or in part
   pub written : {old new : S} (answer : A) (text : List ℕ) (wrote : Result A Kind)
       (result : Result A Fault) → promise.May answer text → IfOk wrote (λ a. a ≡ answer)
       → Writes taken failures old new text wrote → IsAnswerOfWrite wrote result
       → IsKept promise taken failures old new result
-  written {old} {new} answer text (Ok a) (Ok b) may same writes is =
-      let told : b ≡ a = cc in
-      let both : b ≡ answer = told ∙ same in
-      record {
-        done = (text, subst (λ (x : A). promise.May x text) (sym both) may, writes.ok);
-        first = tt;
-        untouched = tt;
-        write = tt;
-      }
+  written {old} {new} answer text (Ok a) (Ok b) may same writes is = grind (arith, common_steps)
   written answer text (Ok a) (Err fault) may same writes is =
       let both : Err fault ≡ Ok a = is in absurd (cc)
   written answer text (Err kind) (Ok b) may same writes is = absurd is
-  written answer text (Err kind) (Err fault) may same writes is = record {
-    done = tt;
-    first = λ other. absurd (other is);
-    untouched = λ other. absurd (other is);
-    write = λ writing. (answer, (text, may, writes.err.1));
-  }
+  written answer text (Err kind) (Err fault) may same writes is = grind (arith, common_steps)
 
 -- a call whose answer says nothing answers `tt`
 pub nothing_told : (wrote : Result ⊤ Kind) → IfOk wrote (λ a. a ≡ tt)
@@ -108,48 +77,11 @@ pub kept_as : {A S : Type 0} (p q : Promise A) {taken : S → List ℕ} {failure
     {old new : S} (result : Result A Fault) → p.stages ≡ []
     → ((answer : A) (text : List ℕ) → p.May answer text → q.May answer text)
     → IsKept p taken failures old new result → IsKept q taken failures old new result
-kept_as p q (Ok answer) none may kept = record {
-  done = (kept.done.0, may answer kept.done.0 kept.done.1, kept.done.2);
-  first = tt;
-  untouched = tt;
-  write = tt;
-}
-kept_as p q (Err fault) none may kept = record {
-  done = tt;
-  first = λ other remembered. absurd (subst
-      (λ (stages : List Stage). IsFirstFaultOfCall stages fault.place (refusal_of fault)) none
-      (kept.first other remembered));
-  untouched = kept.untouched;
-  write = λ writing.
-      let told = kept.write writing in
-      (told.0, (told.1.0, may told.0 told.1.0 told.1.1, told.1.2));
-}
+kept_as p q (Ok answer) none may kept = grind (arith, common_steps)
+kept_as p q (Err fault) none may kept = grind (arith, common_steps)
 
 -- if two answers are the same, a call with one has the other
 pub told_as : {A : Type 0} (wrote : Result A Kind) {told answer : A} → told ≡ answer
     → IfOk wrote (λ a. a ≡ told) → IfOk wrote (λ a. a ≡ answer)
 told_as (Ok a) same is = is ∙ same
 told_as (Err kind) same is = tt
-
--- a call that keeps a promise keeps it for a caller that does not see the answer
-pub any_done : {A S : Type 0} (promise : Promise A) {taken : S → List ℕ} {failures : S → ℕ}
-    {old new : S} (answer : A) → IsKept promise taken failures old new (Ok answer)
-    → IsKept (any_answer promise) taken failures old new (Ok tt)
-any_done promise answer kept = record {
-  done = (kept.done.0, (answer, kept.done.1), kept.done.2);
-  first = tt;
-  untouched = tt;
-  write = tt;
-}
-
-pub any_failed : {A S : Type 0} (promise : Promise A) {taken : S → List ℕ} {failures : S → ℕ}
-    {old new : S} (fault : Fault) → IsKept promise taken failures old new (Err fault)
-    → IsKept (any_answer promise) taken failures old new (Err fault)
-any_failed promise fault kept = record {
-  done = tt;
-  first = kept.first;
-  untouched = kept.untouched;
-  write = λ writing.
-      let told = kept.write writing in
-      (tt, (told.1.0, (told.0, told.1.1), told.1.2));
-}

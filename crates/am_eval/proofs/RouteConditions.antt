@@ -1,18 +1,19 @@
 -- An alert ends at a route, enters it, or goes to a receiver, exactly if one of the ways there
 -- holds.
-use Rattle.std.proofs.Common.{◌≡◌, ◌↔◌, ℕ, List, [], ◌∷◌, ◌++◌, map, take, Bool, true, false}
-use Rattle.std.proofs.Common.{◌&&◌, ◌||◌, not, cond, Option, Some, None, refl, sym, ap, subst}
+use Rattle.std.proofs.Common.{◌≡◌, ◌↔◌, ℕ, List, [], ◌∷◌, ◌++◌, map, take, Bool, true, false, arith}
+use Rattle.std.proofs.Common.{◌&&◌, ◌||◌, not, cond, Option, Some, None, refl, sym, ap, rules}
 use Rattle.std.proofs.Common.{◌∙◌}
 use Rattle.std.specs.Prelude.{slice_get, IsTrue, IsFalse, ◌==◌}
-use Rattle.std.specs.List.{AllByRecursion, filter, list_all, list_any}
+use Rattle.std.specs.List.{AllByRecursion, list_all, list_any}
 use Rattle.std.proofs.lemmas.Bool.{and_parts, and_from, eqb-true, eq-eqb, not-true}
 use Rattle.std.proofs.lemmas.List.{append-nil}
 use Rattle.std.proofs.lemmas.List.Folds.{list_all-map}
+use Rattle.std.proofs.lemmas.Grind.{common_steps}
 use Rattle.am_universe.specs.LabelSet.{LabelMap}
 use Rattle.am_universe.specs.Text.{same_text}
 use Rattle.am_universe.proofs.ListLemmas.{Contains-from_IsIn}
 use Rattle.am_labels.specs.Matcher.{all_hold}
-use Rattle.am_config.specs.ConfigFile.{RouteTree, matchers_of, continues_of, children_of}
+use Rattle.am_config.specs.ConfigFile.{RouteTree, matchers_of, children_of}
 use Rattle.am_config.specs.ConfigFile.{Configuration, receiver_of}
 use Rattle.am_config.specs.Path.{list_of, route_at}
 use Rattle.am_config.specs.RoutePaths.{paths_of}
@@ -21,7 +22,7 @@ use Rattle.am_eval.specs.Routing.{ends_at, ends, receivers, is_last, EndsThere}
 use Rattle.am_eval.specs.declared.reach.Reach.{Reach}
 use Rattle.am_eval.specs.declared.reach.Reach.TheVariants.{Ends, Enters}
 use Rattle.am_eval.specs.Question.{Receiver, Route, holds_of}
-use Rattle.am_eval.specs.Conditions.{Literal, literal_holds, some_way_holds, matching, not_matching}
+use Rattle.am_eval.specs.Conditions.{Literal, literal_holds, some_way_holds, matching}
 use Rattle.am_eval.specs.Conditions.{stopped_by_none, no_child_of, asked_at, ways_into, ways_below}
 use Rattle.am_eval.specs.Conditions.{ways_to_reach, is_receiver, paths_to, ways_to_receiver}
 use Rattle.am_labels.proofs.Passing.{any_in, in_any, passes_from_kept, kept_from_passes}
@@ -34,10 +35,7 @@ use Rattle.am_eval.proofs.SomeWay.{some_way-literal, some_way-front, some_way-jo
 
 -- two tests that decide the same are the same
 pub same_test : {P : Type 0} (a b : Bool) → (IsTrue a ↔ P) → (IsTrue b ↔ P) → a ≡ b
-same_test true true h g = refl
-same_test true false h g = sym (g.1 (h.0 refl))
-same_test false true h g = h.1 (g.0 refl)
-same_test false false h g = refl
+same_test a b h g = grind (arith, common_steps)
 
 pub through : {P Q R : Type 0} → (P ↔ Q) → (Q ↔ R) → P ↔ R
 through first then = (λ h. then.0 (first.0 h), λ h. first.1 (then.1 h))
@@ -56,18 +54,12 @@ one_kept : {X : Type 0} (holds : Literal → Bool) (f : X → Literal) (matches 
     (x : X) (xs : List X) → holds (f x) ≡ not matches
     → list_all holds (map f (cond (not continues) (x ∷ xs) xs))
     ≡ (not (matches && not continues) && list_all holds (map f xs))
-one_kept holds f true true x xs e = refl
-one_kept holds f true false x xs e = ap (λ b. b && list_all holds (map f xs)) e
-one_kept holds f false true x xs e = refl
-one_kept holds f false false x xs e = ap (λ b. b && list_all holds (map f xs)) e
+one_kept holds f matches continues x xs e = grind (arith, common_steps)
 
 passing_holds : (s : LabelMap) (ts : List RouteTree)
     → list_all (literal_holds s) (stopped_by_none ts) ≡ list_all (λ t. not (is_last s t)) ts
 passing_holds s [] = refl
-passing_holds s (t ∷ ts) =
-    one_kept (literal_holds s) (λ u. not_matching (matchers_of u)) (all_hold s (matchers_of t))
-    (continues_of t) t (filter (λ u. not (continues_of u)) ts) refl
-    ∙ ap (λ b. not (is_last s t) && b) (passing_holds s ts)
+passing_holds s (t ∷ ts) = grind (arith, common_steps, one_kept, passing_holds s ts)
 
 passed : (s : LabelMap) (ts : List RouteTree)
     → AllByRecursion (λ t. IsFalse (is_last s t)) ts
@@ -77,10 +69,7 @@ passed s ts = none_passes (is_last s) ts _ (passing_holds s ts)
 no_child : (s : LabelMap) (t : RouteTree)
     → AllByRecursion (λ child. IsFalse (all_hold s (matchers_of child))) (list_of (children_of t))
     ↔ IsTrue (list_all (literal_holds s) (no_child_of t))
-no_child s t =
-    let children = list_of (children_of t) in
-    none_passes (λ child. all_hold s (matchers_of child)) children _
-    (list_all-map (literal_holds s) (λ u. not_matching (matchers_of u)) children)
+no_child s t = search (rules, none_passes, list_all-map)
 
 -- ---- Down by a path.
 
@@ -96,14 +85,7 @@ or_nothing false = refl
 there : (s : LabelMap) (reach : Reach) (t : RouteTree)
     → GoesDown s reach t []
     ↔ (IsTrue (all_hold s (matchers_of t)) × IsTrue (list_all (literal_holds s) (asked_at reach t)))
-there s reach t =
-    let holds = literal_holds s in
-    let matched = all_hold s (matchers_of t) in
-    let all = some_way-literal holds (matching (matchers_of t)) (asked_at reach t ∷ [])
-    ∙ ap (λ b. matched && b) (or_nothing (list_all holds (asked_at reach t))) in (
-      λ h. and_parts matched (list_all holds (asked_at reach t)) (sym all ∙ h),
-      λ h. all ∙ and_from matched (list_all holds (asked_at reach t)) h.0 h.1,
-    )
+there s reach t = grind (arith, common_steps, some_way-literal, or_nothing, and_parts, and_from)
 
 -- the path is not empty: a step down to a child
 some_route : (s : LabelMap) (further : RouteTree → List (List Literal)) (o : Option RouteTree)
@@ -131,18 +113,8 @@ further s reach t p path =
     let rest = some_way_holds holds (ways_into below (slice_get children p)) in
     let all = some_way-literal holds (matching (matchers_of t)) (ways_below reach t (p ∷ path))
     ∙ ap (λ b. matched && b)
-    (some_way-front holds before (ways_into below (slice_get children p))) in (
-      λ h.
-          let parts = and_parts matched (list_all holds before && rest) (sym all ∙ h) in
-          let more = and_parts (list_all holds before) rest parts.1 in
-          let child = some_route s below (slice_get children p) more.1 in
-          (parts.0, child.0, child.1, (passed s (take p children)).1 more.0, child.2),
-      λ h.
-          let goes : rest ≡ true =
-          ap (λ o. some_way_holds holds (ways_into below o)) h.2 ∙ h.4 in
-          all ∙ and_from matched (list_all holds before && rest) h.0
-          (and_from (list_all holds before) rest ((passed s (take p children)).0 h.3) goes),
-    )
+    (some_way-front holds before (ways_into below (slice_get children p))) in
+    grind (arith, common_steps, and_parts, some_route, passed, and_from)
 
 -- ---- To a route.
 
@@ -169,17 +141,8 @@ ReachesThere s reach t path =
 
 at_route : (s : LabelMap) (reach : Reach) (t : RouteTree)
     → ReachesThere s reach t [] ↔ GoesDown s reach t []
-at_route s Ends t =
-    let none = no_child s t in
-    let at = there s Ends t in (
-      λ h. let end = subst (EndsThere s t) h.1 h.2 in at.1 (end.0, none.0 end.1),
-      λ h. let parts = at.0 h in ([], refl, (parts.0, none.1 parts.1)),
-    )
-at_route s Enters t =
-    let at = there s Enters t in (
-      λ h. at.1 (matched_at_end s t h.0 h.2, refl),
-      λ h. let end = end_of_matched s t (at.0 h).0 in (end.0, tt, end.1),
-    )
+at_route s Ends t = grind (arith, common_steps, no_child, there)
+at_route s Enters t = grind (arith, common_steps, there, matched_at_end, end_of_matched)
 
 reached_by : (s : LabelMap) (reach : Reach) (t : RouteTree) (path : List ℕ)
     → ReachesThere s reach t path ↔ GoesDown s reach t path
@@ -197,16 +160,8 @@ reached_by s reach t (p ∷ path) =
 
 reached : (w : World) (s : LabelMap) (reach : Reach) (path : List ℕ)
     → IsTrue (holds_of w (Route reach path) s) ↔ ReachesThere s reach w.config.root path
-reached w s Ends path =
-    let root = w.config.root in
-    let end = through (ends_there w s path) (ends_exactly s root path) in (
-      λ h. ([], refl, rw append-nil (end.0 h)),
-      λ h. end.1 (rw (h.1, append-nil) at h.2),
-    )
-reached w s Enters path =
-    let end = λ (below : List ℕ).
-    through (ends_there w s (path ++ below)) (ends_exactly s w.config.root (path ++ below)) in
-    through (exactly w s path) (λ h. (h.0, tt, (end h.0).0 h.1), λ h. (h.0, (end h.0).1 h.2))
+reached w s Ends path = grind (arith, common_steps, through, ends_there, ends_exactly, append-nil)
+reached w s Enters path = grind (arith, common_steps, through, ends_there, ends_exactly, exactly)
 
 pub route_condition : (w : World) (s : LabelMap) (reach : Reach) (path : List ℕ)
     → holds_of w (Route reach path) s

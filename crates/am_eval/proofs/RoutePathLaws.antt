@@ -4,6 +4,7 @@ use Rattle.std.proofs.Common.{Option, Some, None, refl, sym, ap, subst, ◌∙�
 use Rattle.std.proofs.Common.{Contains}
 use Rattle.std.specs.Prelude.{slice_get}
 use Rattle.std.proofs.lemmas.Option.{option_and_then_some}
+use Rattle.std.proofs.lemmas.Grind.{common_steps}
 use Rattle.am_universe.proofs.ListLemmas.{IsIn, IsIn-from_Contains, Contains-from_IsIn, IsIn-left}
 use Rattle.am_universe.proofs.ListLemmas.{IsIn-right, IsIn-split, IsIn-map, IsIn-unmap}
 use Rattle.am_config.specs.ConfigFile.{RouteTree, Routes, route, no_routes, next_route}
@@ -21,10 +22,7 @@ IsBelow i ts path =
 
 here : (i : ℕ) (t : RouteTree) (ts : Routes) (path : List ℕ)
     → IsIn (map (λ below. i ∷ below) (paths_at t)) path → IsBelow i (next_route t ts) path
-here i t ts path h =
-    let r = IsIn-unmap (λ below. i ∷ below) (paths_at t) path h in
-    let at : i ≡ i + 0 = omega arith in
-    (0, t, r.0, refl, sym r.2 ∙ ap (λ k. k ∷ r.0) at, r.1)
+here i t ts path h = grind (arith, common_steps, IsIn-unmap)
 
 behind : (i : ℕ) (t : RouteTree) (ts : Routes) (path : List ℕ) → IsBelow (i + 1) ts path
     → IsBelow i (next_route t ts) path
@@ -36,11 +34,7 @@ pub is_below : (i : ℕ) (ts : Routes) (path : List ℕ) → IsIn (paths_from i 
     → IsBelow i ts path
 is_below i no_routes path h = absurd h
 is_below i (next_route t ts) path h =
-    elim (IsIn-split (map (λ below. i ∷ below) (paths_at t)) (paths_from (i + 1) ts) path
-    (subst (λ (paths : List (List ℕ)). IsIn paths path) (paths_next i t ts) h)) [
-      | inl a ↦ here i t ts path a
-      | inr b ↦ behind i t ts path (is_below (i + 1) ts path b)
-    ]
+    grind (arith, common_steps, IsIn-split, paths_from, paths_next, here, behind, is_below (i + 1) ts path)
 
 -- and a path that goes down to one of them is among all paths
 below_is : (i k : ℕ) (ts : Routes) (t : RouteTree) (rest : List ℕ)
@@ -55,11 +49,7 @@ below_is i zero (next_route u ts) t rest e h =
     subst (λ (n : ℕ). IsIn (paths_from i (next_route u ts)) (n ∷ rest)) at
     (subst (λ (paths : List (List ℕ)). IsIn paths (i ∷ rest)) (sym (paths_next i u ts)) (IsIn-left (map (λ below. i ∷ below) (paths_at u)) (paths_from (i + 1) ts) (i ∷ rest) mapped))
 below_is i (suc k) (next_route u ts) t rest e h =
-    let at : (i + 1) + k ≡ i + suc k = omega arith in
-    subst (λ (n : ℕ). IsIn (paths_from i (next_route u ts)) (n ∷ rest)) at
-    (subst (λ (paths : List (List ℕ)). IsIn paths (((i + 1) + k) ∷ rest)) (sym (paths_next i u ts))
-    (IsIn-right (map (λ below. i ∷ below) (paths_at u)) (paths_from (i + 1) ts)
-    (((i + 1) + k) ∷ rest) (below_is (i + 1) k ts t rest e h)))
+    grind (arith, common_steps, paths_from, paths_next, IsIn-right, below_is (i + 1) k ts t rest e h)
 
 -- ---- The paths are those of the routes.
 

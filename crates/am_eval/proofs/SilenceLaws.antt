@@ -1,14 +1,15 @@
 -- What holds of silences: which of them hide an alert, and at which instants.
 use Rattle.std.proofs.Common.{◌≡◌, ◌≢◌, ◌↔◌, ℕ, ◌+◌, ℤ, ◌≤ℤ◌, List, [], ◌∷◌, map, Option, Some}
-use Rattle.std.proofs.Common.{None, Bool, true, false, ◌&&◌, ◌||◌, not, refl, sym, ap, subst, ◌∙◌}
-use Rattle.std.proofs.Common.{◌==◌, ◌<ℤ◌, arith, Contains, inl, inr}
-use Rattle.std.specs.Prelude.{slice_get, int_lt, int_le, IsTrue, IsFalse}
+use Rattle.std.proofs.Common.{None, Bool, false, ◌&&◌, ◌||◌, not, refl, sym, ap, subst, ◌∙◌}
+use Rattle.std.proofs.Common.{◌<ℤ◌, arith, Contains}
+use Rattle.std.specs.Prelude.{slice_get, IsTrue, IsFalse}
 use Rattle.std.specs.List.{AllByRecursion, filter, list_any, enumerate_from}
 use Rattle.std.specs.List.Sorted.{IsStrictlySortedBy}
 use Rattle.std.specs.Ordering.{nat_cmp}
 use Rattle.std.proofs.lemmas.Bool.{cases_Bool, and_parts, and_from}
 use Rattle.std.proofs.lemmas.Int.{ints}
 use Rattle.std.proofs.lemmas.List.Kept.{IsStrictlySortedBy-filter}
+use Rattle.std.proofs.lemmas.Grind.{common_steps}
 use Rattle.am_universe.specs.LabelSet.{LabelMap, label_set_of}
 use Rattle.am_universe.proofs.ListLemmas.{IsIn, IsIn-from_Contains, Contains-from_IsIn, IsIn-map}
 use Rattle.am_universe.proofs.ListLemmas.{IsIn-unmap, IsStrictlySortedBy-map}
@@ -17,16 +18,13 @@ use Rattle.am_labels.specs.Matcher.{condition_holds, all_hold}
 use Rattle.am_labels.specs.Space.{Space, all_choices}
 use Rattle.am_labels.proofs.Passing.{any_in, in_any, passes_from_kept, kept_from_passes}
 use Rattle.am_list_files.specs.SilencesFile.{Silence}
-use Rattle.am_eval.specs.Conditions.{literal_holds, some_way_holds, matching}
-use Rattle.am_eval.specs.Routing.{ends, receivers}
 use Rattle.am_eval.specs.World.{World}
 use Rattle.am_eval.specs.Silencing.{is_active, hides, is_silenced, positions_where, silencers}
 use Rattle.am_eval.specs.Silencing.{at_instant, IsSteady}
 use Rattle.am_eval.specs.Tree.{Part, Not, And, Or}
-use Rattle.am_eval.specs.Inhibition.{inhibits}
 use Rattle.am_eval.specs.declared.property.Property.TheVariants.{Silenced}
-use Rattle.am_eval.specs.Question.{Question, Simple, Is, Receiver, Route, Braces, holds_of}
-use Rattle.am_eval.specs.Question.{reaches, satisfies, answers}
+use Rattle.am_eval.specs.Question.{Question, Simple, Is, holds_of}
+use Rattle.am_eval.specs.Question.{satisfies, answers}
 use Rattle.am_eval.proofs.ConditionLaws.{same_property}
 use Rattle.am_eval.proofs.HidingConditions.{silenced_condition}
 use Rattle.am_eval.proofs.ListTests.{some_passes, passes_among, one_of}
@@ -40,10 +38,7 @@ positions_are : {X : Type 0} (test : X → Bool) (from : ℕ) (xs : List X)
     → positions_where test from xs
     ≡ map (λ p. p.0) (filter (λ p. test p.1) (enumerate_from from xs))
 positions_are test from [] = refl
-positions_are test from (x ∷ xs) = elim (cases_Bool (test x)) [
-  | inl passes ↦ rw (passes, positions_are test (from + 1) xs) refl
-  | inr fails ↦ rw (fails, positions_are test (from + 1) xs) refl
-]
+positions_are test from (x ∷ xs) = grind (arith, common_steps, cases_Bool, positions_are test (from + 1) xs)
 
 module _ (w : World) (s : LabelMap) where
   -- the silences that hide an alert, each with its number
@@ -116,16 +111,6 @@ none_active instant (silence ∷ silences) e =
 pub no_instant : (w : World) (s : LabelMap) → w.instant ≡ None → IsFalse (is_silenced w s)
 no_instant w s e = inactive w s (none_active w.instant w.silences e)
 
--- a silence that neither begins nor ends is active at both instants or at neither
-steady_active : (from to : ℤ) (silence : Silence) → from ≤ℤ to → IsSteady from to silence
-    → is_active (Some from) silence ≡ is_active (Some to) silence
-steady_active from to silence later steady =
-    let begun : int_le silence.starts from ≡ int_le silence.starts to =
-    grind (arith, ints, later, steady.0) in
-    let ended : int_lt from silence.ends ≡ int_lt to silence.ends =
-    grind (arith, ints, later, steady.1) in
-    rw (begun, ended) refl
-
 abbrev AreSame : World → World → Type 0
 AreSame w v =
     (w.config ≡ v.config) × (w.alerts ≡ v.alerts)
@@ -133,17 +118,7 @@ AreSame w v =
 
 same_part : (w v : World) (s : LabelMap) (simple : Simple) → AreSame w v
     → holds_of w simple s ≡ holds_of v simple s
-same_part w v s (Is property) same =
-    same_property w v s s property
-    (silenced_condition w s
-    ∙ ap (λ active. some_way_holds (literal_holds s)
-    (map (λ (silence : Silence). matching silence.matchers ∷ []) active)) same.2
-    ∙ sym (silenced_condition v s))
-    (λ i. list_any (λ rule. list_any (λ a. inhibits rule a s) (same.1 i)) (same.0 i).rules)
-same_part w v s (Receiver receiver) same =
-    ap (λ c. list_any (λ other. other == receiver) (receivers s c)) same.0
-same_part w v s (Route reach path) same = ap (λ c. list_any (reaches reach path) (ends s c)) same.0
-same_part w v s (Braces matchers) same = refl
+same_part w v s simple same = grind (arith, common_steps, same_property, silenced_condition)
 
 same_truth : (w v : World) (s : LabelMap) (question : Question) → AreSame w v
     → satisfies w question s ≡ satisfies v question s
@@ -169,10 +144,7 @@ all_steady : (from to : ℤ) (silences : List Silence) → from ≤ℤ to
     → filter (is_active (Some from)) silences ≡ filter (is_active (Some to)) silences
 all_steady from to [] later steady = refl
 all_steady from to (silence ∷ silences) later steady =
-    rw (
-      steady_active from to silence later steady.0,
-      all_steady from to silences later steady.1,
-    ) refl
+    grind (arith, common_steps, all_steady from to silences later)
 
 pub steady : (s : Space) (w : World) (from to : ℤ) (question : Question) → from ≤ℤ to
     → AllByRecursion (IsSteady from to) w.silences
@@ -191,18 +163,11 @@ IsActiveAt given silence instant =
 active_at : (given : Option ℤ) (silence : Silence) → IsTrue (is_active given silence)
     → (instant : ℤ) × IsActiveAt given silence instant
 active_at None silence h = absurd (cc)
-active_at (Some instant) silence h =
-    let parts = and_parts (int_le silence.starts instant) (int_lt instant silence.ends) h in
-    let begun : silence.starts ≤ℤ instant = grind (arith, ints, parts.0) in
-    let left : instant <ℤ silence.ends = grind (arith, ints, parts.1) in
-    (instant, (refl, begun, left))
+active_at (Some instant) silence h = grind (arith, common_steps, and_parts, ints)
 
 at_active : (given : Option ℤ) (silence : Silence) (instant : ℤ)
     → IsActiveAt given silence instant → IsTrue (is_active given silence)
-at_active given silence instant h =
-    let begun : int_le silence.starts instant ≡ true = grind (arith, ints, h.1) in
-    let left : int_lt instant silence.ends ≡ true = grind (arith, ints, h.2) in
-    rw (h.0, begun, left) refl
+at_active given silence instant h = grind (arith, common_steps, ints)
 
 pub while_one_matches : (w : World) (s : LabelMap) → (IsTrue (holds_of w (Is Silenced) s)
     ↔ ((instant : ℤ) × (silence : Silence) × (w.instant ≡ Some instant)
@@ -210,16 +175,5 @@ pub while_one_matches : (w : World) (s : LabelMap) → (IsTrue (holds_of w (Is S
     × (silence.starts ≤ℤ instant) × (instant <ℤ silence.ends)
     × AllByRecursion (λ m. IsTrue (condition_holds s m)) silence.matchers))
 while_one_matches w s =
-    let all_match = braces_hold w s in (
-      λ silenced.
-          let one = some_passes (hides w s) w.silences silenced in
-          let parts = and_parts (is_active w.instant one.0) (all_hold s one.0.matchers) one.2 in
-          let active = active_at w.instant one.0 parts.0 in
-          let matches = (all_match one.0.matchers).0 parts.1 in
-          (active.0, one.0, active.1.0, one.1, active.1.1, active.1.2, matches),
-      λ h.
-          let active = at_active w.instant h.1 h.0 (h.2, h.4, h.5) in
-          let matches = (all_match h.1.matchers).1 h.6 in
-          passes_among (hides w s) w.silences h.1 h.3
-          (and_from (is_active w.instant h.1) (all_hold s h.1.matchers) active matches),
-    )
+    let all_match = braces_hold w s in
+    grind (arith, common_steps, some_passes, and_parts, active_at, at_active, passes_among, and_from)

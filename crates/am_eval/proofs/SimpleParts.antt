@@ -1,6 +1,6 @@
 -- What makes a question true: a joined question depends on its parts, and a simple part on what it
 -- asks for.
-use Rattle.std.proofs.Common.{◌≡◌, ◌↔◌, ℕ, List, [], ◌∷◌, Bool, true, false, Contains}
+use Rattle.std.proofs.Common.{◌≡◌, ◌↔◌, ℕ, List, [], ◌∷◌, Bool, true, false, Contains, arith}
 use Rattle.std.proofs.Common.{Option, Some, None, refl, sym, ap, subst, ◌∙◌, ◌⊎◌, inl, inr}
 use Rattle.std.specs.Prelude.{IsTrue, option_map, ◌==◌, not, ◌||◌}
 use Rattle.std.specs.List.{filter_map, cons_option, list_any, AllByRecursion}
@@ -8,6 +8,7 @@ use Rattle.std.specs.Cmp.Lexicographic.{bytes_decides}
 use Rattle.std.proofs.lemmas.Bool.{eqb-true, eq-eqb, and_parts, and_from, false≢true}
 use Rattle.std.proofs.lemmas.Map.Views.{Contains-from_any}
 use Rattle.std.proofs.lemmas.Option.{same_Some}
+use Rattle.std.proofs.lemmas.Grind.{common_steps}
 use Rattle.am_universe.specs.LabelSet.{LabelMap}
 use Rattle.am_universe.specs.Text.{same_text}
 use Rattle.am_universe.proofs.ListLemmas.{IsIn, IsIn-from_Contains, Contains-from_IsIn}
@@ -46,12 +47,6 @@ test_from_receipt receiver all h =
 
 -- ---- The receivers of an alert are those of the routes at which it ends.
 
-item_or_later : {X : Type 0} (o : Option X) (xs : List X) (y : X) → IsIn (cons_option o xs) y
-    → (o ≡ Some y) ⊎ IsIn xs y
-item_or_later None xs y h = inr h
-item_or_later (Some x) xs y (inl e) = inl (ap (λ z. Some z) e)
-item_or_later (Some x) xs y (inr h) = inr h
-
 behind_item : {X : Type 0} (o : Option X) (xs : List X) (y : X) → IsIn xs y
     → IsIn (cons_option o xs) y
 behind_item None xs y h = h
@@ -60,10 +55,7 @@ behind_item (Some x) xs y h = inr h
 mapped_from : {X Y : Type 0} (f : X → Option Y) (xs : List X) (y : Y) → IsIn (filter_map f xs) y
     → (x : X) × IsIn xs x × (f x ≡ Some y)
 mapped_from f [] y h = absurd h
-mapped_from f (x ∷ xs) y h = elim (item_or_later (f x) (filter_map f xs) y h) [
-  | inl e ↦ (x, inl refl, e)
-  | inr later ↦ let r = mapped_from f xs y later in (r.0, inr r.1, r.2)
-]
+mapped_from f (x ∷ xs) y h = grind (arith, common_steps, mapped_from f xs y)
 
 mapped_in : {X Y : Type 0} (f : X → Option Y) (xs : List X) (x : X) (y : Y) → IsIn xs x
     → f x ≡ Some y → IsIn (filter_map f xs) y
@@ -114,10 +106,7 @@ negated w s q = not_true (satisfies w q s)
 
 pub both : (w : World) (s : LabelMap) (q r : Question)
     → IsTrue (satisfies w (And q r) s) ↔ (IsTrue (satisfies w q s) × IsTrue (satisfies w r s))
-both w s q r = (
-  and_parts (satisfies w q s) (satisfies w r s),
-  λ h. and_from (satisfies w q s) (satisfies w r s) h.0 h.1,
-)
+both w s q r = grind (arith, common_steps, and_parts, and_from)
 
 pub either : (w : World) (s : LabelMap) (q r : Question)
     → IsTrue (satisfies w (Or q r) s) ↔ (IsTrue (satisfies w q s) ⊎ IsTrue (satisfies w r s))

@@ -1,9 +1,10 @@
 -- Lists of ways, whatever test decides the literals: several lists joined, and ways with the same
 -- literals added in front.
-use Rattle.std.proofs.Common.{◌≡◌, List, [], ◌∷◌, ◌++◌, map, Bool, true, false, ◌&&◌, ◌||◌}
+use Rattle.std.proofs.Common.{◌≡◌, List, [], ◌∷◌, ◌++◌, map, Bool, true, false, ◌&&◌, ◌||◌, arith}
 use Rattle.std.proofs.Common.{refl, ap, ◌∙◌}
 use Rattle.std.specs.List.{flat_map, list_all, list_any}
 use Rattle.std.proofs.lemmas.List.Folds.{list_any-append, list_all-append}
+use Rattle.std.proofs.lemmas.Grind.{common_steps}
 use Rattle.am_eval.specs.Conditions.{Literal, some_way_holds}
 
 pub some_way-append : (holds : Literal → Bool) (ands more : List (List Literal))
@@ -40,7 +41,4 @@ pub some_way-front : (holds : Literal → Bool) (front : List Literal) (ands : L
     ≡ (list_all holds front && some_way_holds holds ands)
 some_way-front holds front [] = none_is_false (list_all holds front)
 some_way-front holds front (way ∷ ands) =
-    ap (λ b. list_all holds (front ++ way) || b) (some_way-front holds front ands)
-    ∙ ap (λ b. b || (list_all holds front && some_way_holds holds ands))
-    (list_all-append holds front way)
-    ∙ shared (list_all holds front) (list_all holds way) (some_way_holds holds ands)
+    grind (arith, common_steps, some_way-front holds front ands, list_all-append, shared)

@@ -44,17 +44,9 @@ IsFirstFault stages fault =
 
 -- ---- The stages that there are.
 
--- The bytes of a file say a space.
-abbrev pub SaysSomeUniverse : List ℕ → Type 0
-SaysSomeUniverse bytes = (space : Space) × FileSaysUniverse bytes space
-
 -- The bytes of a file say a configuration.
 abbrev pub SaysSomeConfig : List ℕ → Type 0
 SaysSomeConfig bytes = (configuration : Configuration) × FileSaysConfig bytes configuration
-
--- The bytes of a file, if there is one, say silences.
-abbrev pub SaysSomeSilences : Option (List ℕ) → Type 0
-SaysSomeSilences file = (silences : List Silence) × SaysSilencesIfAny file silences
 
 -- Why the bytes of a file of silences are refused, if there is one.
 abbrev pub SilencesRefusedFor : Option (List ℕ) → Refusal → Type 0
@@ -65,10 +57,6 @@ SilencesRefusedFor (Some bytes) r = SilencesFileRefusedFor bytes r
 -- silences. Such a fault has the empty pointer.
 abbrev pub InstantRefusedFor : Option (List ℕ) → Option (List ℕ) → Refusal → Type 0
 InstantRefusedFor silences at r = (instant_fault silences at ≡ Some r.kind) × (r.pointer ≡ [])
-
--- The bytes of a file, if there is one, say alerts.
-abbrev pub SaysSomeAlerts : Option (List ℕ) → Type 0
-SaysSomeAlerts file = (alerts : List LabelMap) × SaysAlertsIfAny file alerts
 
 -- Why the bytes of a file of alerts are refused, if there is one.
 abbrev pub AlertsRefusedFor : Option (List ℕ) → Refusal → Type 0
@@ -97,10 +85,6 @@ pub record PairsRefusedFor (config : List ℕ) (file : Option (List ℕ)) (r : R
   pub many : MAX_PAIRS < length (pairs_of configuration.rules alerts)
   pub refusal : r ≡ refusal_here kinds.Limit
 
--- The words spell a label set.
-abbrev pub WordsSpellSomeSet : List (List ℕ) → Type 0
-WordsSpellSomeSet words = (set : LabelMap) × WordsSpellSet words set
-
 -- Why the words are refused as a label set. Such a fault has the empty pointer.
 abbrev pub SetStageRefusedFor : List (List ℕ) → Refusal → Type 0
 SetStageRefusedFor words r = SetWordsRefusedFor words r.kind × (r.pointer ≡ [])
@@ -109,7 +93,7 @@ SetStageRefusedFor words r = SetWordsRefusedFor words r.kind × (r.pointer ≡ [
 abbrev pub universe_stage : List ℕ → Stage
 universe_stage bytes = record {
   place = places.Universe;
-  accepts = SaysSomeUniverse bytes;
+  accepts = (space : Space) × FileSaysUniverse bytes space;
   refuses = UniverseFileRefusedFor bytes;
 }
 
@@ -125,7 +109,7 @@ config_stage bytes = record {
 abbrev pub silences_stage : Option (List ℕ) → Stage
 silences_stage file = record {
   place = places.Silences;
-  accepts = SaysSomeSilences file;
+  accepts = (silences : List Silence) × SaysSilencesIfAny file silences;
   refuses = SilencesRefusedFor file;
 }
 
@@ -133,7 +117,7 @@ silences_stage file = record {
 abbrev pub alerts_stage : Option (List ℕ) → Stage
 alerts_stage file = record {
   place = places.Alerts;
-  accepts = SaysSomeAlerts file;
+  accepts = (alerts : List LabelMap) × SaysAlertsIfAny file alerts;
   refuses = AlertsRefusedFor file;
 }
 
@@ -159,6 +143,6 @@ pairs_stage config file = record {
 abbrev pub set_stage : List (List ℕ) → Stage
 set_stage words = record {
   place = places.Set;
-  accepts = WordsSpellSomeSet words;
+  accepts = (set : LabelMap) × WordsSpellSet words set;
   refuses = SetStageRefusedFor words;
 }

@@ -1,5 +1,5 @@
 -- What a command owes. (This project's own.)
-use Rattle.std.specs.Prelude.{◌≡◌, ◌≢◌, ℕ, List, Result, IfOk, IfErr, ⊤}
+use Rattle.std.specs.Prelude.{◌≡◌, ◌≢◌, ℕ, List, Result, IfOk, IfErr}
 use Rattle.am_universe.specs.declared.fault.Fault.{Fault}
 use Rattle.am_universe.specs.declared.kind.Kind.TheVariants as kinds
 use Rattle.am_universe.specs.Sink.{Wrote, WroteInPart}
@@ -13,13 +13,6 @@ use Rattle.am_eval.specs.Faults.{Stage, IsFirstFault}
 pub record Promise (A : Type 0) : Type 1 where
   pub stages : List Stage
   pub May : A → List ℕ → Type 0
-
--- The same, for a caller that does not see the answer.
-abbrev pub any_answer : {A : Type 0} → Promise A → Promise ⊤
-any_answer {A = A} promise = record {
-  stages = promise.stages;
-  May = λ _ text. (answer : A) × promise.May answer text;
-}
 
 -- Some text that may be written with this answer was written as `IsWritten` says: whole, or in
 -- part.

@@ -1,11 +1,9 @@
 -- The code of a world: a tree of numbers, by which proofs tell worlds apart.
-use Rattle.std.proofs.Common.{◌≡◌, ℕ, ℤ, List, Option, Bool, refl, sym, ap, subst}
+use Rattle.std.proofs.Common.{◌≡◌, ℕ, ℤ, List, Option, refl, sym, ap, subst}
 use Rattle.std.specs.Prelude.{⊤}
-use Rattle.std.specs.Coded.{Coded, code_by, coded×, coded_ℕ, coded_ℤ, coded_bool, coded_list}
+use Rattle.std.specs.Coded.{Coded, code_by, coded×, coded_ℕ, coded_ℤ, coded_list}
 use Rattle.std.specs.Coded.{coded_option}
 use base.Stored.{Gv, gnil, gnum, gcons}
-use Rattle.am_labels.specs.Matcher.{Condition}
-use Rattle.am_labels.specs.contracts.matchers.Matchers as matchers
 use Rattle.am_universe.specs.LabelSet.{LabelMap}
 use Rattle.am_list_files.specs.SilencesFile.{Silence}
 use Rattle.am_list_files.specs.contracts.alert.Alerts as alerts

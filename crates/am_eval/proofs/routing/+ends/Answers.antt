@@ -1,6 +1,7 @@
-use Rattle.std.proofs.Common.{◌≡◌, ◌+◌, ◌∷◌, [], length, map, drop, arith, false, true, sym, ap}
+use Rattle.std.proofs.Common.{◌≡◌, ◌+◌, map, drop, arith, false, true, sym}
 use Rattle.std.proofs.Common.{◌∙◌}
 use Rattle.std.proofs.lemmas.List.{length-append}
+use Rattle.std.proofs.lemmas.Grind.{common_steps}
 use Rattle.am_labels.specs.Matcher.{all_hold}
 use Rattle.am_config.specs.ConfigFile.{matchers_of, continues_of}
 use Rattle.am_config.specs.RouteView.{route_view}
@@ -12,26 +13,13 @@ use Rattle.am_eval.proofs.ChildEnds.{last_one}
 use Rattle.am_eval.proofs.routing.+ends.Goals as goal
 
 pub add_ends_of_children-overflow_cast-position : goal.add_ends_of_children-overflow_cast-position
-add_ends_of_children-overflow_cast-position t c =
-    let w = child_within c.args.children.now c.loop-position.position
-    c.index-children-position.result c.loop-position-test.true c.index-children-position.is in
-    omega (arith, w.counted, w.some_count, c.requires.few)
+add_ends_of_children-overflow_cast-position t c = grind (arith, common_steps, child_within)
 
 pub add_ends_of_children-child-requires : goal.add_ends_of_children-child-requires
-add_ends_of_children-child-requires t c =
-    let w = child_within c.args.children.now c.loop-position.position
-    c.index-children-position.result c.loop-position-test.true c.index-children-position.is in
-    record { room = omega (arith, w.levels, w.some_levels, c.requires.room) }
+add_ends_of_children-child-requires t c = grind (arith, common_steps, child_within)
 
 pub add_ends_of_children-add_ends-requires : goal.add_ends_of_children-add_ends-requires
-add_ends_of_children-add_ends-requires t c =
-    let w = child_within c.args.children.now c.loop-position.position
-    c.index-children-position.result c.loop-position-test.true c.index-children-position.is in
-    let longer = ap length c.child.ensures.steps
-    ∙ length-append c.args.path (c.loop-position.position ∷ []) in (
-      omega (arith, c.decreases, w.counted),
-      (omega (arith, longer, w.levels, c.requires.room), omega (arith, w.counted, c.requires.few)),
-    )
+add_ends_of_children-add_ends-requires t c = grind (arith, common_steps, child_within, length-append)
 
 pub add_ends_of_children-loop-position-preserved :
     goal.add_ends_of_children-loop-position-preserved

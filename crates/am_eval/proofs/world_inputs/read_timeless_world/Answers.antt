@@ -1,19 +1,15 @@
 -- Reading stops at the first fault: what was read before is accepted.
-use Rattle.std.proofs.Common.{inl}
+use Rattle.std.proofs.Common.{inl, arith}
+use Rattle.std.proofs.lemmas.Grind.{common_steps}
 use Rattle.am_json.specs.Reading.{refusal_of}
 use Rattle.am_config.specs.ConfigView.{config_view}
 use Rattle.am_eval.specs.Faults.{IsFirstFault}
-use Rattle.am_eval.specs.AcceptedWorld.{file_stages, pair_stages, timeless_stages}
+use Rattle.am_eval.specs.AcceptedWorld.{pair_stages, timeless_stages}
 use Rattle.am_eval.proofs.FirstFaults.{first_of_more, behind_read, handed_on, if_failed}
 use Rattle.am_eval.proofs.world_inputs.read_timeless_world.Goals as goal
 
 pub returns-in_err-read-clause-first : goal.returns-in_err-read-clause-first
-returns-in_err-read-clause-first c =
-    let files = c.args.files.now in
-    let fault = c.in_err-read.field-0.0 in
-    handed_on (IsFirstFault (timeless_stages files)) fault c.from_residual.result c.from_residual.ensures.1
-    (λ remembered. first_of_more (file_stages files) (pair_stages files)
-    fault.place (refusal_of fault) (c.in_err-read.ensures.first remembered))
+returns-in_err-read-clause-first c = grind (arith, common_steps, handed_on, first_of_more)
 
 pub returns-clause-first : goal.returns-clause-first
 returns-clause-first c =
