@@ -1,5 +1,5 @@
 -- Where a text may be cut.
-use Rattle.std.proofs.Common.{◌≡◌, sym, subst, ℕ, ◌<◌, List, get_or, Bool, false, not}
+use Rattle.std.proofs.Common.{◌≡◌, subst, ℕ, ◌<◌, List, get_or, Bool, false, not}
 use Rattle.std.proofs.Common.{Some, arith}
 use Rattle.std.specs.Prelude.{◌==◌}
 use Rattle.std.specs.List.{prefix_len}
@@ -8,6 +8,7 @@ use Rattle.std.proofs.lemmas.Str.{IsCharBoundary-after_ascii}
 use Rattle.std.proofs.lemmas.List.Sums.{prefix_len_stops, prefix_len-le-length}
 use Rattle.std.proofs.lemmas.Bool.{and_parts, eqb-true}
 use Rattle.std.proofs.lemmas.Bool.Decides.{nat_tests}
+use Rattle.std.proofs.lemmas.Grind.{common_steps}
 use Rattle.am_labels.specs.MatcherText.{is_quoted}
 use Rattle.am_labels.specs.BraceList.{brace_len}
 use Rattle.am_questions.specs.Lexemes.{is_word_character}
@@ -23,15 +24,7 @@ word_stops c h = grind (arith, nat_tests)
 -- after a run of bytes that only an ASCII byte can end
 at_stop : (p : ℕ → Bool) (bs : List ℕ) (n : ℕ) → ((c : ℕ) → p c ≡ false → c < 128)
     → n ≡ prefix_len p bs → IsCharBoundary bs n
-at_stop p bs n ascii e = (
-  omega (arith, prefix_len-le-length p bs),
-  λ l wide.
-      let stops : p (get_or bs n 0) ≡ false =
-      subst (λ (k : ℕ). p (get_or bs k 0) ≡ false) (sym e)
-      (prefix_len_stops p bs 0 (omega arith)) in
-      let small = ascii (get_or bs n 0) stops in
-      absurd (omega arith),
-)
+at_stop p bs n ascii e = grind (arith, common_steps, prefix_len-le-length, prefix_len_stops)
 
 pub behind_plain : (bs : List ℕ) (n : ℕ) → n ≡ prefix_len is_plain bs → IsCharBoundary bs n
 behind_plain bs n e = at_stop is_plain bs n plain_stops e

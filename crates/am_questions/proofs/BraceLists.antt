@@ -1,5 +1,5 @@
 -- Where a list of matchers in braces ends, whatever follows it.
-use Rattle.std.proofs.Common.{◌≡◌, refl, sym, ◌∙◌, ap, subst, inl, inr, ℕ, zero, suc, ◌+◌, ◌<◌, ◌≤◌}
+use Rattle.std.proofs.Common.{◌≡◌, refl, sym, ◌∙◌, ap, subst, ℕ, zero, suc, ◌+◌, ◌<◌, ◌≤◌}
 use Rattle.std.proofs.Common.{List, ◌++◌, length, take, drop, get_or, Bool, true, false}
 use Rattle.std.proofs.Common.{Some, arith}
 use Rattle.std.specs.Prelude.{◌==◌}
@@ -7,6 +7,7 @@ use Rattle.std.specs.List.{find, range_with_len}
 use Rattle.std.proofs.lemmas.List.{take-append-drop, get_or_append_left}
 use Rattle.std.proofs.lemmas.List.{length-append, length-take-le}
 use Rattle.std.proofs.lemmas.Bool.{cases_lt, cases_Bool, eqb-true}
+use Rattle.std.proofs.lemmas.Grind.{common_steps}
 use Rattle.am_labels.specs.MatcherText.{quotes_before}
 use Rattle.am_labels.specs.BraceList.{is_closing_brace, first_closing, brace_len}
 use Rattle.am_labels.proofs.BraceListLemmas.{find_at, opened}
@@ -37,23 +38,8 @@ found_within : (test : ℕ → Bool) (start count i : ℕ)
     → (start ≤ i) × (i < start + count) × (test i ≡ true)
     × ((k : ℕ) → start ≤ k → k < i → test k ≡ false)
 found_within test start zero i e = absurd cc
-found_within test start (suc count) i e = elim (cases_Bool (test start)) [
-  | inl y ↦
-      let e' = rw y at e in
-      let is : start ≡ i = cc in
-      (omega arith, omega arith, rw (← is) y, λ k l h. absurd (omega arith))
-  | inr n ↦
-      let e' = rw n at e in
-      let more = found_within test (start + 1) count i e' in (
-        omega arith,
-        omega arith,
-        more.2,
-        λ k l h. elim (cases_lt start k) [
-          | inl below ↦ more.3 k (omega arith) h
-          | inr past ↦ let same : start ≡ k = omega arith in rw (← same) n
-        ],
-      )
-]
+found_within test start (suc count) i e =
+    grind (arith, common_steps, cases_Bool, found_within test (start + 1) count i, cases_lt)
 
 closes_from : (text : List ℕ) (i : ℕ) → first_closing text ≡ Some i → ClosesAt text i
 closes_from text i e =
@@ -66,18 +52,10 @@ closes_to text i c =
     c.closes_here
 
 closes_longer : (xs ys : List ℕ) (i : ℕ) → ClosesAt xs i → ClosesAt (xs ++ ys) i
-closes_longer xs ys i c = record {
-  inside = omega (arith, c.inside, length-append xs ys);
-  closes_here = closes_before xs ys i c.inside ∙ c.closes_here;
-  none_before = λ k l. closes_before xs ys k (omega (arith, c.inside)) ∙ c.none_before k l;
-}
+closes_longer xs ys i c = grind (arith, common_steps, length-append, closes_before)
 
 closes_shorter : (xs ys : List ℕ) (i : ℕ) → i < length xs → ClosesAt (xs ++ ys) i → ClosesAt xs i
-closes_shorter xs ys i inside c = record {
-  inside = inside;
-  closes_here = sym (closes_before xs ys i inside) ∙ c.closes_here;
-  none_before = λ k l. sym (closes_before xs ys k (omega arith)) ∙ c.none_before k l;
-}
+closes_shorter xs ys i inside c = grind (arith, common_steps, closes_before)
 
 -- ---- the length of the lexeme
 

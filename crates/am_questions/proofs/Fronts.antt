@@ -1,8 +1,9 @@
 -- The front of a list of lexemes is read in one way, and the code reads it as the grammar says.
 use Rattle.std.proofs.Common.{◌≡◌, ◌≢◌, ℕ, List, [], ◌∷◌, ◌++◌, Option, Some, None, refl, sym, ap}
-use Rattle.std.proofs.Common.{◌∙◌, append_assoc, append-nil, option_map}
+use Rattle.std.proofs.Common.{◌∙◌, append_assoc, append-nil, option_map, arith}
 use Rattle.std.specs.List.{find}
 use Rattle.std.proofs.lemmas.Option.{some_pair_parts}
+use Rattle.std.proofs.lemmas.Grind.{common_steps}
 use Rattle.am_universe.specs.Text.{same_text}
 use Rattle.am_universe.specs.declared.kind.Kind.{Kind}
 use Rattle.am_config.specs.Path.{path_text}
@@ -40,15 +41,7 @@ keyword_of word =
     ∷ [])
 
 keyword_found : (k : Keyword) → keyword_of (word_of k) ≡ Some k
-keyword_found NotWord = refl
-keyword_found (JoinWord by.And) = refl
-keyword_found (JoinWord by.Or) = refl
-keyword_found (PropertyWord Any) = refl
-keyword_found (PropertyWord Silenced) = refl
-keyword_found (PropertyWord Inhibited) = refl
-keyword_found ReceiverWord = refl
-keyword_found (ReachWord Ends) = refl
-keyword_found (ReachWord Enters) = refl
+keyword_found k = grind (arith, common_steps)
 
 -- the part that begins with this keyword and goes on with the lexemes, and what follows it; a path
 -- is not checked
@@ -187,9 +180,7 @@ once (JoinedBy c) ts rest left q r h stops reads =
 
 read_once : {tier : Tier} {ts : List Lexeme} {q : Tree Written} → IsOf tier ts q
     → ReadOnce tier ts q
-read_once (g.alone {c = c} is) = λ rest left s stops reads.
-    let first = first_of reads in
-    carried (once (operand c) _ _ _ _ _ (read_once is) stops first.2) first.3
+read_once (g.alone {c = c} is) = grind (arith, common_steps, first_of, carried, once, read_once is)
 read_once (g.joined_on {c = c} {us = us} {q = q} left right) = λ rest behind s stops reads.
     let goes =
     read_once left (keyword (JoinWord c) ∷ (us ++ rest)) behind s (stops_before c (us ++ rest))

@@ -11,6 +11,7 @@ use Rattle.std.proofs.lemmas.List.Sums.{prefix_len-le-length}
 use Rattle.std.proofs.lemmas.Option.{some_pair_parts, none-some}
 use Rattle.std.proofs.lemmas.Bool.{and_parts, cases_Bool, eqb-true}
 use Rattle.std.proofs.lemmas.Bool.Decides.{nat_tests}
+use Rattle.std.proofs.lemmas.Grind.{common_steps}
 use Rattle.am_labels.specs.MatcherText.{is_space, is_blank}
 use Rattle.am_labels.specs.MatcherReading.{without_leading_blanks}
 use Rattle.am_labels.specs.BraceList.{brace_len}
@@ -56,13 +57,7 @@ word_len text = prefix_len is_word_character text
 -- a word does not begin as other lexemes do, nor with whitespace
 begins_no_other : (c : ℕ) → is_word_character c ≡ true → ((c == 40) ≡ false) × ((c == 41) ≡ false)
     × ((c == 34) ≡ false) × ((c == 123) ≡ false) × (is_space c ≡ false)
-begins_no_other c h = (
-  grind (arith, nat_tests),
-  grind (arith, nat_tests),
-  grind (arith, nat_tests),
-  grind (arith, nat_tests),
-  grind (arith, nat_tests),
-)
+begins_no_other c h = grind (arith, common_steps, nat_tests)
 
 word_step : (c : ℕ) (text : List ℕ) → is_word_character c ≡ true
     → read_lexeme (c ∷ text) ≡ Some (cut Word (c ∷ text) (word_len (c ∷ text)))
@@ -117,23 +112,8 @@ read_is_word c text lexeme rest begins e =
 pub lexeme_is_read : (lexeme : Lexeme) (here rest : List ℕ) → SpellsLexeme here lexeme
     → MayFollow lexeme rest
     → read_lexeme (here ++ rest) ≡ Some (lexeme, rest)
-lexeme_is_read Open here rest s e = rw s (open_step rest)
-lexeme_is_read Close here rest s e = rw s (close_step rest)
-lexeme_is_read (Word word) here rest s e = rw s.0 (word_is_read word rest s.1 s.2 e)
-lexeme_is_read (Quoted value) here rest s e =
-    let body : List ℕ = s.0 in
-    let parts : here ++ rest ≡ 34 ∷ (body ++ 34 ∷ rest) =
-    ap (λ (t : List ℕ). t ++ rest) s.1
-    ∙ ap (λ (t : List ℕ). 34 ∷ t) (append_assoc body (34 ∷ []) rest) in
-    rw parts (quote_step (body ++ 34 ∷ rest) ∙ rw (quoted_is_read value body rest s.2) refl)
-lexeme_is_read (BraceList list) here rest s e =
-    let h = has_length list (length list) s.1 in
-    let long = brace_longer list rest s.1 in
-    let opens : get_or (list ++ rest) 0 0 ≡ 123 =
-    (has_length (list ++ rest) (length list) long).opens in
-    rw s.0 (brace_step (list ++ rest) opens
-    ∙ rw (long, take_at list rest (length list) refl, drop_at list rest (length list) refl)
-    refl)
+lexeme_is_read lexeme here rest s e =
+    grind (arith, common_steps, open_step, close_step, word_is_read, append_assoc, quote_step, quoted_is_read, has_length, brace_longer, brace_step, take_at, drop_at)
 
 -- ---- what is read is spelled
 
@@ -203,22 +183,8 @@ pub record Begins (here : List ℕ) : Type 0 where
   pub some : 0 < length here
   pub no_space : is_space (get_or here 0 0) ≡ false
 
-word_begins : (word : List ℕ) → word ≢ [] → list_all is_word_character word ≡ true → Begins word
-word_begins [] some h = absurd (some refl)
-word_begins (c ∷ cs) some h = record {
-  some = omega arith;
-  no_space =
-      (begins_no_other c (and_parts (is_word_character c) (list_all is_word_character cs) h).0).4;
-}
-
 pub lexeme_begins : (lexeme : Lexeme) (here : List ℕ) → SpellsLexeme here lexeme → Begins here
-lexeme_begins Open here s = rw s (record { some = omega arith; no_space = refl })
-lexeme_begins Close here s = rw s (record { some = omega arith; no_space = refl })
-lexeme_begins (Word word) here s = rw s.0 (word_begins word s.1 s.2)
-lexeme_begins (Quoted value) here s = rw s.1 (record { some = omega arith; no_space = refl })
-lexeme_begins (BraceList list) here s =
-    let h = has_length list (length list) s.1 in
-    rw s.0 (record { some = omega (arith, h.length_is); no_space = ap is_space h.opens })
+lexeme_begins lexeme here s = grind (arith, common_steps, has_length)
 
 -- ---- whitespace before it
 
@@ -250,16 +216,8 @@ untrim text (u ∷ us) s =
     let blanks : List ℕ = take (prefix_len is_space text) text in
     let parts : text ≡ (blanks ++ s.0) ++ (s.1 ++ s.2) =
     sym (blanks_before text) ∙ ap (λ (t : List ℕ). blanks ++ t) s.3
-    ∙ sym (append_assoc blanks s.0 (s.1 ++ s.2)) in (
-      blanks ++ s.0,
-      s.1,
-      s.2,
-      parts,
-      all_append is_space blanks s.0 (all_of_prefix is_space text) s.4,
-      s.5,
-      s.6,
-      s.7,
-    )
+    ∙ sym (append_assoc blanks s.0 (s.1 ++ s.2)) in
+    grind (arith, common_steps, all_append, all_of_prefix)
 
 -- after its leading whitespace, the text begins with its first lexeme
 pub record FirstIs (text : List ℕ) (lexeme : Lexeme) (lexemes : List Lexeme) : Type 0 where
@@ -273,17 +231,7 @@ pub record FirstIs (text : List ℕ) (lexeme : Lexeme) (lexemes : List Lexeme) :
 
 first_is : (text : List ℕ) (lexeme : Lexeme) (lexemes : List Lexeme)
     → SpellsLexemes text (lexeme ∷ lexemes) → FirstIs text lexeme lexemes
-first_is text lexeme lexemes s =
-    let b = lexeme_begins lexeme s.1 s.5 in
-    record {
-      here = s.1;
-      rest = s.2;
-      parts = ap without_leading_blanks s.3 ∙ blanks_go s.0 s.1 s.2 s.4 b;
-      begins = b;
-      spells = s.5;
-      ends = s.6;
-      more = s.7;
-    }
+first_is text lexeme lexemes s = grind (arith, common_steps, lexeme_begins, blanks_go)
 
 trim : (text : List ℕ) (us : List Lexeme) → SpellsLexemes text us
     → SpellsLexemes (without_leading_blanks text) us
@@ -333,11 +281,7 @@ pub record ReadsOn (text : List ℕ) (lexemes : List Lexeme) (rest : List ℕ) :
   pub back : (us : List Lexeme) → SpellsLexemes text us → (vs : List Lexeme) × SpellsLexemes rest vs
 
 pub at_first : (text : List ℕ) → ReadsOn text [] (without_leading_blanks text)
-at_first text = record {
-  trimmed = trimmed_first text;
-  onward = untrim text;
-  back = λ us s. (us, trim text us s);
-}
+at_first text = grind (arith, common_steps, trimmed_first, untrim, trim)
 
 -- a rest that is not empty and does not begin with whitespace begins with a lexeme, if it has
 -- lexemes
@@ -355,16 +299,7 @@ pub shorter : (text : List ℕ) (lexeme : Lexeme) (rest : List ℕ) → 0 < leng
     → is_space (get_or text 0 0) ≡ false
     → read_lexeme text ≡ Some (lexeme, rest) → length (without_leading_blanks rest) < length text
 shorter text lexeme rest l h e =
-    let b = read_is_lexeme text lexeme rest l h e in
-    let begins = lexeme_begins lexeme b.0 b.2 in
-    omega (
-      arith,
-      begins.some,
-      ap length b.1,
-      length-append b.0 rest,
-      length-drop
-          (prefix_len is_space rest) rest,
-    )
+    grind (arith, common_steps, read_is_lexeme, lexeme_begins, length-append, length-drop)
 
 pub one_more : (text : List ℕ) (lexemes : List Lexeme) (rest : List ℕ) (lexeme : Lexeme)
     (behind : List ℕ) → 0 < length rest
@@ -392,7 +327,4 @@ at_end text lexemes (c ∷ rest) z on = absurd (omega arith)
 pub none_here : (text : List ℕ) (lexemes : List Lexeme) (rest : List ℕ) → 0 < length rest
     → ReadsOn text lexemes rest
     → read_lexeme rest ≡ None → (us : List Lexeme) → SpellsLexemes text us → ⊥
-none_here text lexemes rest l on e us s =
-    let v = on.back us s in
-    let r = rest_is_read rest v.0 l on.trimmed v.1 in
-    none-some (r.0, r.1) (sym e ∙ r.3)
+none_here text lexemes rest l on e us s = grind (arith, common_steps, rest_is_read, none-some)

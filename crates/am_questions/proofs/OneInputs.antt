@@ -1,6 +1,6 @@
 -- Inputs of a call that are accepted fix the space, the world, the question and the start.
-use Rattle.std.proofs.Common.{◌≡◌, ℕ, List, Option, Some, None, sym, subst, ◌∙◌}
-use Rattle.am_universe.specs.Universe.{Label, IsUniverse, sizes}
+use Rattle.std.proofs.Common.{◌≡◌, ℕ, List, Option, Some, None, sym, subst, ◌∙◌, rules}
+use Rattle.am_universe.specs.Universe.{Label, IsUniverse}
 use Rattle.am_labels.specs.Space.{Space}
 use Rattle.am_eval.specs.World.{World}
 use Rattle.am_eval.specs.Question.{Question}
@@ -19,10 +19,7 @@ pub one_start : (u : List Label) (inputs : Inputs) (after : Option (List ℕ)) (
     → AsksStart u (inputs_fingerprint inputs) after other → start ≡ other
 one_start u inputs None start other is asks also = asks ∙ sym also
 one_start u inputs (Some token) start other is asks also =
-    let has = has_fingerprint inputs in
-    let h : List ℕ = inputs_fingerprint inputs in
-    let are = sizes_of_universe u is in
-    same_start (sizes u) (sizes u) h h token start other are are has has asks also
+    search (rules, has_fingerprint, sizes_of_universe, same_start)
 
 pub one_meaning_of_inputs : (inputs : Inputs) (s t : Space) (w x : World) (q r : Question)
     (start other : Start) → AcceptsInputs inputs s w q start → AcceptsInputs inputs t x r other

@@ -3,6 +3,7 @@
 use Rattle.std.proofs.Common.{◌≡◌, ◌≢◌, ◌≤◌, ℕ, List, [], ◌∷◌, length, None, Some, sym, subst}
 use Rattle.std.proofs.Common.{◌∙◌, inl, inr, arith}
 use Rattle.std.specs.List.{AllByRecursion}
+use Rattle.std.proofs.lemmas.Grind.{common_steps}
 use Rattle.am_universe.specs.declared.kind.Kind.{Kind}
 use Rattle.am_universe.specs.declared.kind.Kind.TheVariants as kinds
 use Rattle.am_config.specs.ConfigFile.{Configuration}
@@ -13,7 +14,7 @@ use Rattle.am_questions.specs.declared.limits.TheConstants.{MAX_LEXEMES}
 use Rattle.am_questions.specs.Lexemes.{Lexeme}
 use Rattle.am_questions.specs.Grammar.{Written, WrittenIs, WrittenReceiver, WrittenRoute}
 use Rattle.am_questions.specs.Grammar.{WrittenBraces, IsQuestion}
-use Rattle.am_questions.specs.QuestionText.{TreeMeans, ReadsQuestion, parts_of}
+use Rattle.am_questions.specs.QuestionText.{TreeMeans, ReadsQuestion}
 use Rattle.am_questions.specs.QuestionText.{PartRefusedFor, IsMeant, PartsRefusedFor}
 use Rattle.am_questions.specs.QuestionText.{LexemesRefusedFor, QuestionRefusedFor}
 use Rattle.am_questions.proofs.LexemeTexts.{one_list}
@@ -67,14 +68,8 @@ parts_kind c (w ∷ parts) kind other (inr refused) (inr again) h k =
 lexemes_accepted : (c : Configuration) (lexemes : List Lexeme) (tree : Tree Written) (q : Question)
     (kind : Kind) → length lexemes ≤ MAX_LEXEMES → IsQuestion lexemes tree → TreeMeans c tree q
     → LexemesRefusedFor c lexemes kind → kind ≡ kinds.Pattern
-lexemes_accepted c lexemes tree q kind few is_tree meant (inl many) =
-    absurd (omega (arith, few, many.1))
-lexemes_accepted c lexemes tree q kind few is_tree meant (inr (inl none)) =
-    absurd (none.2 tree is_tree)
-lexemes_accepted c lexemes tree q kind few is_tree meant (inr (inr parts)) =
-    parts_accepted c (parts_of tree) kind (parts_meant c tree q meant)
-    (subst (λ (t : Tree Written). PartsRefusedFor c (parts_of t) kind)
-    (one_tree lexemes parts.1 tree parts.2 is_tree) parts.3)
+lexemes_accepted c lexemes tree q kind few is_tree meant x8 =
+    grind (arith, common_steps, parts_accepted, parts_meant, one_tree)
 
 -- a text that is read is refused only for a pattern
 pub question_accepted : (c : Configuration) (text : List ℕ) (q : Question) (kind : Kind)
@@ -88,25 +83,7 @@ question_accepted c text q kind read (inr refused) =
 lexemes_kind : (c : Configuration) (lexemes : List Lexeme) (kind other : Kind)
     → LexemesRefusedFor c lexemes kind → LexemesRefusedFor c lexemes other → kind ≢ kinds.Pattern
     → other ≢ kinds.Pattern → kind ≡ other
-lexemes_kind c lexemes kind other (inl many) (inl more) h k = many.0 ∙ sym more.0
-lexemes_kind c lexemes kind other (inl many) (inr (inl none)) h k =
-    absurd (omega (arith, many.1, none.1))
-lexemes_kind c lexemes kind other (inl many) (inr (inr parts)) h k =
-    absurd (omega (arith, many.1, parts.0))
-lexemes_kind c lexemes kind other (inr (inl none)) (inl many) h k =
-    absurd (omega (arith, many.1, none.1))
-lexemes_kind c lexemes kind other (inr (inl none)) (inr (inl nothing)) h k = none.0 ∙ sym nothing.0
-lexemes_kind c lexemes kind other (inr (inl none)) (inr (inr parts)) h k =
-    absurd (none.2 parts.1 parts.2)
-lexemes_kind c lexemes kind other (inr (inr parts)) (inl many) h k =
-    absurd (omega (arith, many.1, parts.0))
-lexemes_kind c lexemes kind other (inr (inr parts)) (inr (inl none)) h k =
-    absurd (none.2 parts.1 parts.2)
-lexemes_kind c lexemes kind other (inr (inr parts)) (inr (inr again)) h k =
-    parts_kind c (parts_of again.1) kind other
-    (subst (λ (t : Tree Written). PartsRefusedFor c (parts_of t) kind)
-    (one_tree lexemes parts.1 again.1 parts.2 again.2) parts.3)
-    again.3 h k
+lexemes_kind c lexemes kind other x4 x5 h k = grind (arith, common_steps, parts_kind, one_tree)
 
 -- a text is refused with at most one kind
 pub question_kind : (c : Configuration) (text : List ℕ) (kind other : Kind)

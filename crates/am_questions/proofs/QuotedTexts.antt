@@ -9,6 +9,7 @@ use Rattle.std.specs.Prelude.{◌==◌, ◌≢◌}
 use Rattle.std.specs.List.{list_all, prefix_len}
 use Rattle.std.proofs.lemmas.Bool.{and_parts, cases_Bool, cases_lt, eqb-true}
 use Rattle.std.proofs.lemmas.Bool.Decides.{nat_tests}
+use Rattle.std.proofs.lemmas.Grind.{common_steps}
 use Rattle.am_labels.specs.MatcherText.{has_escape, byte_of_escape}
 use Rattle.am_labels.proofs.MatcherTextLists.{all_of_prefix}
 use Rattle.am_labels.proofs.MatcherTextWhole.{said_again}
@@ -20,9 +21,6 @@ abbrev pub IsQuoted : List ℕ → List ℕ → List ℕ → Type 0
 IsQuoted text value rest = (body : List ℕ) × (text ≡ body ++ 34 ∷ rest) × SpellsQuoted body value
 
 -- ---- one step
-
-pub plain_parts : (c : ℕ) → is_plain c ≡ true → ((c == 34) ≡ false) × ((c == 92) ≡ false)
-plain_parts c h = (grind (arith, nat_tests), grind (arith, nat_tests))
 
 pub plain_step : (c : ℕ) (text : List ℕ) → (c == 34) ≡ false → (c == 92) ≡ false
     → read_quoted (c ∷ text) ≡ begun_with c (read_quoted text)
@@ -56,19 +54,7 @@ read_backslash = refl
 
 character_is_read : (head : List ℕ) (c : ℕ) (text : List ℕ) → SpellsCharacter head c
     → read_quoted (head ++ text) ≡ begun_with c (read_quoted text)
-character_is_read head c text s = elim s [
-  | inl h ↦ rw (h.0, h.1) (escape_step 34 text refl)
-  | inr t ↦ elim t [
-    | inl h ↦ rw (h.0, h.1) (escape_step 92 text refl)
-    | inr u ↦ elim u [
-      | inl h ↦ rw (h.0, h.1) (escape_step 110 text refl)
-      | inr h ↦
-          let q : (c == 34) ≡ false = (let e = h.1 in grind (arith, nat_tests)) in
-          let b : (c == 92) ≡ false = (let e = h.2 in grind (arith, nat_tests)) in
-          rw h.0 (plain_step c text q b)
-    ]
-  ]
-]
+character_is_read head c text s = grind (arith, common_steps, escape_step, nat_tests, plain_step)
 
 pub quoted_is_read : (value body rest : List ℕ) → SpellsQuoted body value
     → read_quoted (body ++ 34 ∷ rest) ≡ Some (value, rest)
@@ -102,15 +88,7 @@ closed text value rest e =
     said_again (IsQuoted (34 ∷ text)) [] value text rest (sym (quote_step text) ∙ e) ([], refl, refl)
 
 escape_spells : (d : ℕ) → has_escape d ≡ true → SpellsCharacter (92 ∷ d ∷ []) (byte_of_escape d)
-escape_spells d h = elim (cases_Bool (d == 34)) [
-  | inl e ↦ rw (eqb-true d 34 e) (inl (refl, refl))
-  | inr e ↦ elim (cases_Bool (d == 92)) [
-    | inl f ↦ rw (eqb-true d 92 f) (inr (inl (refl, refl)))
-    | inr f ↦
-        let n : d ≡ 110 = grind (arith, nat_tests) in
-        rw n (inr (inr (inl (refl, refl))))
-  ]
-]
+escape_spells d h = grind (arith, common_steps, cases_Bool, eqb-true, nat_tests)
 
 -- after a backslash
 escaped : (text value rest : List ℕ)
@@ -161,11 +139,6 @@ run_of_none : (read : Option (List ℕ × List ℕ)) → read ≡ begun_with_run
 run_of_none None = refl
 run_of_none (Some p) = refl
 
-run_of_more : (c : ℕ) (xs : List ℕ) (read : Option (List ℕ × List ℕ))
-    → begun_with c (begun_with_run xs read) ≡ begun_with_run (c ∷ xs) read
-run_of_more c xs None = refl
-run_of_more c xs (Some p) = refl
-
 run_of_two : (xs ys : List ℕ) (read : Option (List ℕ × List ℕ))
     → begun_with_run xs (begun_with_run ys read) ≡ begun_with_run (xs ++ ys) read
 run_of_two xs ys None = refl
@@ -180,10 +153,7 @@ run_is_read : (xs ys : List ℕ) → list_all is_plain xs ≡ true
     → read_quoted (xs ++ ys) ≡ begun_with_run xs (read_quoted ys)
 run_is_read [] ys h = run_of_none (read_quoted ys)
 run_is_read (x ∷ xs) ys h =
-    let parts = and_parts (is_plain x) (list_all is_plain xs) h in
-    let plain = plain_parts x parts.0 in
-    plain_step x (xs ++ ys) plain.0 plain.1 ∙ ap (begun_with x) (run_is_read xs ys parts.1)
-    ∙ run_of_more x xs (read_quoted ys)
+    grind (arith, common_steps, and_parts, plain_step, run_is_read xs ys)
 
 -- the loop, once it has read the run
 after_run : (text value rest : List ℕ) (n : ℕ) → n ≡ prefix_len is_plain rest
@@ -206,14 +176,7 @@ quote_closes text value rest n e l at read =
 
 two_of : (rest : List ℕ) (n : ℕ) → n + 1 < length rest → get_or rest n 0 ≡ 92
     → drop n rest ≡ 92 ∷ get_or rest (n + 1) 0 ∷ drop (n + 2) rest
-two_of rest n l at =
-    let l0 : n < length rest = omega arith in
-    let first : drop n rest ≡ get_or rest n 0 ∷ drop (suc n) rest = drop-cons rest n 0 l0 in
-    let second : drop (n + 1) rest ≡ get_or rest (n + 1) 0 ∷ drop (suc (n + 1)) rest =
-    drop-cons rest (n + 1) 0 l in
-    let one : suc n ≡ n + 1 = omega arith in
-    let two : suc (n + 1) ≡ n + 2 = omega arith in
-    first ∙ rw (at, one, second, two) refl
+two_of rest n l at = grind (arith, common_steps, drop-cons)
 
 pub escape_goes_on : (text value rest : List ℕ) (n : ℕ) → n ≡ prefix_len is_plain rest
     → n + 1 < length rest → get_or rest n 0 ≡ 92
@@ -239,10 +202,7 @@ no_escape_here text value rest n e l at unknown read =
 
 last_backslash : (rest : List ℕ) (n : ℕ) → n < length rest → length rest ≤ n + 1
     → get_or rest n 0 ≡ 92 → drop n rest ≡ 92 ∷ []
-last_backslash rest n l m at =
-    let first : drop n rest ≡ get_or rest n 0 ∷ drop (suc n) rest = drop-cons rest n 0 l in
-    let none : drop (suc n) rest ≡ [] = drop_all (suc n) rest (omega arith) in
-    first ∙ rw (at, none) refl
+last_backslash rest n l m at = grind (arith, common_steps, drop-cons, drop_all)
 
 pub quote_is_missing : (text value rest : List ℕ) (n : ℕ) → n ≡ prefix_len is_plain rest
     → (n < length rest → (get_or rest n 0 ≢ 34) × (get_or rest n 0 ≡ 92 → length rest ≤ n + 1))

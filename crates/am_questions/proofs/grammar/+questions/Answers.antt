@@ -1,5 +1,6 @@
 use Rattle.std.proofs.Common.{refl, arith}
 use Rattle.std.proofs.lemmas.Result.{err_from_is_err_and}
+use Rattle.std.proofs.lemmas.Grind.{common_steps}
 use Rattle.am_questions.proofs.Fronts.{first_read, next_read, all_read, refused_for, first_missing}
 use Rattle.am_questions.proofs.Fronts.{next_missing, not_missing, inside_missing, close_missing}
 use Rattle.am_questions.proofs.Fronts.{part_missing, not_read, inside_read, part_read}
@@ -15,23 +16,10 @@ read_joined-returns-in_err-tree-clause-refused t c =
     rw (p.1, p.2) (refused_for first_missing c.in_err-tree.ensures.refused)
 
 pub read_joined-loop-behind-init : goal.read_joined-loop-behind-init
-read_joined-loop-behind-init t c = record {
-  shorter = c.in_ok-tree.ensures.shorter;
-  so_far = first_read c.in_ok-tree.ensures.taken;
-}
+read_joined-loop-behind-init t c = grind (arith, common_steps, first_read)
 
 pub read_joined-loop-behind-preserved : goal.read_joined-loop-behind-preserved
-read_joined-loop-behind-preserved t c = record {
-  shorter = omega (
-    arith,
-    c.in_ok-right.ensures.shorter,
-    c.in-Some.ensures.shorter,
-    c.loop-behind.invariant.shorter,
-  );
-  so_far = next_read (view_joined _ _ _ _ _ c.in_ok-new.ensures.ok c.in_ok-new-2.ensures.ok)
-      (rw c.connective_word.ensures at c.in-Some.ensures.behind) c.loop-behind.invariant.so_far
-      c.in_ok-right.ensures.taken;
-}
+read_joined-loop-behind-preserved t c = grind (arith, common_steps, next_read, view_joined)
 
 pub read_joined-returns-in_err-right-clause-refused :
     goal.read_joined-returns-in_err-right-clause-refused
@@ -96,8 +84,4 @@ read_single-returns-in-Some-read_part-clause-taken t c =
     rw (view_part c.in-Some-read_part.part) (part_read c.in-Some-read_part.ensures.taken)
 
 pub read_single-returns-clause-refused : goal.read_single-returns-clause-refused
-read_single-returns-clause-refused t c = λ _. (
-  refl,
-  part_missing c.in_default.ensures.other c.in-None.ensures.other
-      c.in-None-read_part.ensures.refused,
-)
+read_single-returns-clause-refused t c = grind (arith, common_steps, part_missing)

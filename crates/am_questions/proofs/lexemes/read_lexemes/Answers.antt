@@ -1,4 +1,4 @@
-use Rattle.std.proofs.Common.{◌≡◌, ◌<◌, length, ap, map, arith}
+use Rattle.std.proofs.Common.{◌<◌, length, ap, map, arith}
 use Rattle.std.proofs.lemmas.Grind.{common_steps}
 use Rattle.std.proofs.lemmas.List.{map-append}
 use Rattle.std.proofs.lemmas.Str.Ascii.{trim_ascii_start_is}
@@ -49,7 +49,4 @@ loop-rest-preserved c =
     (trimmed.utf8, rw (is, c.in_ok-push.ensures.items, map-append) more)
 
 pub returns-clause-read : goal.returns-clause-read
-returns-clause-read c =
-    let none : length c.loop-rest.rest.now ≡ 0 = grind (arith, common_steps) in
-    at_end c.args.text.now (map lexeme_view c.loop-rest.lexemes.items) c.loop-rest.rest.now none
-    c.loop-rest.invariant.1
+returns-clause-read c = grind (arith, common_steps, at_end)

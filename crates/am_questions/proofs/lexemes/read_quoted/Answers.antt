@@ -38,27 +38,10 @@ returns-in_err-escape_of-in-92-clause-refused c =
     ))
 
 pub range_from-requires : goal.range_from-requires
-range_from-requires c = λ _.
-    let n : ℕ = c.plain_len-len.result in
-    let rest = c.loop-value.rest.now in
-    let inside : n < length rest = grind (arith, common_steps) in
-    let at : get_or rest n 0 ≡ 34 = grind (arith, common_steps) in
-    IsCharBoundary-after_ascii rest n c.loop-value.invariant.0 inside (omega arith)
+range_from-requires c = grind (arith, common_steps, IsCharBoundary-after_ascii)
 
 pub returns-in-34-clause-read : goal.returns-in-34-clause-read
-returns-in-34-clause-read c =
-    let n : ℕ = c.plain_len-len.result in
-    let rest = c.loop-value.rest.now in
-    let is : n ≡ prefix_len is_plain rest = grind (arith, common_steps) in
-    let inside : n < length rest = grind (arith, common_steps) in
-    let at : get_or rest n 0 ≡ 34 = grind (arith, common_steps) in
-    let read =
-    quote_closes c.args.text.now (string_bytes c.loop-value.value) rest n is inside at
-    c.loop-value.invariant.1 in
-    let value_is : string_bytes c.push_str.new.self
-    ≡ string_bytes c.loop-value.value ++ take n rest = grind (arith, common_steps) in
-    let behind_is : c.range_from.result.now ≡ drop (n + 1) rest = grind (arith, common_steps) in
-    rw (value_is, behind_is) read
+returns-in-34-clause-read c = grind (arith, common_steps, quote_closes)
 
 pub returns-in_default-clause-refused : goal.returns-in_default-clause-refused
 returns-in_default-clause-refused c = λ _.
@@ -75,16 +58,7 @@ returns-in_default-clause-refused c = λ _.
     )
 
 pub range_from-rest-requires : goal.range_from-rest-requires
-range_from-rest-requires c = λ _.
-    let n : ℕ = c.plain_len-len.result in
-    let rest = c.loop-value.rest.now in
-    let inside : n + 1 < length rest = grind (arith, common_steps) in
-    let read = c.in_ok-escape_of-in-92.ensures.read in
-    let known : has_escape (get_or rest (n + 1) 0) ≡ true = grind (arith, common_steps, read.0) in
-    let at = IsCharBoundary-after_ascii rest (n + 1) c.loop-value.invariant.0 inside
-    (escaped_ascii (get_or rest (n + 1) 0) known) in
-    let two : (n + 1) + 1 ≡ n + 2 = omega arith in
-    rw two at at
+range_from-rest-requires c = grind (arith, common_steps, IsCharBoundary-after_ascii, escaped_ascii)
 
 pub loop-value-preserved : goal.loop-value-preserved
 loop-value-preserved c =
