@@ -1,12 +1,12 @@
 -- Calls of `ask` in a row: each goes on with what the one before it left.
-use Rattle.std.proofs.Common.{◌≡◌, inr, ℕ, List, [], ◌∷◌, ◌++◌, Option, None, Some}
+use Rattle.std.proofs.Common.{◌≡◌, inr, ℕ, List, [], ◌∷◌, ◌++◌, Option, None, Some, arith}
 use Rattle.std.proofs.Common.{MatchOption, ap, sym, ◌∙◌, refl}
 use Rattle.std.specs.Prelude.{option_map}
 use Rattle.std.specs.List.{flat_map}
 use Rattle.std.proofs.lemmas.Grind.{flat_map-append}
+use Rattle.std.proofs.lemmas.Grind.{common_steps}
 use mathlib.Core.List.{append_cancel_right}
 use Rattle.am_universe.specs.Universe.{sizes}
-use Rattle.am_universe.specs.WrittenLabelSet.{line}
 use Rattle.am_labels.specs.Space.{Space}
 use Rattle.am_eval.specs.World.{World}
 use Rattle.am_eval.specs.Question.{Question, is_answer}
@@ -16,10 +16,8 @@ use Rattle.am_search.specs.Start.{answers_from}
 use Rattle.am_search.specs.Page.{AnswerPage, rest_after, start_after, answers_from_any}
 use Rattle.am_search.specs.BudgetPage.{IsSearchPage}
 use Rattle.am_search.specs.Token.{token_text}
-use Rattle.am_search.specs.TrailerText.{trailer_text}
 use Rattle.am_search.specs.PageText.{lines_text}
 use Rattle.am_search.proofs.TokenTexts.{sizes_of_universe}
-use Rattle.am_search.proofs.BudgetPages.{same_unstopped}
 use Rattle.am_search.proofs.SearchChains.{goes_on}
 use Rattle.am_plans.specs.Verdicts.{verdict_of}
 use Rattle.am_questions.specs.Inputs.{Inputs, inputs_fingerprint, after_token, AcceptsInputs}
@@ -27,7 +25,7 @@ use Rattle.am_questions.proofs.OneInputs.{one_meaning_of_inputs}
 use Rattle.am_commands.specs.AskOutcome.{answer_page, searched_page, Asked}
 use Rattle.am_commands.specs.AskOutcome.{IsAskedOf, AreAskedInARow}
 use Rattle.am_plans.proofs.Soundness.{question_judges}
-use Rattle.am_commands.proofs.AskedPages.{enough_for}
+use Rattle.am_commands.proofs.AskedPages.{enough_for, page_unlimited}
 
 -- the lines of the answers from a start on
 abbrev pub lines_left : Space → World → Question → Start → List ℕ
@@ -58,53 +56,47 @@ goes_on_at inputs s w q start next page accepts is ends = record {
   );
 }
 
--- the page of a call is that of a search, under a budget that is enough
-pub asked_page : (inputs : Inputs) (asked : Asked) (h : IsAskedOf inputs asked)
-    → IsSearchPage (sizes h.2.space.labels) (verdict_of h.2.space h.2.world h.2.question) h.2.start
-    (searched_page h.2.space h.2.world h.2.question h.2.start asked.limit asked.steps)
-asked_page inputs asked h = record {
-  limit = asked.limit;
-  at_least_one = h.0;
-  budget = asked.steps;
-  enough = enough_for (sizes h.2.space.labels)
-      (sizes_of_universe h.2.space.labels h.2.accepts.says_universe.3.is_universe) asked.steps h.1;
-  from_start = refl;
-}
+-- facts about a call that succeeded
+module _ (inputs : Inputs) (asked : Asked) (h : IsAskedOf inputs asked) where
+  abbrev page : AnswerPage
+  page = searched_page h.2.space h.2.world h.2.question h.2.start asked.limit asked.steps
 
--- so the inputs with the token of its trailer are accepted
-pub asked_goes_on : (inputs : Inputs) (asked : Asked) (next : Start) (h : IsAskedOf inputs asked)
-    → start_after asked.trailer ≡ Some next
-    → AcceptsInputs (after_token inputs (token_text (inputs_fingerprint inputs) next)) h.2.space h.2.world h.2.question next
-asked_goes_on inputs asked next h ends =
-    goes_on_at inputs h.2.space h.2.world h.2.question h.2.start next
-    (searched_page h.2.space h.2.world h.2.question h.2.start asked.limit asked.steps)
-    h.2.accepts (asked_page inputs asked h) (ap start_after (sym h.2.trailer_is) ∙ ends)
+  -- the lines of the answers from a start on
+  abbrev left : Start → List ℕ
+  left = lines_left h.2.space h.2.world h.2.question
 
--- a call wrote the lines of its page
-page_lines : (inputs : Inputs) (asked : Asked) (h : IsAskedOf inputs asked)
-    → asked.lines
-    ≡ lines_text h.2.space.labels
-    (searched_page h.2.space h.2.world h.2.question h.2.start asked.limit asked.steps).choices
-page_lines inputs asked h =
-    let page : AnswerPage =
-    searched_page h.2.space h.2.world h.2.question h.2.start asked.limit asked.steps in
-    sym (append_cancel_right (lines_text h.2.space.labels page.choices) asked.lines
-    (trailer_text (inputs_fingerprint inputs) asked.trailer)
-    (ap (λ t. lines_text h.2.space.labels page.choices ++ trailer_text (inputs_fingerprint inputs) t) h.2.trailer_is ∙ sym h.2.text_is))
+  -- its page is that of a search, under a budget that is enough
+  pub asked_page : IsSearchPage (sizes h.2.space.labels) (verdict_of h.2.space h.2.world h.2.question)
+      h.2.start page
+  asked_page = grind (arith, common_steps, enough_for, sizes_of_universe)
 
--- the lines of a call, and then those that its trailer leaves, are all lines from its start on
-lines_and_rest : (inputs : Inputs) (asked : Asked) (h : IsAskedOf inputs asked)
-    → asked.lines
-    ++ lines_text h.2.space.labels
-    (rest_after (sizes h.2.space.labels) (is_answer h.2.space h.2.world h.2.question) asked.trailer)
-    ≡ lines_left h.2.space h.2.world h.2.question h.2.start
-lines_and_rest inputs asked h =
-    let s : Space = h.2.space in
-    let page : AnswerPage = searched_page s h.2.world h.2.question h.2.start asked.limit asked.steps in
-    let rest : List (List ℕ) =
-    rest_after (sizes s.labels) (is_answer s h.2.world h.2.question) asked.trailer in
-    ap (λ text. text ++ lines_text s.labels rest) (page_lines inputs asked h)
-    ∙ sym (flat_map-append (line s.labels) page.choices rest) ∙ ap (lines_text s.labels) (sym h.2.rest)
+  -- so the inputs with the token of its trailer are accepted
+  pub asked_goes_on : (next : Start) → start_after asked.trailer ≡ Some next
+      → AcceptsInputs (after_token inputs (token_text (inputs_fingerprint inputs) next)) h.2.space
+      h.2.world h.2.question next
+  asked_goes_on next ends =
+      goes_on_at inputs h.2.space h.2.world h.2.question h.2.start next page
+      h.2.accepts asked_page (ap start_after (sym h.2.trailer_is) ∙ ends)
+
+  -- it wrote the lines of its page
+  page_lines : asked.lines ≡ lines_text h.2.space.labels page.choices
+  page_lines = grind (arith, common_steps, append_cancel_right)
+
+  -- its lines, and then those that its trailer leaves, are all lines from its start on
+  lines_and_rest : asked.lines
+      ++ lines_text h.2.space.labels
+      (rest_after (sizes h.2.space.labels) (is_answer h.2.space h.2.world h.2.question) asked.trailer)
+      ≡ left h.2.start
+  lines_and_rest = grind (arith, common_steps, page_lines, flat_map-append)
+
+  -- without a limit and without a budget it writes all answers from its start on
+  whole_page : asked.limit ≡ None → asked.steps ≡ None
+      → page ≡ answer_page h.2.space h.2.world h.2.question h.2.start None
+  whole_page unlimited unbudgeted = grind (arith, common_steps, page_unlimited)
+
+  whole_lines : asked.limit ≡ None → asked.steps ≡ None → asked.lines ≡ left h.2.start
+  whole_lines unlimited unbudgeted =
+      page_lines ∙ ap (λ p. lines_text h.2.space.labels p.choices) (whole_page unlimited unbudgeted)
 
 pub lines_of_row : (inputs : Inputs) (row : List Asked) (s : Space) (w : World) (q : Question)
     (start : Start) → AreAskedInARow inputs row → AcceptsInputs inputs s w q start
@@ -114,46 +106,23 @@ lines_of_row inputs (asked ∷ more) s w q start h accepts =
     ap (λ text. asked.lines ++ text)
     (by (start_after asked.trailer) refl h.1 (λ next ends k. lines_of_row
     (after_token inputs (token_text (inputs_fingerprint inputs) next)) more h.0.2.space h.0.2.world h.0.2.question next k
-    (asked_goes_on inputs asked next h.0 ends)))
+    (asked_goes_on inputs asked h.0 next ends)))
     ∙ lines_and_rest inputs asked h.0
     ∙ same_lines inputs h.0.2.space s h.0.2.world w h.0.2.question q h.0.2.start start
     h.0.2.accepts accepts
   where
-    left : Start → List ℕ
-    left next = lines_left h.0.2.space h.0.2.world h.0.2.question next
-
     by : (o : Option Start) → start_after asked.trailer ≡ o
         → MatchOption (option_map (token_text (inputs_fingerprint inputs)) o) (more ≡ [])
         (λ token. AreAskedInARow (after_token inputs token) more)
         → ((next : Start) → start_after asked.trailer ≡ Some next
         → AreAskedInARow (after_token inputs (token_text (inputs_fingerprint inputs) next)) more
-        → flat_map (λ (asked : Asked). asked.lines) more ≡ left next)
+        → flat_map (λ (asked : Asked). asked.lines) more ≡ left inputs asked h.0 next)
         → flat_map (λ (asked : Asked). asked.lines) more
         ≡ lines_text h.0.2.space.labels
         (answers_from_any (sizes h.0.2.space.labels)
         (is_answer h.0.2.space h.0.2.world h.0.2.question) o)
     by None ends none goes = ap (flat_map (λ (asked : Asked). asked.lines)) none
     by (Some next) ends again goes = goes next ends again
-
--- a call without a limit and without a budget writes all answers from its start on
-whole_page : (inputs : Inputs) (asked : Asked) (h : IsAskedOf inputs asked) → asked.limit ≡ None
-    → asked.steps ≡ None
-    → searched_page h.2.space h.2.world h.2.question h.2.start asked.limit asked.steps
-    ≡ answer_page h.2.space h.2.world h.2.question h.2.start None
-whole_page inputs asked h unlimited unbudgeted =
-    let s : Space = h.2.space in
-    ap (λ limit. searched_page s h.2.world h.2.question h.2.start limit asked.steps) unlimited
-    ∙ ap (searched_page s h.2.world h.2.question h.2.start None) unbudgeted
-    ∙ same_unstopped (sizes s.labels) (is_answer s h.2.world h.2.question)
-    (verdict_of s h.2.world h.2.question) h.2.start
-    (question_judges s h.2.world h.2.question h.2.accepts.says_universe.3.is_universe) None None refl
-
-whole_lines : (inputs : Inputs) (asked : Asked) (h : IsAskedOf inputs asked) → asked.limit ≡ None
-    → asked.steps ≡ None → asked.lines ≡ lines_left h.2.space h.2.world h.2.question h.2.start
-whole_lines inputs asked h unlimited unbudgeted =
-    page_lines inputs asked h
-    ∙ ap (λ page. lines_text h.2.space.labels page.choices)
-    (whole_page inputs asked h unlimited unbudgeted)
 
 -- the lines of calls in a row are those of one call without a limit and without a budget
 pub row_is_one_page : (inputs : Inputs) (row : List Asked) (whole : Asked)
@@ -169,10 +138,7 @@ pub again_ends : (inputs : Inputs) (first second : Asked) (next : Start) → IsA
     → start_after first.trailer ≡ Some next
     → IsAskedOf (after_token inputs (token_text (inputs_fingerprint inputs) next)) second → second.limit ≡ None
     → second.steps ≡ None → second.trailer ≡ End
-again_ends inputs first second next asked ends again unlimited unbudgeted =
-    again.2.trailer_is
-    ∙ ap (λ page. page.trailer)
-    (whole_page (after_token inputs (token_text (inputs_fingerprint inputs) next)) second again unlimited unbudgeted)
+again_ends inputs first second next asked ends again unlimited unbudgeted = grind (arith, common_steps, whole_page)
 
 pub again_writes : (inputs : Inputs) (first second : Asked) (next : Start)
     → (asked : IsAskedOf inputs first) → start_after first.trailer ≡ Some next
@@ -185,6 +151,6 @@ again_writes inputs first second next asked ends again unlimited unbudgeted =
     whole_lines (after_token inputs (token_text (inputs_fingerprint inputs) next)) second again unlimited unbudgeted
     ∙ same_lines (after_token inputs (token_text (inputs_fingerprint inputs) next)) again.2.space asked.2.space
     again.2.world asked.2.world again.2.question asked.2.question again.2.start next
-    again.2.accepts (asked_goes_on inputs first next asked ends)
+    again.2.accepts (asked_goes_on inputs first asked next ends)
     ∙ ap (λ o. lines_text asked.2.space.labels (answers_from_any (sizes asked.2.space.labels)
     (is_answer asked.2.space asked.2.world asked.2.question) o)) (sym ends)

@@ -1,8 +1,9 @@
 -- Pages of the answers to a question.
-use Rattle.std.proofs.Common.{◌≡◌, ◌≢◌, ℕ, ◌<◌, Bool, List, [], ◌∷◌, ◌++◌, Option, None, Some, IfSome, ap, sym, subst, ◌∙◌, refl, arith}
+use Rattle.std.proofs.Common.{◌≡◌, ◌≢◌, ℕ, ◌<◌, Bool, List, [], ◌∷◌, ◌++◌, Option, None, Some, IfSome, ap, sym, ◌∙◌, refl, arith}
 use Rattle.std.specs.Prelude.{IsTrue}
 use Rattle.std.specs.List.{filter, flat_map}
 use Rattle.std.proofs.lemmas.Grind.{flat_map-append}
+use Rattle.std.proofs.lemmas.Grind.{common_steps}
 use Rattle.am_universe.specs.declared.limits.TheConstants.{MAX_LABELS}
 use Rattle.am_universe.specs.Universe.{Label, IsUniverse, sizes}
 use Rattle.am_universe.specs.Choice.{admits}
@@ -124,9 +125,4 @@ pub asked_from : (inputs : Inputs) (limit steps : Option ℕ) (trailer : Trailer
     → IfSome limit (λ n. 0 < n) → IfSome steps (λ n. MAX_LABELS < n) → AnswersInputs inputs limit steps trailer text
     → (lines : List ℕ) × IsAskedOf inputs (record { limit = limit; steps = steps; lines = lines; trailer = trailer })
     × (text ≡ lines ++ trailer_text (inputs_fingerprint inputs) trailer)
-asked_from inputs limit steps trailer text some enough answered =
-    let page : AnswerPage = searched_page answered.space answered.world answered.question answered.start limit steps in
-    let lines : List ℕ = lines_text answered.space.labels page.choices in
-    let same : text ≡ lines ++ trailer_text (inputs_fingerprint inputs) trailer =
-    answered.text_is ∙ ap (λ t. lines ++ trailer_text (inputs_fingerprint inputs) t) (sym answered.trailer_is) in
-    (lines, (some, enough, subst (AnswersInputs inputs limit steps trailer) same answered), same)
+asked_from inputs limit steps trailer text some enough answered = grind (arith, common_steps)

@@ -44,7 +44,7 @@ again_later inputs first second next asked ends again =
     let same = one_meaning_of_inputs
     (after_token inputs (token_text (inputs_fingerprint inputs) next)) asked.2.space again.2.space
     asked.2.world again.2.world asked.2.question again.2.question next again.2.start
-    (asked_goes_on inputs first next asked ends) again.2.accepts in
+    (asked_goes_on inputs first asked next ends) again.2.accepts in
     subst (BeginsLater (sizes asked.2.space.labels) asked.2.start) same.3
     (goes_later inputs first next asked ends)
 
@@ -66,7 +66,7 @@ row_within inputs [] s w q start h accepts n some within =
 row_within inputs (asked ∷ more) s w q start h accepts n some within =
     by (start_after asked.trailer) refl h.1 (λ next ends k. row_within
     (after_token inputs (token_text (inputs_fingerprint inputs) next)) more h.0.2.space
-    h.0.2.world h.0.2.question next k (asked_goes_on inputs asked next h.0 ends))
+    h.0.2.world h.0.2.question next k (asked_goes_on inputs asked h.0 next ends))
   where
     Follows : (Inputs → List Asked → Type 0) → Option Start → Type 0
     Follows IsRow o =

@@ -1,5 +1,6 @@
 -- The same inputs fix the text that a command writes.
-use Rattle.std.proofs.Common.{◌≡◌, ℕ, List, Option, ap, sym, subst, ◌∙◌}
+use Rattle.std.proofs.Common.{◌≡◌, ℕ, List, Option, subst, arith}
+use Rattle.std.proofs.lemmas.Grind.{common_steps}
 use Rattle.am_labels.specs.Space.{Space}
 use Rattle.am_config.specs.ConfigFile.{Configuration}
 use Rattle.am_eval.proofs.AcceptedInputs.{one_space, one_configuration}
@@ -27,10 +28,8 @@ one_page inputs limit steps page other trailer again h k =
     (searched_page h.space h.world h.question h.start limit steps)
     ≡ page_text k.space.labels fingerprint
     (searched_page k.space k.world k.question k.start limit steps) =
-    λ i. page_text (same.0 i).labels fingerprint (pages i) in (
-      h.text_is ∙ texts ∙ sym k.text_is,
-      h.trailer_is ∙ ap (λ p. p.trailer) pages ∙ sym k.trailer_is,
-    )
+    λ i. page_text (same.0 i).labels fingerprint (pages i) in
+    grind (arith, common_steps)
 
 -- the files fix a report, if what they say fixes it
 one_report : (IsReport : Space → Configuration → List ℕ → Type 0)

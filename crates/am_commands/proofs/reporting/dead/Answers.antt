@@ -1,5 +1,6 @@
 -- What is written is a report on what the files say.
-use Rattle.std.proofs.Common.{map, ap, ◌∙◌, refl}
+use Rattle.std.proofs.Common.{map, ap, ◌∙◌, arith}
+use Rattle.std.proofs.lemmas.Grind.{common_steps}
 use Rattle.am_config.specs.ConfigView.{config_view}
 use Rattle.am_coverage.specs.CoverageView.{found_view}
 use Rattle.am_coverage.proofs.ReportFacts.{routes_reported}
@@ -12,11 +13,7 @@ write_routes-written-requires g c =
     record { shown = rw (c.as_slice.ensures.value, c.universe.ensures.labels) c.in-Ok.ensures.shown }
 
 pub returns-in_err-read : goal.returns-in_err-read
-returns-in_err-read g c =
-    record {
-      kept = refused (dead_promise c.args.universe.now c.args.config.now) c.in_err-read.field-0.0
-          c.from_residual.result refl c.from_residual.ensures.1 c.in_err-read.ensures.first;
-    }
+returns-in_err-read g c = grind (arith, common_steps, refused)
 
 pub returns : goal.returns
 returns g c =

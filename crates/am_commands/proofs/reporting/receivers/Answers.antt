@@ -1,31 +1,23 @@
 -- Each receiver of the configuration has a result, and what is written is a report on what the
 -- files say.
-use Rattle.std.proofs.Common.{length, ap, ◌∙◌, refl}
+use Rattle.std.proofs.Common.{◌∙◌, arith}
 use Rattle.std.proofs.lemmas.List.FromFn.{length-map-range_with_len}
+use Rattle.std.proofs.lemmas.Grind.{common_steps}
 use Rattle.am_config.specs.ConfigView.{config_view}
-use Rattle.am_coverage.specs.Coverage.{receiver_coverage}
 use Rattle.am_coverage.proofs.ReportFacts.{receivers_reported}
 use Rattle.am_eval.proofs.Promises.{refused, written, nothing_told}
 use Rattle.am_commands.specs.Reports.{receivers_promise}
 use Rattle.am_commands.proofs.reporting.receivers.Goals as goal
 
 pub write_receivers-written-requires-clause-each : goal.write_receivers-written-requires-clause-each
-write_receivers-written-requires-clause-each g c =
-    let config = config_view c.in_ok-read.read.config in
-    ap length (c.as_slice.ensures.value ∙ c.in-Ok.ensures.receivers)
-    ∙ length-map-range_with_len (receiver_coverage c.in_ok-read.read.space config) 0
-    (length config.receivers)
+write_receivers-written-requires-clause-each g c = grind (arith, common_steps, length-map-range_with_len)
 
 pub write_receivers-written-requires-clause-reached : goal.write_receivers-written-requires-clause-reached
 write_receivers-written-requires-clause-reached g c =
     rw (c.as_slice.ensures.value, c.universe.ensures.labels) c.in-Ok.ensures.shown
 
 pub returns-in_err-read : goal.returns-in_err-read
-returns-in_err-read g c =
-    record {
-      kept = refused (receivers_promise c.args.universe.now c.args.config.now) c.in_err-read.field-0.0
-          c.from_residual.result refl c.from_residual.ensures.1 c.in_err-read.ensures.first;
-    }
+returns-in_err-read g c = grind (arith, common_steps, refused)
 
 pub returns : goal.returns
 returns g c =
