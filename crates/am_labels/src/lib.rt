@@ -32,7 +32,7 @@ mod matcher;
 mod matchers;
 mod prepared_matchers;
 
-pub use matcher::Matcher;
+pub use matcher::{Matcher, PreparedMatcher};
 pub use matchers::Matchers;
 pub use prepared_matchers::PreparedMatchers;
 

@@ -23,7 +23,7 @@ pub struct Matcher {
 }
 
 impl Model for Matcher {
-    ghost use Rattle.std.specs.Prelude.{◌≡◌, Some, None, if◌then◌else◌, string_bytes};
+    ghost use Rattle.std.specs.Prelude.{◌≡◌, ◌≢◌, [], Some, None, if◌then◌else◌, string_bytes};
     ghost use Rattle.am_labels.specs.Matcher.{Condition, takes_pattern};
 
     ghost Value = { Condition };
@@ -31,9 +31,9 @@ impl Model for Matcher {
     ghost view = { λ m.
         record { name = string_bytes m.name; op = m.op; value = string_bytes m.value } };
 
-    // The pattern is built once, if the operator takes one.
-    ghost invariant = { λ m.
-        m.pattern ≡ (if takes_pattern m.op then Some (string_bytes m.value) else None) };
+    // The label has a name. The pattern is built once, if the operator takes one.
+    ghost invariant = { λ m. (string_bytes m.name ≢ [])
+        × (m.pattern ≡ (if takes_pattern m.op then Some (string_bytes m.value) else None)) };
 }
 
 impl Matcher {
@@ -75,9 +75,10 @@ impl Matcher {
         })
     }
 
-    /// The name of the label.
+    /// The name of the label, which is not empty.
     pub fn name(&self) -> &str
         ensures name { result.now ≡ self.now.name }
+        ensures named { self.now.name ≢ [] }
     {
         self.name.as_str()
     }
@@ -97,8 +98,10 @@ impl Matcher {
     }
 
     /// Prepares this matcher to test one text after another.
-    pub(crate) fn prepare(&self, alloc: Global) -> Result<PreparedMatcher<'_>, AllocError>
-        ensures { IfOk result (λ prepared. prepared ≡ self.now) }
+    ///
+    /// Fails only if memory runs out.
+    pub fn prepare(&self, alloc: Global) -> Result<PreparedMatcher<'_>, AllocError>
+        ensures matcher { IfOk result (λ prepared. prepared ≡ self.now) }
     {
         let search = match &self.pattern {
             Some(pattern) => Some(pattern.matcher(alloc)?),
@@ -114,7 +117,7 @@ impl Matcher {
 /// Tests one text after another against a matcher. The engine keeps its caches from one text to the
 /// next, and a test cannot fail.
 #[derive(Drop)]
-pub(crate) struct PreparedMatcher<'m> {
+pub struct PreparedMatcher<'m> {
     matcher: &'m Matcher,
     search: Option<PatternMatcher<'m>>,
 }
@@ -133,7 +136,7 @@ impl<'m> Model for PreparedMatcher<'m> {
 
 impl<'m> PreparedMatcher<'m> {
     /// Whether the operator and the value are true of a text.
-    pub(crate) fn holds(&mut self, text: &str) -> bool
+    pub fn holds(&mut self, text: &str) -> bool
         ensures truth { result ≡ holds self.old.op self.old.value text.now }
         ensures same { self.new ≡ self.old }
     {
