@@ -23,6 +23,10 @@ use Rattle.am_complete.proofs.Pushed.{got_either}
 
 -- ---- What is apart is distinct.
 
+pub one_distinct : (x : List ℕ) → IsDistinct same_text (x ∷ [])
+unfolding IsDistinct
+one_distinct x = (tt, tt)
+
 pub one_apart : (ms : List Condition) (t : List ℕ) → AreApart ms (t ∷ [])
 one_apart ms t zero zero x y at_x at_y alike = refl
 one_apart ms t zero (suc j) x y at_x at_y alike = absurd (cc)

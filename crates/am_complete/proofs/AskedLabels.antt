@@ -1,7 +1,6 @@
 -- Labels that are asked about: their names, and the matchers on them.
 use Rattle.std.proofs.Common.{◌≡◌, ◌≢◌, ℕ, List, [], ◌∷◌, Contains, refl, sym, ◌∙◌, subst, inl, inr}
 use Rattle.std.specs.Prelude.{IsTrue}
-use Rattle.std.specs.List.{AllByRecursion}
 use Rattle.std.specs.Cmp.Lexicographic.{bytes_decides}
 use Rattle.std.proofs.lemmas.Bool.{cases_Bool}
 use Rattle.am_universe.specs.Text.{same_text}
@@ -12,11 +11,11 @@ use Rattle.am_labels.specs.Matcher.{Condition}
 use Rattle.am_complete.specs.Complete.{about, asks_only_of, AreAmong, impossible_conditions}
 use Rattle.am_complete.specs.Complete.{HaveSameMatchers}
 use Rattle.am_complete.specs.AskedLabel.{AskedLabel, asked_names, IsAskedOf}
-use Rattle.am_complete.specs.FoundState.{HasThoseOfLists, IsAskedFor}
-use Rattle.am_complete.proofs.Alike.{about_is, is_about, is_among}
+use Rattle.am_complete.specs.FoundState.{HasThoseOfLists}
+use Rattle.am_complete.proofs.Alike.{is_about, is_among}
 use Rattle.am_complete.proofs.AmongMatchers.{among_by}
 use Rattle.am_complete.proofs.PossibleTexts.{all_pass}
-use Rattle.am_complete.proofs.SameMatchers.{in_there, in_back}
+use Rattle.am_complete.proofs.SameMatchers.{in_back}
 
 pub no_name : (name : List ℕ) → IsTrue (is_label_name name) → name ≡ [] → ⊥
 no_name [] h e = absurd (cc)
@@ -37,16 +36,7 @@ on_name asked ms l asks i some =
     AllByRecursion-at (λ x. x.name ≢ [] → HaveSameMatchers x.matchers (about x.name ms)) asked l
     asks.matchers i some
 
--- so its matchers are on it
-pub on_named : (asked : List AskedLabel) (ms : List Condition) (l : AskedLabel)
-    → IsAskedOf asked ms → IsIn asked l → l.name ≢ []
-    → AllByRecursion (λ m. m.name ≡ l.name) l.matchers
-on_named asked ms l asks i some =
-    AllByRecursion-each (λ m. m.name ≡ l.name) l.matchers (λ m h.
-    (about_is l.name ms m
-    (in_there l.matchers (about l.name ms) m (on_name asked ms l asks i some) h)).1)
-
--- and those of impossible lists that ask about it alone are among them
+-- and the matchers of impossible lists that ask about it alone are among them
 all_on : (name : List ℕ) (list : List Condition) → IsTrue (asks_only_of name list)
     → (m : Condition) → IsIn list m → m.name ≡ name
 all_on name list alone m i =
@@ -67,11 +57,9 @@ those_of_lists ms l impossible among same =
 pub asked_for : (impossible : List (List Condition)) (asked : List AskedLabel)
     (ms : List Condition) (l : AskedLabel) → IsAskedOf asked ms
     → AreAmong (impossible_conditions impossible) ms → IsIn asked l → l.name ≢ []
-    → IsAskedFor impossible l
-asked_for impossible asked ms l asks among i some = record {
-  on = on_named asked ms l asks i some;
-  lists = those_of_lists ms l impossible among (on_name asked ms l asks i some);
-}
+    → HasThoseOfLists impossible l
+asked_for impossible asked ms l asks among i some =
+    those_of_lists ms l impossible among (on_name asked ms l asks i some)
 
 -- a name that is not asked about has no matcher on it
 pub not_asked : (asked : List AskedLabel) (ms : List Condition) (name : List ℕ)

@@ -1,117 +1,136 @@
 -- Texts that stand for classes of texts. Other texts of these classes stand for them too, and so do
 -- the texts in another order.
-use Rattle.std.proofs.Common.{◌≡◌, ◌<◌, ℕ, zero, suc, Bool, true, false, List, [], ◌∷◌, ◌++◌}
-use Rattle.std.proofs.Common.{length, map, take, String, string_bytes, get_or, Option, Some, None}
+use Rattle.std.proofs.Common.{◌≡◌, ◌<◌, ℕ, Bool, true, false, List, [], ◌∷◌}
+use Rattle.std.proofs.Common.{option_map, string_bytes, get_or, Some}
 use Rattle.std.proofs.Common.{refl, sym, ap, ◌∙◌, subst, inl, inr, arith}
-use Rattle.std.specs.Prelude.{slice_get, IsPermutation, IfSome, is_some}
-use Rattle.std.specs.List.{AllByRecursion, IsDistinct}
-use Rattle.std.specs.declared.alloc.Global.{Global}
+use Rattle.std.specs.Prelude.{slice_get, IsPermutation}
+use Rattle.std.specs.List.{IsDistinct}
+use Rattle.std.specs.Cmp.Lexicographic.{pointwise}
 use mathlib.Core.Bool.{beq}
-use Rattle.std.proofs.lemmas.Bool.{both_ways, cases_Bool, cases_lt, and_parts}
-use Rattle.std.proofs.lemmas.List.{take_all}
+use Rattle.std.proofs.lemmas.Bool.{both_ways, cases_Bool, cases_lt}
+use Rattle.std.proofs.lemmas.Slice.Eq.{slice_eq-Decides}
 use Rattle.std.proofs.lemmas.List.Sorted.{Contains-permutation, IsPermutation-sym}
 use Rattle.std.proofs.lemmas.Map.Keys.{IsDistinct-IsPermutation, IsDistinct-from_apart}
 use Rattle.std.proofs.lemmas.Map.Keys.{apart_from_distinct}
 use Rattle.std.proofs.lemmas.Option.{slice_get-get_or, get_or_from_slice_get, slice_get_within}
+use Rattle.std.proofs.lemmas.Option.{slice_get-map}
 use Rattle.std.proofs.lemmas.Grind.{common_steps}
-use Rattle.am_universe.proofs.ListLemmas.{IsIn, IsIn-from_Contains, Contains-from_IsIn}
+use Rattle.am_universe.proofs.ListLemmas.{IsIn, IsIn-map, IsIn-unmap, IsIn-from_Contains}
+use Rattle.am_universe.proofs.ListLemmas.{Contains-from_IsIn}
 use Rattle.am_universe.proofs.ListLemmas.{AllByRecursion-at, AllByRecursion-each}
-use Rattle.am_labels.specs.Matcher.{Condition}
-use Rattle.am_universe.proofs.Members.{in_at}
+use Rattle.am_universe.proofs.Members.{at_in, in_at}
+use Rattle.am_labels.specs.Matcher.{Condition, holds}
 use Rattle.am_classes.specs.declared.alphabet.Alphabet.{Alphabet}
 use Rattle.am_classes.specs.Alphabet.{IsOver, AreOver}
-use Rattle.am_classes.specs.Alike.{AreAlike, AreApart, HasAlikeIn}
+use Rattle.am_classes.specs.Alike.{AreAlike, AreApart}
+use Rattle.am_classes.proofs.BoolLemmas.{beq-Decides}
 use Rattle.am_complete.specs.Covering.{AreClasses}
-use Rattle.am_complete.specs.Truths.{AreAlikeEach, IsAlikeAt, alike}
-use Rattle.am_complete.proofs.Alike.{alike_turned, alike_joined}
+use Rattle.am_complete.specs.declared.tested.Tested.{Tested}
+use Rattle.am_complete.specs.Truths.{alike, truths, texts_of, AreTested, IsChosen, AreChosenEach}
+use Rattle.am_complete.proofs.Alike.{alike_itself, alike_turned, alike_joined}
+use Rattle.am_complete.proofs.Pushed.{zip_left, zip_right}
+
+-- ---- Alike texts have the same truths.
+
+same_truths : (ms : List Condition) (x y : List ℕ) → AreAlike ms x y → truths ms x ≡ truths ms y
+same_truths [] x y h = refl
+same_truths (m ∷ ms) x y h = λ i. h.0 i ∷ same_truths ms x y h.1 i
+
+alike_from_truths : (ms : List Condition) (x y : List ℕ) → truths ms x ≡ truths ms y → AreAlike ms x y
+alike_from_truths [] x y e = tt
+alike_from_truths (m ∷ ms) x y e =
+    let first : holds m.op m.value x ≡ holds m.op m.value y = cc in
+    let rest : truths ms x ≡ truths ms y = cc in (first, alike_from_truths ms x y rest)
+
+pub alike_is : (ms : List Condition) (x y : List ℕ) → AreAlike ms x y → alike ms x y ≡ true
+alike_is ms x y h =
+    (slice_eq-Decides beq-Decides (truths ms x) (truths ms y) _ refl).1 (same_truths ms x y h)
+
+pub is_alike : (ms : List Condition) (x y : List ℕ) → alike ms x y ≡ true → AreAlike ms x y
+is_alike ms x y h =
+    alike_from_truths ms x y
+    ((slice_eq-Decides beq-Decides (truths ms x) (truths ms y) _ refl).0 h)
+
+-- a chosen text is alike to the wanted one
+chosen_alike : (ms : List Condition) (usual : List Tested) (w : Tested) (x : List ℕ)
+    → AreTested ms usual → w.truths.items ≡ truths ms (string_bytes w.text) → IsChosen usual w x
+    → AreAlike ms x (string_bytes w.text)
+chosen_alike ms usual w x tested here (inl same) =
+    subst (λ v. AreAlike ms v (string_bytes w.text)) (sym same)
+    (alike_itself ms (string_bytes w.text))
+chosen_alike ms usual w x tested here (inr r) =
+    let at = AllByRecursion-at _ usual r.0 tested (IsIn-from_Contains usual r.0 r.1) in
+    let test : pointwise beq r.0.truths.items w.truths.items
+    ≡ alike ms (string_bytes r.0.text) (string_bytes w.text) = λ i. pointwise beq (at i) (here i) in
+    subst (λ v. AreAlike ms v (string_bytes w.text)) (sym r.2)
+    (is_alike ms (string_bytes r.0.text) (string_bytes w.text) (sym test ∙ r.3))
 
 -- ---- Others of their classes.
 
-alike_in : (ms : List Condition) (xs ys : List (List ℕ)) (y : List ℕ) → AreAlikeEach ms xs ys
-    → IsIn ys y → (x : List ℕ) × IsIn xs x × AreAlike ms x y
-alike_in ms [] [] y each i = absurd i
-alike_in ms [] (z ∷ ys) y each i = absurd each
-alike_in ms (x ∷ xs) [] y each i = absurd i
-alike_in ms (x ∷ xs) (z ∷ ys) y each (inl e) = (x, inl refl, subst (AreAlike ms x) e each.0)
-alike_in ms (x ∷ xs) (z ∷ ys) y each (inr i) = grind (arith, common_steps, alike_in ms xs ys y)
+module _ (alphabet : Alphabet) (ms : List Condition) (usual ws : List Tested)
+    (xs : List (List ℕ)) (tested : AreTested ms usual) (here : AreTested ms ws)
+    (over : AreOver alphabet (texts_of usual)) (each : AreChosenEach usual ws xs) where
+  like : (w : Tested) (x : List ℕ) → IsIn ws w → IsChosen usual w x
+      → AreAlike ms x (string_bytes w.text)
+  like w x i chosen = chosen_alike ms usual w x tested (AllByRecursion-at _ ws w here i) chosen
 
-alike_there : (ms : List Condition) (xs ys : List (List ℕ)) (i : ℕ) (x : List ℕ)
-    → AreAlikeEach ms xs ys → slice_get xs i ≡ Some x
-    → (y : List ℕ) × (slice_get ys i ≡ Some y) × AreAlike ms x y
-alike_there ms [] ys i x each e = absurd (cc)
-alike_there ms (z ∷ xs) [] i x each e = absurd each
-alike_there ms (z ∷ xs) (y ∷ ys) zero x each e = grind (arith, common_steps)
-alike_there ms (z ∷ xs) (y ∷ ys) (suc i) x each e = alike_there ms xs ys i x each.1 e
+  -- the wanted text at a position, and the text that is chosen for it
+  wanted_at : (i : ℕ) (x : List ℕ) → slice_get xs i ≡ Some x
+      → (y : List ℕ) × (slice_get (texts_of ws) i ≡ Some y) × AreAlike ms x y
+  wanted_at i x at =
+      let w = zip_right (IsChosen usual) ws xs i x each at in (
+        string_bytes w.0.text,
+        slice_get-map (λ t. string_bytes t.text) ws i ∙ ap (option_map (λ t. string_bytes t.text)) w.1,
+        like w.0 x (in_at ws i w.0 w.1) w.2,
+      )
 
-pub classes_chosen : (alphabet : Alphabet) (ms : List Condition) (xs ys : List (List ℕ))
-    (all : Bool) → AreAlikeEach ms xs ys → AreOver alphabet xs → AreClasses alphabet ms ys all
-    → AreClasses alphabet ms xs all
-classes_chosen alphabet ms xs ys all each over classes = record {
-  covers = λ whole text valid.
-      let one = classes.covers whole text valid in
-      let r = alike_in ms xs ys one.0 each (IsIn-from_Contains ys one.0 one.1) in
-      (r.0, Contains-from_IsIn xs r.0 r.1, alike_joined ms r.0 one.0 text r.2 one.2);
-  apart = λ i j x y at_x at_y alike.
-      let a = alike_there ms xs ys i x each at_x in
-      let b = alike_there ms xs ys j y each at_y in
-      classes.apart i j a.0 b.0 a.1 b.1
-      (alike_joined ms a.0 x b.0 (alike_turned ms x a.0 a.2) (alike_joined ms x y b.0 alike b.2));
-  over = over;
-}
+  chosen_over : AreOver alphabet (texts_of ws) → AreOver alphabet xs
+  chosen_over wanted =
+      AllByRecursion-each (IsOver alphabet) xs (λ x i.
+      let at = at_in xs x i in
+      let w = zip_right (IsChosen usual) ws xs at.0 x each at.1 in
+      by w.0 x (in_at ws at.0 w.0 w.1) w.2)
+    where
+      at_text : (ts : List Tested) (t : Tested) → AreOver alphabet (texts_of ts) → IsIn ts t
+          → IsOver alphabet (string_bytes t.text)
+      at_text ts t all i =
+          AllByRecursion-at (IsOver alphabet) (texts_of ts) (string_bytes t.text) all
+          (IsIn-map (λ u. string_bytes u.text) ts t i)
 
--- one more text
-pub one_more_each : (ms : List Condition) (xs ys : List (List ℕ)) (x y : List ℕ)
-    → AreAlikeEach ms xs ys → AreAlike ms x y → AreAlikeEach ms (xs ++ x ∷ []) (ys ++ y ∷ [])
-one_more_each ms [] [] x y each here = (here, tt)
-one_more_each ms [] (w ∷ ys) x y each here = absurd each
-one_more_each ms (v ∷ xs) [] x y each here = absurd each
-one_more_each ms (v ∷ xs) (w ∷ ys) x y each here =
-    (each.0, one_more_each ms xs ys x y each.1 here)
+      by : (w : Tested) (x : List ℕ) → IsIn ws w → IsChosen usual w x → IsOver alphabet x
+      by w x i (inl same) = subst (IsOver alphabet) (sym same) (at_text ws w wanted i)
+      by w x i (inr r) =
+          subst (IsOver alphabet) (sym r.2)
+          (at_text usual r.0 over (IsIn-from_Contains usual r.0 r.1))
 
--- ---- A text that has one alike among others.
-
-pub found_among : (ms : List Condition) (have texts : List (List ℕ)) (j : ℕ) (y : List ℕ)
-    (found : Option ℕ) → slice_get texts j ≡ Some y
-    → IfSome found (λ k. (z : List ℕ) → slice_get texts j ≡ Some z → IsAlikeAt ms have k z)
-    → is_some found ≡ true → HasAlikeIn ms have y
-found_among ms have texts j y None at_y some is = absurd (cc)
-found_among ms have texts j y (Some k) at_y some is =
-    let r = some y at_y in
-    (r.0, Contains-from_IsIn have r.0 (in_at have k r.0 r.1), r.2)
-
--- what holds for as many texts as there are holds for all
-pub each_of_all : (P : List ℕ → Type 0) (texts : List (String Global)) (n : ℕ)
-    → n ≡ length texts → AllByRecursion P (map string_bytes (take n texts))
-    → AllByRecursion P (map string_bytes texts)
-each_of_all P texts n all each = grind (arith, common_steps, take_all)
+  pub classes_chosen : (all : Bool) → AreClasses alphabet ms (texts_of ws) all
+      → AreClasses alphabet ms xs all
+  classes_chosen all classes = record {
+    covers = λ whole text valid.
+        let one = classes.covers whole text valid in
+        let w = IsIn-unmap (λ t. string_bytes t.text) ws one.0
+        (IsIn-from_Contains (texts_of ws) one.0 one.1) in
+        let at = at_in ws w.0 w.1 in
+        let x = zip_left (IsChosen usual) ws xs at.0 w.0 each at.1 in (
+          x.0,
+          Contains-from_IsIn xs x.0 (in_at xs at.0 x.0 x.1),
+          alike_joined ms x.0 one.0 text (subst (AreAlike ms x.0) w.2 (like w.0 x.0 w.1 x.2)) one.2,
+        );
+    apart = λ i j x y at_x at_y alike.
+        let a = wanted_at i x at_x in
+        let b = wanted_at j y at_y in
+        classes.apart i j a.0 b.0 a.1 b.1
+        (alike_joined ms a.0 x b.0 (alike_turned ms x a.0 a.2) (alike_joined ms x y b.0 alike b.2));
+    over = chosen_over classes.over;
+  }
 
 -- ---- Another order.
-
-pub same_truths : (a b : Bool) → a ≡ b → beq a b ≡ true
-same_truths true true e = refl
-same_truths true false e = absurd (cc)
-same_truths false true e = absurd (cc)
-same_truths false false e = refl
-
-pub one_truth : (a b : Bool) → beq a b ≡ true → a ≡ b
-one_truth true true e = refl
-one_truth true false e = absurd (cc)
-one_truth false true e = absurd (cc)
-one_truth false false e = refl
 
 -- two truths are the same if each gives the other
 pub same_where_both : (a b : Bool) → (a ≡ true → b ≡ true) → (b ≡ true → a ≡ true) → a ≡ b
 same_where_both true b f g = sym (f refl)
 same_where_both false true f g = g refl
 same_where_both false false f g = refl
-
-pub alike_is : (ms : List Condition) (x y : List ℕ) → AreAlike ms x y → alike ms x y ≡ true
-alike_is [] x y h = refl
-alike_is (m ∷ ms) x y h = grind (arith, common_steps, same_truths, alike_is ms x y)
-
-pub is_alike : (ms : List Condition) (x y : List ℕ) → alike ms x y ≡ true → AreAlike ms x y
-is_alike [] x y h = tt
-is_alike (m ∷ ms) x y h = grind (arith, common_steps, and_parts, one_truth, is_alike ms x y)
 
 pub turned : (ms : List Condition) (x y : List ℕ) → alike ms x y ≡ alike ms y x
 turned ms x y = grind (arith, common_steps, same_where_both, alike_is, alike_turned, is_alike)

@@ -2,7 +2,7 @@
 use Rattle.std.proofs.Common.{◌≡◌, ◌≢◌, ◌<◌, ◌+◌, ◌==◌, ℕ, Bool, true, false, not, List, [], ◌∷◌}
 use Rattle.std.proofs.Common.{◌++◌, length, map, take, get_or, Option, Some, None, Contains, refl}
 use Rattle.std.proofs.Common.{sym, ap, ◌∙◌, subst, inl, inr, arith, String, string_bytes}
-use Rattle.std.proofs.Common.{append_assoc}
+use Rattle.std.proofs.Common.{append_assoc, cond}
 use Rattle.std.specs.Prelude.{IsTrue, slice_get, unwrap_or, is_some, IfSome, IfNone}
 use Rattle.std.specs.List.{AllByRecursion, filter, find, list_any, list_all}
 use Rattle.std.specs.Cmp.Lexicographic.{bytes_decides}
@@ -18,7 +18,6 @@ use Rattle.std.proofs.lemmas.Option.{slice_get_read, cond_some}
 use Rattle.std.proofs.lemmas.Grind.{common_steps}
 use Rattle.am_universe.specs.LabelSet.{LabelMap}
 use Rattle.am_universe.specs.Universe.{Label, Values, IsUniverse, names, label_position, values_at}
-use Rattle.am_universe.proofs.DistinctLists.{all_push}
 use Rattle.am_universe.proofs.ListLemmas.{IsIn, IsIn-left, IsIn-right, IsIn-map, IsIn-unmap}
 use Rattle.am_universe.proofs.ListLemmas.{Contains-from_IsIn, AllByRecursion-at}
 use Rattle.am_universe.proofs.UniverseLemmas.{no_label}
@@ -36,7 +35,7 @@ use Rattle.am_complete.specs.Complete.{IsSpaceComplete, IsSpaceCompleteAt}
 use Rattle.am_complete.specs.AskedLabel.{AskedLabel, asked_names, IsAskedOf}
 use Rattle.am_complete.specs.Covering.{CoverPossible, standing_texts}
 use Rattle.am_complete.specs.LabelState.{IsSoAt, is_settled, is_declared, reported_names}
-use Rattle.am_complete.specs.FoundState.{IsFoundAt, IsSoOfAsked, IsSoOfName, IsWithState, begins}
+use Rattle.am_complete.specs.FoundState.{IsFoundAt, IsSoOfName, begins, is_unseen}
 use Rattle.am_complete.proofs.Alike.{alike_joined}
 use Rattle.am_complete.proofs.CompleteUniverses.{space_complete_without_matchers}
 use Rattle.am_complete.proofs.CompleteUniverses.{space_complete_where_asked}
@@ -57,10 +56,6 @@ found_at u name i e =
 values_of_found : (u : List Label) (name : List ℕ) (i : ℕ) → label_position u name ≡ Some i
     → map (λ v. unwrap_or v []) (values_at u i) ≡ texts_of_label (Some (get_or u i no_label))
 values_of_found u name i e = grind (arith, common_steps, slice_get-get_or, position-Some, has_name)
-
-pub texts_at : (u : List Label) (name : List ℕ) (i : ℕ) → label_position u name ≡ Some i
-    → map (λ v. unwrap_or v []) (values_at u i) ≡ label_texts u name
-texts_at u name i e = values_of_found u name i e ∙ sym (ap texts_of_label (found_at u name i e))
 
 pub standing_at : (s : Space) (name : List ℕ) (i : ℕ) → label_position s.labels name ≡ Some i
     → map (λ v. unwrap_or v []) (values_at s.labels i) ≡ standing_texts s name
@@ -114,14 +109,16 @@ found_is_so alphabet s asked ms l (state_is.Unproved origin) asks i some h = (
 )
 
 pub state_is_so : (alphabet : Alphabet) (s : Space) (asked : List AskedLabel) (alerts : Option (List LabelMap))
-    (l : AskedLabel) (state : LabelState) → IsIn asked l → IsSoOfAsked alphabet s l alerts state
+    (l : AskedLabel) (state : LabelState) → IsIn asked l → string_bytes state.name ≡ l.name
+    → IsFoundAt alphabet s l state.completeness
+    → state.unseen ≡ is_unseen alerts (string_bytes state.name)
     → IsSoOfName alphabet s asked alerts state
-state_is_so alphabet s asked alerts l state i h =
+state_is_so alphabet s asked alerts l state i named found unseen =
     record {
       so = λ ms asks.
-          rw h.name (λ some.
-          found_is_so alphabet s asked ms l state.completeness asks i some (h.found some));
-      unseen = h.unseen;
+          rw named (λ some.
+          found_is_so alphabet s asked ms l state.completeness asks i some found);
+      unseen = unseen;
     }
 
 -- a name is declared exactly if a label has it
@@ -183,41 +180,38 @@ names_of states = map (λ state. string_bytes state.name) states
 abbrev pub undeclared : List Label → List (List ℕ) → List (List ℕ)
 undeclared u ns = filter (λ name. not (is_declared u name)) ns
 
-pub state_names : (alphabet : Alphabet) (s : Space) (asked : List AskedLabel) (i : ℕ) (l : AskedLabel)
-    (alerts : Option (List LabelMap)) (first before after : List LabelState)
+-- one label more
+undeclared_more : (u : List Label) (asked : List AskedLabel) (i : ℕ) (l : AskedLabel)
     → slice_get asked i ≡ Some l
-    → names_of before ≡ names_of first ++ undeclared s.labels (asked_names (take i asked))
-    → IsWithState alphabet s l alerts before after
-    → names_of after ≡ names_of first ++ undeclared s.labels (asked_names (take (i + 1) asked))
-state_names alphabet s asked i l alerts first before after at so_far step =
-    let done = undeclared s.labels (asked_names (take i asked)) in
-    let one = undeclared s.labels (l.name ∷ []) in
-    let longer : done ++ one ≡ undeclared s.labels (asked_names (take (i + 1) asked)) =
-    sym (filter-append (λ name. not (is_declared s.labels name)) (asked_names (take i asked))
+    → undeclared u (asked_names (take i asked)) ++ undeclared u (l.name ∷ [])
+    ≡ undeclared u (asked_names (take (i + 1) asked))
+undeclared_more u asked i l at =
+    sym (filter-append (λ name. not (is_declared u name)) (asked_names (take i asked))
     (l.name ∷ []))
-    ∙ ap (undeclared s.labels) (sym (map-append (λ x. x.name) (take i asked) (l ∷ []))
-    ∙ ap asked_names (one_longer asked i l at)) in
-    by step ∙ ap (λ xs. xs ++ one) so_far ∙ append_assoc (names_of first) done one
-    ∙ ap (λ xs. names_of first ++ xs) longer
-  where
-    by : IsWithState alphabet s l alerts before after
-        → names_of after ≡ names_of before ++ undeclared s.labels (l.name ∷ [])
-    by (inl stays) = rw (stays.1, stays.0) (sym (append-nil (names_of before)))
-    by (inr more) =
-        rw (more.1.1, more.0)
-        (map-append (λ state. string_bytes state.name) before (more.1.0 ∷ [])
-        ∙ ap (λ n. names_of before ++ n ∷ []) more.1.2.name)
+    ∙ ap (undeclared u) (sym (map-append (λ x. x.name) (take i asked) (l ∷ []))
+    ∙ ap asked_names (one_longer asked i l at))
 
-pub states_so : (alphabet : Alphabet) (s : Space) (asked : List AskedLabel) (l : AskedLabel)
-    (alerts : Option (List LabelMap)) (before after : List LabelState) → IsIn asked l
-    → IsWithState alphabet s l alerts before after
-    → AllByRecursion (IsSoOfName alphabet s asked alerts) before
-    → AllByRecursion (IsSoOfName alphabet s asked alerts) after
-states_so alphabet s asked l alerts before after i (inl stays) each = rw stays.1 each
-states_so alphabet s asked l alerts before after i (inr more) each =
-    rw more.1.1
-    (all_push (IsSoOfName alphabet s asked alerts) before more.1.0 each
-    (state_is_so alphabet s asked alerts l more.1.0 i more.1.2))
+pub passed_over : (u : List Label) (asked : List AskedLabel) (i : ℕ) (l : AskedLabel)
+    → slice_get asked i ≡ Some l → is_declared u l.name ≡ true
+    → undeclared u (asked_names (take i asked)) ≡ undeclared u (asked_names (take (i + 1) asked))
+passed_over u asked i l at declared =
+    sym (append-nil (undeclared u (asked_names (take i asked))))
+    ∙ ap (λ b. undeclared u (asked_names (take i asked)) ++ cond (not b) (l.name ∷ []) [])
+    (sym declared) ∙ undeclared_more u asked i l at
+
+pub added : (u : List Label) (asked : List AskedLabel) (i : ℕ) (l : AskedLabel)
+    (first before : List LabelState) (state : LabelState) → slice_get asked i ≡ Some l
+    → is_declared u l.name ≡ false → string_bytes state.name ≡ l.name
+    → names_of before ≡ names_of first ++ undeclared u (asked_names (take i asked))
+    → names_of (before ++ state ∷ [])
+    ≡ names_of first ++ undeclared u (asked_names (take (i + 1) asked))
+added u asked i l first before state at absent named so_far =
+    let done = undeclared u (asked_names (take i asked)) in
+    map-append (λ x. string_bytes x.name) before (state ∷ [])
+    ∙ (λ k. so_far k ++ named k ∷ [])
+    ∙ append_assoc (names_of first) done (l.name ∷ [])
+    ∙ ap (λ b. names_of first ++ (done ++ cond (not b) (l.name ∷ []) [])) (sym absent)
+    ∙ ap (λ xs. names_of first ++ xs) (undeclared_more u asked i l at)
 
 -- ---- All labels.
 

@@ -8,13 +8,11 @@ pub mod AmongMatchers
 pub mod SameMatchers
 pub mod DeclaredLabels
 pub mod MadeUniverses
-pub mod TestedTruths
+pub mod TestedTexts
 pub mod ChosenTexts
 pub mod ApartTexts
-pub mod OkClauses
 pub mod PossibleTexts
 pub mod AskedLabels
 pub mod NeededTexts
 pub mod LabelStates
-pub mod MissingTexts
 pub mod RoomBeside

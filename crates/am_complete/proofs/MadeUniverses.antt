@@ -1,15 +1,14 @@
 -- Universes that are made beside a space, from what the labels that are asked about lack there.
-use Rattle.std.proofs.Common.{◌≡◌, ◌≢◌, ◌<◌, ◌≤◌, ◌+◌, ℕ, zero, suc, List, [], ◌∷◌, ◌++◌}
+use Rattle.std.proofs.Common.{◌≡◌, ◌≢◌, ◌<◌, ◌≤◌, ◌+◌, ℕ, List, [], ◌∷◌, ◌++◌}
 use Rattle.std.proofs.Common.{Bool, true, false, not, cond, length, map, take, Option, Some, None, Contains, refl}
-use Rattle.std.proofs.Common.{sym, ap, ◌∙◌, subst, inl, inr, arith, slice_get}
+use Rattle.std.proofs.Common.{sym, ap, ◌∙◌, subst, inl, inr, arith, slice_get, ◌||◌, ◌&&◌, ◌⊎◌}
 use Rattle.std.specs.Prelude.{unwrap_or, IfSome}
-use Rattle.std.specs.List.{find, filter, AllByRecursion, IsDistinct, list_any, enumerate_from}
+use Rattle.std.specs.List.{find, filter, AllByRecursion, IsDistinct, enumerate_from}
 use Rattle.std.specs.Cmp.Lexicographic.{bytes_decides}
-use Rattle.std.proofs.lemmas.Bool.{both_ways, cases_Bool, and_from}
+use Rattle.std.proofs.lemmas.Bool.{both_ways, cases_Bool, and_from, and_parts}
 use Rattle.std.proofs.lemmas.Bool.{false_from_ne_true, true_from_ne_false, not-true}
 use Rattle.std.proofs.lemmas.List.{append-nil, map-append, length-take-le}
 use Rattle.std.proofs.lemmas.List.Elements.{filter-append}
-use Rattle.std.proofs.lemmas.Map.Keys.{IsDistinct-head, IsDistinct-tail}
 use Rattle.std.proofs.lemmas.Option.{slice_get_within}
 use Rattle.std.proofs.lemmas.Grind.{common_steps}
 use Rattle.am_universe.specs.Text.{same_text}
@@ -20,7 +19,7 @@ use Rattle.am_universe.proofs.ListLemmas.{AllByRecursion-at, AllByRecursion-each
 use Rattle.am_universe.proofs.Members.{in_at, at_in, is_numbered, item_at, numbered_at}
 use Rattle.am_labels.specs.Matcher.{Condition}
 use Rattle.am_labels.specs.Space.{Space}
-use Rattle.am_labels.proofs.Passing.{any_in, in_any, passes_from_kept, kept_from_passes}
+use Rattle.am_labels.proofs.Passing.{passes_from_kept, kept_from_passes}
 use Rattle.am_classes.specs.declared.alphabet.Alphabet.{Alphabet}
 use Rattle.am_classes.specs.Alphabet.{IsOver, AreOver}
 use Rattle.am_classes.proofs.OverLemmas.{nil_over}
@@ -30,20 +29,22 @@ use Rattle.am_complete.specs.AskedLabel.{AskedLabel, asked_names, IsAskedOf}
 use Rattle.am_complete.specs.Covering.{standing_texts, standing_in, AreNeeded, CoverPossible}
 use Rattle.am_complete.specs.Covering.{CoversEachBut, KeepsLabels, HasNeeded}
 use Rattle.am_complete.specs.Covering.{AddsNeeded, HasTextsOver}
-use Rattle.am_complete.specs.Room.{AreUnproved}
+use Rattle.am_complete.specs.Room.{AreUnproved, MayBeUnproved}
 use Rattle.am_complete.specs.LabelState.{is_declared}
 use Rattle.am_complete.specs.Missing.{MissingTexts, IsMissingAt, AreMissing, texts_of_missing}
 use Rattle.am_complete.specs.Missing.{missing_for, whole_texts, IsWhole, has_some, is_to_declare}
+use Rattle.am_complete.specs.Missing.{needs_label, is_covered}
 use Rattle.am_complete.specs.Missing.{names_to_declare, open_positions}
 use Rattle.am_complete.proofs.AskedLabels.{no_name, on_name}
 use Rattle.am_complete.proofs.SameMatchers.{cover_among, same_needed}
 use Rattle.am_complete.proofs.CompleteUniverses.{space_complete_where_asked}
-use Rattle.am_complete.proofs.LabelTexts.{has_name, finds_label, found_in, declared_texts}
+use Rattle.am_complete.proofs.LabelTexts.{has_name, finds_in, found_in, declared_texts}
 use Rattle.am_complete.proofs.LabelTexts.{unnamed_texts}
-use Rattle.am_complete.proofs.LabelStates.{declared_in}
+use Rattle.am_complete.proofs.LabelStates.{declared_in, declared_where}
 use Rattle.am_complete.proofs.NeededTexts.{standing_within, cover_weaker, none_needed}
+use Rattle.am_complete.proofs.NeededTexts.{first_needed}
 use Rattle.am_complete.proofs.PossibleTexts.{all_kept}
-use Rattle.am_complete.proofs.Pushed.{one_longer}
+use Rattle.am_complete.proofs.Pushed.{one_longer, zip_left, zip_right}
 
 -- ---- Lists that are joined.
 
@@ -67,25 +68,25 @@ distinct_joined (x ∷ xs) ys first last apart = (
 -- ---- Which labels are open.
 
 open_at : (missing : List MissingTexts) (i : ℕ) → Contains (open_positions missing) i
-    → (m : MissingTexts) × (slice_get missing i ≡ Some m) × (m.all ≡ false)
+    → (m : MissingTexts) × (slice_get missing i ≡ Some m) × (is_covered m ≡ false)
 open_at missing i h =
     let numbered = enumerate_from 0 missing in
-    let p = IsIn-unmap (λ q. q.0) (filter (λ q. not q.1.all) numbered) i
+    let p = IsIn-unmap (λ q. q.0) (filter (λ q. not (is_covered q.1)) numbered) i
     (IsIn-from_Contains (open_positions missing) i h) in
-    let r = passes_from_kept (λ q. not q.1.all) numbered p.0 p.1 in (
+    let r = passes_from_kept (λ q. not (is_covered q.1)) numbered p.0 p.1 in (
       p.0.1,
       ap (slice_get missing) (sym p.2) ∙ item_at missing p.0 r.0,
-      not-true p.0.1.all r.1,
+      not-true (is_covered p.0.1) r.1,
     )
 
 all_elsewhere : (missing : List MissingTexts) (i : ℕ) (m : MissingTexts)
-    → slice_get missing i ≡ Some m → (Contains (open_positions missing) i → ⊥) → m.all ≡ true
+    → slice_get missing i ≡ Some m → (Contains (open_positions missing) i → ⊥) → is_covered m ≡ true
 all_elsewhere missing i m at fresh =
-    true_from_ne_false m.all (λ some.
-    let kept = filter (λ q. not q.1.all) (enumerate_from 0 missing) in
+    true_from_ne_false (is_covered m) (λ some.
+    let kept = filter (λ q. not (is_covered q.1)) (enumerate_from 0 missing) in
     fresh (Contains-from_IsIn (open_positions missing) i
     (IsIn-map (λ q. q.0) kept (i, m)
-    (kept_from_passes (λ q. not q.1.all) (enumerate_from 0 missing) (i, m)
+    (kept_from_passes (λ q. not (is_covered q.1)) (enumerate_from 0 missing) (i, m)
     (numbered_at 0 missing i m at i (omega arith)) (ap not some)))))
 
 numbered_more : (from : ℕ) (ms : List MissingTexts) (m : MissingTexts)
@@ -98,14 +99,14 @@ numbered_more from (x ∷ ms) m =
 
 open_more : (missing : List MissingTexts) (i : ℕ) (m : MissingTexts)
     → slice_get missing i ≡ Some m → open_positions (take i missing)
-    ++ map (λ (p : ℕ × MissingTexts). p.0) (cond (not m.all) ((i, m) ∷ []) [])
+    ++ map (λ (p : ℕ × MissingTexts). p.0) (cond (not (is_covered m)) ((i, m) ∷ []) [])
     ≡ open_positions (take (i + 1) missing)
 open_more missing i m at =
     let before = enumerate_from 0 (take i missing) in
     let long : 0 + length (take i missing) ≡ i =
     omega (arith, length-take-le i missing (omega (arith, slice_get_within missing i m at))) in
     let first : ℕ × MissingTexts → ℕ = λ p. p.0 in
-    let test : ℕ × MissingTexts → Bool = λ p. not p.1.all in
+    let test : ℕ × MissingTexts → Bool = λ p. not (is_covered p.1) in
     sym (map-append first (filter test before) (filter test ((i, m) ∷ [])))
     ∙ ap (map first) (sym (filter-append test before ((i, m) ∷ []))
     ∙ ap (λ k. filter test (before ++ (k, m) ∷ [])) (sym long)
@@ -113,7 +114,7 @@ open_more missing i m at =
     ∙ ap open_positions (one_longer missing i m at)
 
 pub open_pushed : (missing : List MissingTexts) (i : ℕ) (m : MissingTexts)
-    → slice_get missing i ≡ Some m → m.all ≡ false
+    → slice_get missing i ≡ Some m → is_covered m ≡ false
     → open_positions (take i missing) ++ i ∷ [] ≡ open_positions (take (i + 1) missing)
 open_pushed missing i m at some =
     ap (λ b. open_positions (take i missing)
@@ -121,7 +122,7 @@ open_pushed missing i m at some =
     ∙ open_more missing i m at
 
 pub open_kept : (missing : List MissingTexts) (i : ℕ) (m : MissingTexts)
-    → slice_get missing i ≡ Some m → m.all ≡ true
+    → slice_get missing i ≡ Some m → is_covered m ≡ true
     → open_positions (take i missing) ≡ open_positions (take (i + 1) missing)
 open_kept missing i m at all =
     sym (append-nil (open_positions (take i missing)))
@@ -131,82 +132,50 @@ open_kept missing i m at all =
 
 -- the first of the positions is the least
 abbrev opens_from : ℕ → List MissingTexts → List ℕ
-opens_from from missing = map (λ p. p.0) (filter (λ p. not p.1.all) (enumerate_from from missing))
+opens_from from missing = map (λ p. p.0) (filter (λ p. not (is_covered p.1)) (enumerate_from from missing))
 
 first_open : (from : ℕ) (missing : List MissingTexts) (i k : ℕ)
     → slice_get (opens_from from missing) 0 ≡ Some i → IsIn (opens_from from missing) k → i ≤ k
 first_open from [] i k at h = absurd h
-first_open from (m ∷ missing) i k at h = elim (cases_Bool m.all) [
+first_open from (m ∷ missing) i k at h = elim (cases_Bool (is_covered m)) [
   | inl all ↦ first_open (from + 1) missing i k (rw all at at) (rw all at h)
   | inr some ↦
       let here : Some from ≡ Some i = rw some at at in
       let is : from ≡ i = cc in
       let numbered = enumerate_from from (m ∷ missing) in
-      let p = IsIn-unmap (λ q. q.0) (filter (λ q. not q.1.all) numbered) k h in
-      let there = passes_from_kept (λ q. not q.1.all) numbered p.0 p.1 in
+      let p = IsIn-unmap (λ q. q.0) (filter (λ q. not (is_covered q.1)) numbered) k h in
+      let there = passes_from_kept (λ q. not (is_covered q.1)) numbered p.0 p.1 in
       let r = is_numbered from (m ∷ missing) p.0 there.0 in omega (arith, is, r.1, p.2)
 ]
 
 -- ---- What the label of a name lacks.
 
 module _ (a : Alphabet) (s : Space) where
-  -- what the label at a position lacks
-  pub at_label : (asked : List AskedLabel) (missing : List MissingTexts) (i : ℕ) (l : AskedLabel)
-      → AreMissing a s asked missing → slice_get asked i ≡ Some l
-      → (m : MissingTexts) × (slice_get missing i ≡ Some m) × IsMissingAt a s l m
-  at_label [] missing i l zip at = absurd (cc)
-  at_label (x ∷ asked) [] i l zip at = absurd zip
-  at_label (x ∷ asked) (m ∷ missing) zero l zip at = grind (arith, common_steps)
-  at_label (x ∷ asked) (m ∷ missing) (suc i) l zip at = at_label asked missing i l zip.1 at
-
-  pub at_missing : (asked : List AskedLabel) (missing : List MissingTexts) (i : ℕ)
-      (m : MissingTexts) → AreMissing a s asked missing → slice_get missing i ≡ Some m
-      → (l : AskedLabel) × (slice_get asked i ≡ Some l) × IsMissingAt a s l m
-  at_missing asked [] i m zip at = absurd (cc)
-  at_missing [] (k ∷ missing) i m zip at = absurd zip
-  at_missing (x ∷ asked) (k ∷ missing) zero m zip at = grind (arith, common_steps)
-  at_missing (x ∷ asked) (k ∷ missing) (suc i) m zip at = at_missing asked missing i m zip.1 at
-
-  -- and what is found by a name
+  -- what is found by a name
   pub by_name : (asked : List AskedLabel) (missing : List MissingTexts) (name : List ℕ)
       (m : MissingTexts) → AreMissing a s asked missing → missing_for missing name ≡ Some m
       → (l : AskedLabel) × IsIn asked l × (l.name ≡ name) × IsMissingAt a s l m
-  by_name asked [] name m zip e = absurd (cc)
-  by_name [] (k ∷ missing) name m zip e = absurd zip
-  by_name (l ∷ asked) (k ∷ missing) name m zip e = elim (cases_Bool (same_text k.name name)) [
-    | inl same ↦
-        let found : Some k ≡ Some m = rw same at e in
-        let first : k ≡ m = cc in (
-          l,
-          inl refl,
-          sym zip.0.name ∙ (bytes_decides k.name name).0 same,
-          subst (IsMissingAt a s l) first zip.0,
-        )
-    | inr differs ↦
-        let r = by_name asked missing name m zip.1 (rw differs at e) in (r.0, inr r.1, r.2, r.3)
-  ]
+  by_name asked missing name m zip e =
+      let found = found_in (λ k. k.name) name missing m e in
+      let at = at_in missing m found.0 in
+      let l = zip_right (IsMissingAt a s) asked missing at.0 m zip at.1 in
+      (l.0, in_at asked at.0 l.0 l.1, sym l.2.name ∙ found.1, l.2)
 
-  -- by the name of the label at a position, what this label lacks is found
-  pub named_at : (asked : List AskedLabel) (missing : List MissingTexts) (i : ℕ) (l : AskedLabel)
-      (m : MissingTexts) → AreMissing a s asked missing
-      → IsDistinct same_text (asked_names asked) → slice_get asked i ≡ Some l
-      → slice_get missing i ≡ Some m → missing_for missing l.name ≡ Some m
-  named_at [] missing i l m zip distinct at here = absurd (cc)
-  named_at (x ∷ asked) [] i l m zip distinct at here = absurd zip
-  named_at (x ∷ asked) (k ∷ missing) zero l m zip distinct at here =
-      let same : x ≡ l = cc in
-      let named : same_text k.name l.name ≡ true =
-      (bytes_decides k.name l.name).1 (zip.0.name ∙ ap (λ (y : AskedLabel). y.name) same) in
-      rw named here
-  named_at (x ∷ asked) (k ∷ missing) (suc i) l m zip distinct at here =
-      let there = IsIn-map (λ y. y.name) asked l (in_at asked i l at) in
-      let apart = AllByRecursion-at (λ y. same_text x.name y ≡ false) (asked_names asked) l.name
-      (IsDistinct-head same_text x.name (asked_names asked) distinct) there in
-      let differs : same_text k.name l.name ≡ false =
-      ap (λ n. same_text n l.name) zip.0.name ∙ apart in
-      rw differs
-      (named_at asked missing i l m zip.1
-      (IsDistinct-tail same_text x.name (asked_names asked) distinct) at here)
+  -- what a label lacks is found by its name
+  pub same_names : (asked : List AskedLabel) (missing : List MissingTexts)
+      → AreMissing a s asked missing → map (λ m. m.name) missing ≡ asked_names asked
+  same_names [] [] zip = refl
+  same_names [] (m ∷ missing) zip = absurd zip
+  same_names (l ∷ asked) [] zip = absurd zip
+  same_names (l ∷ asked) (m ∷ missing) zip =
+      λ i. zip.0.name i ∷ same_names asked missing zip.1 i
+
+  pub finds_missing : (asked : List AskedLabel) (missing : List MissingTexts) (m : MissingTexts)
+      → AreMissing a s asked missing → IsDistinct same_text (asked_names asked) → IsIn missing m
+      → missing_for missing m.name ≡ Some m
+  finds_missing asked missing m zip distinct i =
+      finds_in (λ k. k.name) missing m
+      (subst (IsDistinct same_text) (sym (same_names asked missing zip)) distinct) i
 
   needed_by_name : (asked : List AskedLabel) (missing : List MissingTexts) (ms : List Condition)
       (name : List ℕ) → AreMissing a s asked missing → IsAskedOf asked ms → name ≢ []
@@ -260,7 +229,7 @@ module _ (a : Alphabet) (s : Space) where
       by (Some l) e =
           texts_over l.values
           (AllByRecursion-at (λ k. AllByRecursion (λ v. IfSome v (IsOver a)) k.values) s.labels l
-          over (found_in name s.labels l e).0)
+          over (found_in (λ k. k.name) name s.labels l e).0)
 
   missing_over : (asked : List AskedLabel) (missing : List MissingTexts) (name : List ℕ)
       → AreMissing a s asked missing
@@ -282,8 +251,8 @@ module _ (a : Alphabet) (s : Space) where
 
   -- a label that lacks texts is declared, in the space or beside it
   named_beside : (missing : List MissingTexts) (m : MissingTexts) → IsIn missing m
-      → has_some m.texts ≡ true → IsIn (names s.labels ++ names_to_declare s.labels missing) m.name
-  named_beside missing m i some = elim (cases_Bool (is_declared s.labels m.name)) [
+      → needs_label m ≡ true → IsIn (names s.labels ++ names_to_declare s.labels missing) m.name
+  named_beside missing m i needs = elim (cases_Bool (is_declared s.labels m.name)) [
     | inl declared ↦
         IsIn-left (names s.labels) (names_to_declare s.labels missing) m.name
         (declared_in s.labels m.name declared)
@@ -291,8 +260,20 @@ module _ (a : Alphabet) (s : Space) where
         IsIn-right (names s.labels) (names_to_declare s.labels missing) m.name
         (IsIn-map (λ k. k.name) (filter (is_to_declare s.labels) missing) m
         (kept_from_passes (is_to_declare s.labels) missing m i
-        (and_from (has_some m.texts) (not (is_declared s.labels m.name)) some (ap not absent))))
+        (and_from (needs_label m) (not (is_declared s.labels m.name)) needs (ap not absent))))
   ]
+
+  -- a label that is covered, and lacks texts, has to be declared
+  labelled : (m : MissingTexts) → is_covered m ≡ true → has_some m.texts ≡ true
+      → needs_label m ≡ true
+  labelled m covered some =
+      and_from m.named (has_some m.texts)
+      (by m.named (has_some m.texts) (and_parts m.all _ covered).1 some) some
+    where
+      by : (named some : Bool) → (named || not some) ≡ true → some ≡ true → named ≡ true
+      by true some h e = refl
+      by false true h e = absurd (cc)
+      by false false h e = absurd (cc)
 
   none_there : (texts : List (List ℕ)) → has_some texts ≡ false → texts ≡ []
   none_there [] e = refl
@@ -312,13 +293,14 @@ module _ (a : Alphabet) (s : Space) where
   alone_there : (missing : List MissingTexts) (v : List Label) (l : AskedLabel)
       (m : MissingTexts) → names v ≡ names s.labels ++ names_to_declare s.labels missing
       → (Contains (names v) l.name → ⊥) → IsIn missing m → m.name ≡ l.name
+      → is_covered m ≡ true
       → CoverPossible a s.impossible l.name l.matchers (standing_texts s l.name ++ m.texts)
       → CoverPossible a s.impossible l.name l.matchers (label_texts v l.name)
-  alone_there missing v l m are fresh i named cover =
+  alone_there missing v l m are fresh i named covered cover =
       let none = none_there m.texts (false_from_ne_true (has_some m.texts) (λ some.
       fresh (Contains-from_IsIn (names v) l.name (subst (λ ns. IsIn ns l.name) (sym are)
       (subst (IsIn (names s.labels ++ names_to_declare s.labels missing)) named
-      (named_beside missing m i some)))))) in
+      (named_beside missing m i (labelled m covered some))))))) in
       let absent = unnamed_texts s.labels l.name (λ there.
       fresh (Contains-from_IsIn (names v) l.name (subst (λ ns. IsIn ns l.name) (sym are)
       (IsIn-left (names s.labels) (names_to_declare s.labels missing) l.name
@@ -335,22 +317,21 @@ module _ (a : Alphabet) (s : Space) where
       → AllByRecursion (IsWhole s missing) v
       → CoversEachBut a s.impossible v asked (open_positions missing)
   covers_each asked missing v zip distinct universe are whole i l at proved some =
-      let r = at_label asked missing i l zip at in
+      let r = zip_left (IsMissingAt a s) asked missing i l zip at in
       let m : MissingTexts = r.0 in
-      let cover = r.2.cover some (all_elsewhere missing i m r.1 proved) in
-      elim (cases_Bool (list_any (λ n. same_text n l.name) (names v))) [
+      let covered = all_elsewhere missing i m r.1 proved in
+      let cover = r.2.cover (and_parts m.all _ covered).0 in
+      elim (cases_Bool (is_declared v l.name)) [
         | inl there ↦
-            let n = any_in (λ n. same_text n l.name) (names v) there in
-            let j = subst (IsIn (names v)) ((bytes_decides n.0 l.name).0 n.2) n.1 in
             subst (CoverPossible a s.impossible l.name l.matchers)
-            (sym (whole_there missing v l.name m universe whole j
-            (named_at asked missing i l m zip distinct at r.1))) cover
+            (sym (whole_there missing v l.name m universe whole (declared_in v l.name there)
+            (ap (missing_for missing) (sym r.2.name)
+            ∙ finds_missing asked missing m zip distinct (in_at missing i m r.1)))) cover
         | inr absent ↦
             alone_there missing v l m are (λ h.
-            both_ways (list_any (λ n. same_text n l.name) (names v)) absent
-            (in_any (λ n. same_text n l.name) (names v) l.name
-            (IsIn-from_Contains (names v) l.name h) ((bytes_decides l.name l.name).1 refl)))
-            (in_at missing i m r.1) r.2.name cover
+            both_ways (is_declared v l.name) absent
+            (declared_where v l.name (IsIn-from_Contains (names v) l.name h)))
+            (in_at missing i m r.1) r.2.name covered cover
       ]
 
   pub complete : (asked : List AskedLabel) (v : List Label) (positions : List ℕ) → IsUniverse v
@@ -367,12 +348,27 @@ module _ (a : Alphabet) (s : Space) where
 
   -- ---- What is unproved.
 
+  unproved : (l : AskedLabel) (m : MissingTexts) → IsMissingAt a s l m → is_covered m ≡ false
+      → MayBeUnproved a s l
+  unproved l m h fails = elim (by m.all m.named m.texts fails) [
+    | inl some ↦ inl (h.pattern some)
+    | inr r ↦ inr (sym h.named ∙ r.0, first_needed a s l m.texts h.needed r.1)
+  ]
+    where
+      by : (all named : Bool) (texts : List (List ℕ))
+          → (all && (named || not (has_some texts))) ≡ false
+          → (all ≡ false) ⊎ ((named ≡ false) × (0 < length texts))
+      by false named texts e = inl refl
+      by true true texts e = absurd (cc)
+      by true false [] e = absurd (cc)
+      by true false (t ∷ texts) e = inr (refl, omega arith)
+
   pub are_unproved : (asked : List AskedLabel) (missing : List MissingTexts)
       → AreMissing a s asked missing → AreUnproved a s asked (open_positions missing)
   are_unproved asked missing zip = record {
     each = λ i h.
         let r = open_at missing i h in
-        let l = at_missing asked missing i r.0 zip r.1 in (l.0, l.1, l.2.unproved r.2);
+        let l = zip_right (IsMissingAt a s) asked missing i r.0 zip r.1 in (l.0, l.1, unproved l.0 r.0 l.2 r.2);
     first = λ i k at h.
         first_open 0 missing i k at (IsIn-from_Contains (open_positions missing) k h);
   }
@@ -383,7 +379,7 @@ module _ (a : Alphabet) (s : Space) where
   within_asked asked missing zip =
       AllByRecursion-each (λ i. i < length asked) (open_positions missing) (λ i h.
       let r = open_at missing i (Contains-from_IsIn (open_positions missing) i h) in
-      let l = at_missing asked missing i r.0 zip r.1 in slice_get_within asked i l.0 l.1)
+      let l = zip_right (IsMissingAt a s) asked missing i r.0 zip r.1 in slice_get_within asked i l.0 l.1)
 
 -- ---- What is kept.
 
@@ -427,7 +423,7 @@ module _ (s : Space) (missing : List MissingTexts) where
 
   pub standing_of : (l : Label) → IsUniverse s.labels → IsIn s.labels l
       → standing_texts s l.name ≡ texts_of_label (Some l)
-  standing_of l h i = ap (standing_in s.impossible l.name) (finds_label s.labels l h.distinct i)
+  standing_of l h i = ap (standing_in s.impossible l.name) (finds_in (λ k. k.name) s.labels l h.distinct i)
 
   pub keeps : (v : List Label) → IsUniverse s.labels → IsUniverse v
       → names v ≡ names s.labels ++ names_to_declare s.labels missing

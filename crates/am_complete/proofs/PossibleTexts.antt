@@ -111,7 +111,8 @@ all_kept P test xs all =
 pub apart_kept : (ms : List Condition) (test : List ℕ → Bool) (xs : List (List ℕ))
     → AreApart ms xs → AreApart ms (filter test xs)
 apart_kept ms test xs apart =
-    grind (arith, common_steps, apart_from_distinct_texts, distinct_kept, distinct_from_apart)
+    apart_from_distinct_texts ms (filter test xs)
+    (distinct_kept (alike ms) test xs (distinct_from_apart ms xs apart))
 
 -- the texts that the label may have, from texts of which no two are alike
 pub are_possible : (alphabet : Alphabet) (impossible : List (List Condition)) (name : List ℕ)

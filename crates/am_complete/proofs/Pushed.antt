@@ -1,8 +1,8 @@
 -- A list with one more item: what is at each position, what is in it, and what holds for all of it.
 use Rattle.std.proofs.Common.{◌≡◌, ◌⊎◌, ℕ, zero, suc, ◌+◌, List, [], ◌∷◌, ◌++◌, length, take, Some, arith}
-use Rattle.std.proofs.Common.{refl, sym, ap, ◌∙◌, inl, inr}
+use Rattle.std.proofs.Common.{refl, sym, ap, ◌∙◌, inl, inr, subst}
 use Rattle.std.specs.Prelude.{slice_get}
-use Rattle.std.specs.List.{AllByRecursion}
+use Rattle.std.specs.List.{AllByRecursion, AllZip}
 use Rattle.std.proofs.lemmas.List.{take_more}
 use Rattle.std.proofs.lemmas.Option.{get_or_from_slice_get, slice_get_within}
 use Rattle.std.proofs.lemmas.Grind.{common_steps}
@@ -37,6 +37,23 @@ in_pushed (z ∷ xs) y x (inl e) = inl (inl e)
 in_pushed (z ∷ xs) y x (inr h) = elim (in_pushed xs y x h) [ inl a ↦ inl (inr a) | inr e ↦ inr e ]
 
 -- ---- At a position.
+
+-- what is at a position of two lists, if something holds of them item by item
+pub zip_left : {A B : Type 0} (R : A → B → Type 0) (xs : List A) (ys : List B) (i : ℕ) (x : A)
+    → AllZip R xs ys → slice_get xs i ≡ Some x → (y : B) × (slice_get ys i ≡ Some y) × R x y
+zip_left R [] ys i x each at = absurd (cc)
+zip_left R (z ∷ xs) [] i x each at = absurd each
+zip_left R (z ∷ xs) (y ∷ ys) zero x each at =
+    let is : z ≡ x = cc in (y, refl, subst (λ v. R v y) is each.0)
+zip_left R (z ∷ xs) (y ∷ ys) (suc i) x each at = zip_left R xs ys i x each.1 at
+
+pub zip_right : {A B : Type 0} (R : A → B → Type 0) (xs : List A) (ys : List B) (i : ℕ) (y : B)
+    → AllZip R xs ys → slice_get ys i ≡ Some y → (x : A) × (slice_get xs i ≡ Some x) × R x y
+zip_right R xs [] i y each at = absurd (cc)
+zip_right R [] (z ∷ ys) i y each at = absurd each
+zip_right R (x ∷ xs) (z ∷ ys) zero y each at =
+    let is : z ≡ y = cc in (x, refl, subst (R x) is each.0)
+zip_right R (x ∷ xs) (z ∷ ys) (suc i) y each at = zip_right R xs ys i y each.1 at
 
 pub one_longer : {X : Type 0} (xs : List X) (i : ℕ) (x : X) → slice_get xs i ≡ Some x
     → take i xs ++ x ∷ [] ≡ take (i + 1) xs

@@ -38,12 +38,12 @@ use Rattle.am_complete.proofs.ApartTexts.{distinct_where_apart}
 use Rattle.am_complete.proofs.DeclaredLabels.{distinct_texts}
 use Rattle.am_complete.proofs.LabelStates.{declared_where}
 use Rattle.am_complete.proofs.LabelTexts.{has_name, found_in, named_labels}
-use Rattle.am_complete.proofs.MadeUniverses.{distinct_joined, at_missing, by_name, named_at}
-use Rattle.am_complete.proofs.MadeUniverses.{standing_of}
-use Rattle.am_complete.proofs.MissingTexts.{one_distinct}
+use Rattle.am_complete.proofs.MadeUniverses.{distinct_joined, by_name, finds_missing}
+use Rattle.am_complete.proofs.MadeUniverses.{same_names, standing_of}
+use Rattle.am_complete.proofs.ApartTexts.{one_distinct}
 use Rattle.am_complete.proofs.NeededTexts.{first_needed}
 use Rattle.am_complete.proofs.PossibleTexts.{distinct_kept}
-use Rattle.am_complete.proofs.Pushed.{one_longer}
+use Rattle.am_complete.proofs.Pushed.{one_longer, zip_right}
 
 -- ---- The texts of a label.
 
@@ -65,7 +65,7 @@ standing_can s name h = by (find (has_name name) s.labels) refl
               (λ passes. lit≤ tt) (λ fails. lit≤ tt);
         }
     by (Some l) e =
-        let is = AllByRecursion-at IsLabel s.labels l h.labels (found_in name s.labels l e).0 in
+        let is = AllByRecursion-at IsLabel s.labels l h.labels (found_in (λ k. k.name) name s.labels l e).0 in
         record {
           distinct = rw (← distinct_texts l.values is.texts) is.distinct;
           few = omega (arith, length-map l.values (λ v. unwrap_or v []), is.at_most);
@@ -85,9 +85,6 @@ module _ (a : Alphabet) (s : Space) (asked : List AskedLabel) (missing : List Mi
   whole_distinct : (name : List ℕ) → IsDistinct same_text (whole_texts s missing name)
   whole_distinct name = by (missing_for missing name) refl
     where
-      standing : List (List ℕ)
-      standing = standing_texts s name
-
       by : (o : Option MissingTexts) → missing_for missing name ≡ o
           → IsDistinct same_text (standing_texts s name ++ texts_of_missing o)
       by None e = rw append-nil (standing_can s name h).distinct
@@ -102,17 +99,17 @@ module _ (a : Alphabet) (s : Space) (asked : List AskedLabel) (missing : List Mi
   -- ---- The names.
 
   to_declare : (m : MissingTexts) → is_to_declare s.labels m ≡ true
-      → (has_some m.texts ≡ true) × (is_declared s.labels m.name ≡ false)
+      → (has_some m.texts ≡ true) × (is_declared s.labels m.name ≡ false) × (m.named ≡ true)
   to_declare m passes = grind (arith, common_steps, and_parts, not-true)
 
   asked_there : (name : List ℕ) → IsIn (names_to_declare s.labels missing) name
       → (m : MissingTexts) × IsIn missing m × (m.name ≡ name)
-      × (has_some m.texts ≡ true) × (is_declared s.labels name ≡ false)
+      × (has_some m.texts ≡ true) × (is_declared s.labels name ≡ false) × (m.named ≡ true)
   asked_there name i =
       let k = IsIn-unmap (λ m. m.name) (filter (is_to_declare s.labels) missing) name i in
       let r = passes_from_kept (is_to_declare s.labels) missing k.0 k.1 in
       let both = to_declare k.0 r.1 in
-      (k.0, r.0, k.2, both.0, subst (λ n. is_declared s.labels n ≡ false) k.2 both.1)
+      (k.0, r.0, k.2, both.0, subst (λ n. is_declared s.labels n ≡ false) k.2 both.1, both.2)
 
   -- an entry is found by its name
   entry_named : (m : MissingTexts) → IsIn missing m
@@ -120,12 +117,11 @@ module _ (a : Alphabet) (s : Space) (asked : List AskedLabel) (missing : List Mi
       × (missing_for missing m.name ≡ Some m)
   entry_named m i =
       let at = at_in missing m i in
-      let l = at_missing a s asked missing at.0 m zip at.1 in (
+      let l = zip_right (IsMissingAt a s) asked missing at.0 m zip at.1 in (
         l.0,
         in_at asked at.0 l.0 l.1,
         l.2,
-        ap (missing_for missing) l.2.name
-            ∙ named_at a s asked missing at.0 l.0 m zip distinct l.1 at.1,
+        finds_missing a s asked missing m zip distinct i,
       )
 
   -- the name of a label that lacks nothing is one of the space
@@ -181,7 +177,7 @@ module _ (a : Alphabet) (s : Space) (asked : List AskedLabel) (missing : List Mi
           let some = (some_there r.0.texts r.3).0 in
           let found : missing_for missing name ≡ Some r.0 =
           ap (missing_for missing) (sym r.2) ∙ l.3 in (
-            subst (λ n. IsTrue (is_label_name n)) (sym l.2.name ∙ r.2) (l.2.named some),
+            subst (λ n. IsTrue (is_label_name n)) (sym l.2.name ∙ r.2) (sym l.2.named ∙ r.5),
             λ e. not_empty (standing_texts s name) r.0.texts some
                 (ap (λ o. standing_texts s name ++ texts_of_missing o) (sym found) ∙ e),
             whole_distinct name,
@@ -204,15 +200,10 @@ module _ (a : Alphabet) (s : Space) (asked : List AskedLabel) (missing : List Mi
         names_kept rest d.1,
       )) (λ fails. names_kept rest d.1)
 
-  same_names : (ls : List AskedLabel) (ms : List MissingTexts) → AreMissing a s ls ms
-      → map (λ m. m.name) ms ≡ asked_names ls
-  same_names [] [] z = refl
-  same_names [] (m ∷ ms) z = absurd z
-  same_names (l ∷ ls) [] z = absurd z
-  same_names (l ∷ ls) (m ∷ ms) z = λ i. z.0.name i ∷ same_names ls ms z.1 i
-
   beside_distinct : IsDistinct same_text (names_to_declare s.labels missing)
-  beside_distinct = grind (arith, common_steps, names_kept, same_names)
+  beside_distinct =
+      names_kept missing
+      (subst (IsDistinct same_text) (sym (same_names a s asked missing zip)) distinct)
 
   pub names_distinct : IsDistinct same_text (names s.labels ++ names_to_declare s.labels missing)
   names_distinct =
@@ -241,7 +232,7 @@ module _ (a : Alphabet) (s : Space) (asked : List AskedLabel) (missing : List Mi
                 (
                   Contains-from_IsIn asked l (among l (inl refl)),
                   (
-                    z.0.named some.0,
+                    sym z.0.named ∙ both.2,
                     λ there. both_ways (is_declared s.labels l.name)
                         (ap (is_declared s.labels) (sym z.0.name) ∙ both.1)
                         (declared_where s.labels l.name

@@ -1,5 +1,5 @@
 -- What is found about a space at one label that is asked about, for the matchers of that label.
-use Rattle.std.specs.Prelude.{◌≡◌, ◌≢◌, ◌⊎◌, ℕ, List, [], ◌∷◌, ◌++◌, Bool, true, false, not}
+use Rattle.std.specs.Prelude.{◌≡◌, ℕ, List, [], ◌∷◌, Bool, true, false, not}
 use Rattle.std.specs.Prelude.{Option, Some, None}
 use Rattle.std.specs.Prelude.{string_bytes, IsTrue}
 use Rattle.std.specs.List.{list_any, AllByRecursion}
@@ -16,39 +16,28 @@ use Rattle.am_complete.specs.declared.label_state.LabelState.{LabelState}
 use Rattle.am_complete.specs.Complete.{label_texts, asks_only_of, may_have, AreAmong}
 use Rattle.am_complete.specs.AskedLabel.{AskedLabel, IsAskedOf}
 use Rattle.am_complete.specs.Covering.{CoverPossible}
-use Rattle.am_complete.specs.LabelState.{HasClasses, IsSoIfNamed, is_declared}
+use Rattle.am_complete.specs.LabelState.{HasClasses, IsSoIfNamed}
 
--- What is found at a label with some texts is true, for the matchers on the label and these
--- impossible lists.
-abbrev pub IsFoundOf :
-    Alphabet → List (List Condition) → AskedLabel → List (List ℕ) → Completeness → Type 0
-IsFoundOf a impossible l texts (state_is.Complete classes) =
-    CoverPossible a impossible l.name l.matchers texts
-    × HasClasses a impossible l.name l.matchers classes
-IsFoundOf a impossible l texts (state_is.Lacks text) =
-    IsTrue (is_label_name l.name) × IsOver a (string_bytes text)
-    × IsTrue (may_have impossible l.name (string_bytes text))
-    × (HasAlikeIn l.matchers texts (string_bytes text) → ⊥)
-IsFoundOf a impossible l texts state_is.Unasked = ⊥
-IsFoundOf a impossible l texts state_is.Undeclarable =
-    (is_label_name l.name ≡ false) × (CoverPossible a impossible l.name l.matchers texts → ⊥)
-IsFoundOf a impossible l texts (state_is.Unproved origin) =
-    (l.first ≡ origin) × HasPattern l.matchers
-
+-- What is found about a space at a label is true, for the matchers on the label.
 abbrev pub IsFoundAt : Alphabet → Space → AskedLabel → Completeness → Type 0
-IsFoundAt a s l found = IsFoundOf a s.impossible l (label_texts s.labels l.name) found
+IsFoundAt a s l (state_is.Complete classes) =
+    CoverPossible a s.impossible l.name l.matchers (label_texts s.labels l.name)
+    × HasClasses a s.impossible l.name l.matchers classes
+IsFoundAt a s l (state_is.Lacks text) =
+    IsTrue (is_label_name l.name) × IsOver a (string_bytes text)
+    × IsTrue (may_have s.impossible l.name (string_bytes text))
+    × (HasAlikeIn l.matchers (label_texts s.labels l.name) (string_bytes text) → ⊥)
+IsFoundAt a s l state_is.Unasked = ⊥
+IsFoundAt a s l state_is.Undeclarable =
+    (is_label_name l.name ≡ false)
+    × (CoverPossible a s.impossible l.name l.matchers (label_texts s.labels l.name) → ⊥)
+IsFoundAt a s l (state_is.Unproved origin) = (l.first ≡ origin) × HasPattern l.matchers
 
 -- The matchers of the impossible lists that ask about a label alone are among those on it.
 abbrev pub HasThoseOfLists : List (List Condition) → AskedLabel → Type 0
 HasThoseOfLists impossible l =
     AllByRecursion (λ list. IsTrue (asks_only_of l.name list) → AreAmong list l.matchers)
     impossible
-
--- Each matcher of a label is on it, and the matchers of the impossible lists that ask about it
--- alone are among them.
-pub record IsAskedFor (impossible : List (List Condition)) (l : AskedLabel) : Type 0 where
-  pub on : AllByRecursion (λ m. m.name ≡ l.name) l.matchers
-  pub lists : HasThoseOfLists impossible l
 
 -- A text is not empty; an alert has a label; and a label is unseen: there is an export, and no
 -- alert of it has the label.
@@ -66,14 +55,6 @@ abbrev pub is_unseen : Option (List LabelMap) → List ℕ → Bool
 is_unseen None name = false
 is_unseen (Some alerts) name = not (list_any (has_label name) alerts)
 
--- The state of a label that is asked about: its name; what is found there, unless the name is
--- empty; and whether it is unseen.
-pub record IsSoOfAsked (a : Alphabet) (s : Space) (l : AskedLabel)
-    (alerts : Option (List LabelMap)) (state : LabelState) : Type 0 where
-  pub name : string_bytes state.name ≡ l.name
-  pub found : l.name ≢ [] → IsFoundAt a s l state.completeness
-  pub unseen : state.unseen ≡ is_unseen alerts (string_bytes state.name)
-
 -- A state that is true for all matchers that ask about some labels, whatever these matchers are. It
 -- also says whether its label is unseen.
 pub record IsSoOfName (a : Alphabet) (s : Space) (asked : List AskedLabel)
@@ -81,13 +62,3 @@ pub record IsSoOfName (a : Alphabet) (s : Space) (asked : List AskedLabel)
   pub so : (ms : List Condition) → IsAskedOf asked ms
       → IsSoIfNamed a s ms asked (string_bytes state.name) state.completeness
   pub unseen : state.unseen ≡ is_unseen alerts (string_bytes state.name)
-
--- The state of a label that is asked about comes after others, if the label is not declared. If it
--- is declared, the states are the same as before.
-abbrev pub IsWithState :
-    Alphabet → Space → AskedLabel → Option (List LabelMap) → List LabelState → List LabelState
-    → Type 0
-IsWithState a s l alerts before after =
-    ((is_declared s.labels l.name ≡ true) × (after ≡ before))
-    ⊎ ((is_declared s.labels l.name ≡ false)
-    × ((state : LabelState) × (after ≡ before ++ state ∷ []) × IsSoOfAsked a s l alerts state))

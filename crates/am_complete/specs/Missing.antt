@@ -1,6 +1,6 @@
 -- What the labels that are asked about lack in a space, and the labels that are made from it.
 use Rattle.std.specs.Prelude.{◌≡◌, ◌≢◌, ◌⊎◌, ◌<◌, ℕ, List, [], ◌∷◌, ◌++◌, map, length, Contains}
-use Rattle.std.specs.Prelude.{Option, Some, None, Bool, true, false, not, ◌&&◌, IsTrue}
+use Rattle.std.specs.Prelude.{Option, Some, None, Bool, true, false, not, ◌&&◌, ◌||◌, IsTrue}
 use Rattle.std.specs.List.{find, filter, AllZip, IsDistinct, enumerate_from}
 use Rattle.am_universe.specs.declared.limits.TheConstants.{MAX_LABELS, MAX_VALUES}
 use Rattle.am_universe.specs.Text.{same_text}
@@ -13,33 +13,33 @@ use Rattle.am_complete.specs.Complete.{texts_of_label}
 use Rattle.am_complete.specs.AskedLabel.{AskedLabel}
 use Rattle.am_complete.specs.Covering.{ArePossible, AreNeeded, CoverPossible, standing_texts}
 use Rattle.am_complete.specs.LabelState.{is_declared}
-use Rattle.am_complete.specs.Room.{MayBeUnproved}
 
 -- Some texts stand for classes of texts that a label may have. If `all`, they cover all texts that
 -- it may have. `all` always holds if no matcher on the label takes a pattern.
 pub record ArePossibleClasses (a : Alphabet) (impossible : List (List Condition)) (l : AskedLabel)
     (texts : List (List ℕ)) (all : Bool) : Type 0 where
   pub possible : ArePossible a impossible l.name l.matchers texts
-  pub cover : l.name ≢ [] → IsTrue all → CoverPossible a impossible l.name l.matchers texts
+  pub cover : IsTrue all → CoverPossible a impossible l.name l.matchers texts
   pub pattern : all ≡ false → HasPattern l.matchers
 
--- A label's name, texts that it lacks, and whether these are all that it lacks.
+-- A label's name, whether it is a label name, texts that the label lacks, and whether these are all
+-- that it lacks.
 pub record MissingTexts : Type 0 where
   pub name : List ℕ
+  pub named : Bool
   pub texts : List (List ℕ)
   pub all : Bool
 
 -- A label lacks these texts in a space. If they are all, they and those that stand there cover all
--- that it may have. If they are not known to be all, the label may be unproved. For a label that no
--- universe can declare, no texts are listed.
+-- that it may have.
 pub record IsMissingAt (a : Alphabet) (s : Space) (l : AskedLabel)
     (m : MissingTexts) : Type 0 where
   pub name : m.name ≡ l.name
+  pub named : m.named ≡ is_label_name l.name
   pub needed : AreNeeded a s l.name l.matchers m.texts
-  pub cover : l.name ≢ [] → IsTrue m.all
+  pub cover : IsTrue m.all
       → CoverPossible a s.impossible l.name l.matchers (standing_texts s l.name ++ m.texts)
-  pub unproved : m.all ≡ false → MayBeUnproved a s l
-  pub named : m.texts ≢ [] → IsTrue (is_label_name l.name)
+  pub pattern : m.all ≡ false → HasPattern l.matchers
 
 abbrev pub AreMissing : Alphabet → Space → List AskedLabel → List MissingTexts → Type 0
 AreMissing a s asked missing = AllZip (IsMissingAt a s) asked missing
@@ -60,13 +60,22 @@ whole_texts s missing name = standing_texts s name ++ texts_of_missing (missing_
 abbrev pub IsWhole : Space → List MissingTexts → Label → Type 0
 IsWhole s missing l = texts_of_label (Some l) ≡ whole_texts s missing l.name
 
--- The names of the labels that lack texts and that a universe does not declare.
+-- A universe has to declare a label, and can: the label has a label name, and lacks texts. A
+-- universe with these texts covers the label: they are all that it lacks, and it can declare the
+-- label if it has to.
 abbrev pub has_some : List (List ℕ) → Bool
 has_some [] = false
 has_some (t ∷ texts) = true
 
+abbrev pub needs_label : MissingTexts → Bool
+needs_label m = m.named && has_some m.texts
+
+abbrev pub is_covered : MissingTexts → Bool
+is_covered m = m.all && (m.named || not (has_some m.texts))
+
+-- The names of the labels that have to be declared, and that a universe does not declare.
 abbrev pub is_to_declare : List Label → MissingTexts → Bool
-is_to_declare u m = has_some m.texts && not (is_declared u m.name)
+is_to_declare u m = needs_label m && not (is_declared u m.name)
 
 abbrev pub names_to_declare : List Label → List MissingTexts → List (List ℕ)
 names_to_declare u missing = map (λ m. m.name) (filter (is_to_declare u) missing)
@@ -84,6 +93,7 @@ AreTooLarge s missing ns =
     (MAX_LABELS < length ns)
     ⊎ ((name : List ℕ) × Contains ns name × (MAX_VALUES < length (whole_texts s missing name)))
 
--- The positions of the labels that may lack other texts too, in order.
+-- The positions of the labels that a universe with their texts may not cover, in order.
 abbrev pub open_positions : List MissingTexts → List ℕ
-open_positions missing = map (λ p. p.0) (filter (λ p. not p.1.all) (enumerate_from 0 missing))
+open_positions missing =
+    map (λ p. p.0) (filter (λ p. not (is_covered p.1)) (enumerate_from 0 missing))

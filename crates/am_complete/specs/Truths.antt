@@ -1,38 +1,48 @@
 -- Texts that are tested by matchers.
-use Rattle.std.specs.Prelude.{◌≡◌, ℕ, List, [], ◌∷◌, map, Some, slice_get, ⊤, Bool, true, not}
-use Rattle.std.specs.Prelude.{◌&&◌}
-use Rattle.std.specs.List.{list_any}
+use Rattle.std.specs.Prelude.{◌≡◌, ◌⊎◌, ℕ, List, ◌++◌, map, Bool, Contains, IsTrue}
+use Rattle.std.specs.Prelude.{string_bytes}
+use Rattle.std.specs.List.{AllByRecursion, AllZip}
+use Rattle.std.specs.Cmp.Lexicographic.{pointwise}
 use mathlib.Core.Bool.{beq}
 use Rattle.am_labels.specs.Matcher.{Condition, holds}
-use Rattle.am_labels.specs.Row.{TruthRow}
-use Rattle.am_classes.specs.Alike.{AreAlike}
+use Rattle.am_classes.specs.Alike.{AreApart, HasAlikeIn}
+use Rattle.am_complete.specs.declared.tested.Tested.{Tested}
 
--- Some matchers, and the texts that they are tested on.
-pub record TestedTexts : Type 0 where
-  pub matchers : List Condition
-  pub texts : List (List ℕ)
+-- The truths of some matchers on a text, in order.
+abbrev pub truths : List Condition → List ℕ → List Bool
+truths ms text = map (λ m. holds m.op m.value text) ms
 
--- The truths of a matcher on some texts, as a row for the first label of a universe.
-abbrev pub truth_row : List (List ℕ) → Condition → TruthRow
-truth_row texts m = record { label = Some 0; truths = map (holds m.op m.value) texts }
-
--- The text at a position is alike to another text.
-abbrev pub IsAlikeAt : List Condition → List (List ℕ) → ℕ → List ℕ → Type 0
-IsAlikeAt ms texts k y = (x : List ℕ) × (slice_get texts k ≡ Some x) × AreAlike ms x y
-
--- Texts are alike to others, each to the one at its position.
--- Source: own choice.
--- Example: to `team=~"db.*"`, the texts `db-main` and `web` are alike to `db` and the empty text.
-abbrev pub AreAlikeEach : List Condition → List (List ℕ) → List (List ℕ) → Type 0
-AreAlikeEach ms [] [] = ⊤
-AreAlikeEach ms [] (y ∷ ys) = ⊥
-AreAlikeEach ms (x ∷ xs) [] = ⊥
-AreAlikeEach ms (x ∷ xs) (y ∷ ys) = AreAlike ms x y × AreAlikeEach ms xs ys
-
--- Whether two texts are alike, and whether none of some texts is alike to a text.
+-- Whether two texts are alike: the truths on both are equal.
 abbrev pub alike : List Condition → List ℕ → List ℕ → Bool
-alike [] x y = true
-alike (m ∷ ms) x y = beq (holds m.op m.value x) (holds m.op m.value y) && alike ms x y
+alike ms x y = pointwise beq (truths ms x) (truths ms y)
 
-abbrev pub is_new : List Condition → List (List ℕ) → List ℕ → Bool
-is_new ms texts text = not (list_any (λ x. alike ms x text) texts)
+-- Texts that were tested; each comes with the truths of some matchers on it; and two have the same.
+abbrev pub texts_of : List Tested → List (List ℕ)
+texts_of tested = map (λ t. string_bytes t.text) tested
+
+abbrev pub AreTested : List Condition → List Tested → Type 0
+AreTested ms tested = AllByRecursion (λ t. t.truths.items ≡ truths ms (string_bytes t.text)) tested
+
+abbrev pub has_same_truths : Tested → Tested → Bool
+has_same_truths t other = pointwise beq other.truths.items t.truths.items
+
+-- Some texts are new: they are among the wanted ones, no two are alike, and none is alike to one
+-- that is there. To each wanted text, one of them or of those that are there is alike.
+pub record AreNewIn (ms : List Condition) (there wanted texts : List (List ℕ)) : Type 0 where
+  pub from : AllByRecursion (Contains wanted) texts
+  pub apart : AreApart ms texts
+  pub new : AllByRecursion (λ text. HasAlikeIn ms there text → ⊥) texts
+  pub cover : AllByRecursion (HasAlikeIn ms (there ++ texts)) wanted
+
+-- A text is chosen for a wanted one: it is that text, or a usual one with the same truths. And
+-- texts are chosen for each of some texts.
+-- Source: own choice.
+-- Example: for `team=~"db.*"`, `other` may be chosen for `web`, and not for `db`.
+abbrev pub IsChosen : List Tested → Tested → List ℕ → Type 0
+IsChosen usual wanted text =
+    (text ≡ string_bytes wanted.text)
+    ⊎ ((t : Tested) × Contains usual t × (text ≡ string_bytes t.text)
+    × IsTrue (has_same_truths wanted t))
+
+abbrev pub AreChosenEach : List Tested → List Tested → List (List ℕ) → Type 0
+AreChosenEach usual wanted texts = AllZip (IsChosen usual) wanted texts

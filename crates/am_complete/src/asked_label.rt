@@ -1,5 +1,5 @@
 //! A label that matchers ask about, with the operators that come with each value.
-ghost use Rattle.std.specs.Prelude.{◌≡◌, map, IfOk, OnOk, OnErr};
+ghost use Rattle.std.specs.Prelude.{◌≡◌, ◌≢◌, [], map, IfOk, OnOk, OnErr};
 ghost use Rattle.am_complete.specs.AskedLabel.{label_of, with_matcher};
 ghost use Rattle.am_complete.specs.Operators.{operators_with};
 
@@ -19,7 +19,7 @@ pub struct AskedLabel<'m> {
 }
 
 impl<'m> Model for AskedLabel<'m> {
-    ghost use Rattle.std.specs.Prelude.{map};
+    ghost use Rattle.std.specs.Prelude.{◌≢◌, [], map};
     ghost use Rattle.am_complete.specs.AskedLabel as spec;
     ghost use Rattle.am_complete.specs.Operators.{HasOperatorsOf};
 
@@ -31,9 +31,10 @@ impl<'m> Model for AskedLabel<'m> {
       first = l.first;
     } };
 
-    // The map has the operators that come with each value. It shows whether there is an equal
-    // matcher.
-    ghost invariant = { λ l. HasOperatorsOf l.operators (map (λ m. m.now) l.matchers.items) };
+    // The label has a name. The map has the operators that come with each value. It shows whether
+    // there is an equal matcher.
+    ghost invariant = { λ l. (l.name.now ≢ [])
+        × HasOperatorsOf l.operators (map (λ m. m.now) l.matchers.items) };
 }
 
 impl<'m> AskedLabel<'m> {
@@ -78,9 +79,11 @@ impl<'m> AskedLabel<'m> {
         }
     }
 
-    /// Returns the name of the label. It may be a name that no universe can declare.
+    /// Returns the name of the label, which is not empty. It may be a name that no universe can
+    /// declare.
     pub fn name(&self) -> &'m str
         ensures name { result.now ≡ self.now.name }
+        ensures named { self.now.name ≢ [] }
     {
         self.name
     }

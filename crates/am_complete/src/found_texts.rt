@@ -4,16 +4,13 @@
 //! every label set, and `dead` would call each route dead that asks for a value of it. The words of
 //! a pattern follow a simple rule. A better search would find more, and could promise no more.
 
-ghost use Rattle.std.specs.Prelude.{◌≡◌, IfOk, false, map, string_bytes};
-ghost use Rattle.std.specs.List.{AllByRecursion};
-ghost use Rattle.am_classes.specs.declared.alphabet.Alphabet.{Alphabet};
-ghost use Rattle.am_classes.specs.Alike.{AreApart};
-ghost use Rattle.am_complete.specs.Covering.{AreClasses};
+ghost use Rattle.std.specs.Prelude.{IfOk, false, map, string_bytes};
 ghost use Rattle.am_classes.specs.Alphabet.{AreOver};
+ghost use Rattle.am_complete.specs.Covering.{AreClasses};
 
 use crate::AskedLabel;
 use crate::representatives::put_in_order;
-use crate::truths::Truths;
+use crate::tested::{new_texts, tested_texts};
 use crate::usual_texts::{push_new, texts_over, usual_texts};
 use am_classes::Alphabet;
 use am_list_files::Alerts;
@@ -29,34 +26,13 @@ pub(crate) fn found_texts(
     label: &AskedLabel<'_>,
     alerts: Option<&Alerts>,
 ) -> Result<Vec<String>, AllocError>
-    requires on { AllByRecursion (λ m. m.name ≡ label.now.name) label.now.matchers }
     ensures { IfOk result (λ texts.
         AreClasses alphabet label.now.matchers (map string_bytes texts.items) false) }
 {
     let texts = texts_to_try(alloc, alphabet, label, alerts)?;
-    let tried = Truths::of(alloc, label.name(), label.matchers(), texts.as_slice())?;
-    let mut found = match tried {
-        Some(tried) => first_of_each_class(alloc, &tried)?,
-        None => Vec::new(alloc),
-    };
+    let tried = tested_texts(alloc, label.matchers(), texts)?;
+    let mut found = new_texts(alloc, Vec::new(alloc), tried)?;
     put_in_order(&mut found)?;
-    Ok(found)
-}
-
-/// Returns those of the tried texts that are alike to none before them.
-fn first_of_each_class(alloc: Global, tried: &Truths<'_>) -> Result<Vec<String>, AllocError>
-    ensures apart { IfOk result (λ texts.
-        AreApart tried.now.matchers (map string_bytes texts.items)) }
-    ensures over { IfOk result (λ texts. (a : Alphabet) → AreOver a tried.now.texts
-        → AreOver a (map string_bytes texts.items)) }
-{
-    let mut found = Vec::new(alloc);
-    for j in 0..tried.len() {
-        if tried.is_alike_to_an_earlier_one(j) {
-            continue;
-        }
-        found.push(String::from_str(alloc, tried.text(j))?)?;
-    }
     Ok(found)
 }
 

@@ -1,30 +1,13 @@
-//! The texts that a label has in a universe, and those that count for it in a space.
+//! The texts that stand for a label in a space.
 
 ghost use Rattle.std.specs.Prelude.{◌≡◌, ◌<◌, ◌∷◌, [], IfOk, length, map, string_bytes, unwrap_or};
 ghost use Rattle.am_universe.specs.Universe.{values_at};
-ghost use Rattle.am_complete.specs.Complete.{label_texts};
 ghost use Rattle.am_complete.specs.Covering.{standing_texts};
 
 use crate::possible_texts::possible_texts;
 use am_labels::Space;
 use am_universe::Universe;
 use std::alloc::{AllocError, Global};
-
-/// Returns the texts that a label has in a universe. Absence is the empty text. A label that is not
-/// declared has absence alone.
-pub(crate) fn texts_in(
-    alloc: Global,
-    universe: &Universe,
-    name: &str,
-) -> Result<Vec<String>, AllocError>
-    ensures { IfOk result (λ texts.
-        map string_bytes texts.items ≡ label_texts universe.now name.now) }
-{
-    match universe.position(name) {
-        Some(i) => values_in(alloc, universe, i),
-        None => absence_alone(alloc),
-    }
-}
 
 /// Returns the texts that stand in a space for a label. For a declared label, these are its texts.
 /// For another label, it is absence alone, if that is possible.

@@ -21,7 +21,7 @@ mod missing_texts;
 mod possible_classes;
 mod possible_texts;
 mod representatives;
-mod truths;
+mod tested;
 mod usual_texts;
 
 // A universe made from what the matchers ask.

@@ -21,7 +21,7 @@ ghost use Rattle.am_complete.specs.Complete.{AreAmong, impossible_conditions, Is
 ghost use Rattle.am_complete.specs.AskedLabel.{IsAskedOf};
 ghost use Rattle.am_complete.specs.Covering.{KeepsLabels, AddsNeeded, CoversEachBut, HasTextsOver};
 ghost use Rattle.am_complete.specs.Covering.{IsWithLabel, IsFullFor, IsLimitOrMemory};
-ghost use Rattle.am_complete.specs.Room.{AreUnproved, HaveNoRoom, HaveTooManyValues};
+ghost use Rattle.am_complete.specs.Room.{AreUnproved, HaveNoRoom};
 ghost use Rattle.am_complete.specs.Missing.{AreMissing, missing_for, whole_texts, IsWhole};
 ghost use Rattle.am_complete.specs.Missing.{is_to_declare, names_to_declare, CanBeDeclared};
 ghost use Rattle.am_complete.specs.Missing.{AreTooLarge, open_positions};
@@ -119,15 +119,10 @@ fn missing_of_each<'m>(
     space: &Space,
     asked: &[AskedLabel<'m>],
     alerts: Option<&Alerts>,
-) -> Result<Vec<Missing<'m>>, Kind>
-    requires universe { IsUniverse space.now.labels }
-    requires asked { (ms : List Condition) × IsAskedOf asked.now ms
+) -> Result<Vec<Missing<'m>>, AllocError>
+    requires { (ms : List Condition) × IsAskedOf asked.now ms
         × AreAmong (impossible_conditions space.now.impossible) ms }
-    ensures missing { IfOk result (λ missing.
-        AreMissing alphabet space.now asked.now missing.items) }
-    ensures kind { IfErr result IsLimitOrMemory }
-    ensures limit { IfErr result (λ kind. kind ≡ kinds.Limit
-        → HaveTooManyValues alphabet space.now asked.now) }
+    ensures { IfOk result (λ missing. AreMissing alphabet space.now asked.now missing.items) }
 {
     let mut missing = Vec::with_capacity(alloc, asked.len())?;
     for label in asked {
@@ -136,7 +131,7 @@ fn missing_of_each<'m>(
     Ok(missing)
 }
 
-/// Adds the names of the labels that lack texts and that a universe does not declare.
+/// Adds the names of the labels that have to be declared and that a universe does not declare.
 fn add_names<'n>(
     names: &mut Vec<&'n str>,
     universe: &Universe,
@@ -153,11 +148,11 @@ fn add_names<'n>(
     Ok(())
 }
 
-/// Whether a label lacks texts, and a universe does not declare it.
+/// Whether a label has to be declared, and a universe does not declare it.
 fn is_to_declare(universe: &Universe, label: &Missing<'_>) -> bool
     ensures { result ≡ is_to_declare universe.now label.now }
 {
-    !label.texts().is_empty() && universe.position(label.name()).is_none()
+    label.needs_label() && universe.position(label.name()).is_none()
 }
 
 /// Makes the universe whose labels have these names. Each label has the texts that stand for it in
@@ -223,13 +218,13 @@ fn add_texts(alloc: Global, texts: &mut Vec<String>, more: &[String]) -> Result<
     Ok(())
 }
 
-/// Returns the positions of the labels that may lack other texts too.
+/// Returns the positions of the labels that a universe with their texts may not cover.
 fn open_positions(alloc: Global, missing: &[Missing<'_>]) -> Result<Vec<usize>, AllocError>
     ensures { IfOk result (λ positions. positions.items ≡ open_positions missing.now) }
 {
     let mut positions = Vec::new(alloc);
     for (i, label) in missing.iter().enumerate() {
-        if !label.all() {
+        if !label.is_covered() {
             positions.push(i)?;
         }
     }

@@ -1,14 +1,11 @@
 //! One text for each class of texts that a label may have.
 
-ghost use Rattle.std.specs.Prelude.{◌≡◌, ◌≢◌, [], IfOk, IfSome, IfNone, map, string_bytes};
-ghost use Rattle.std.specs.List.{AllByRecursion};
-ghost use Rattle.am_complete.specs.Covering.{AreClasses};
+ghost use Rattle.std.specs.Prelude.{◌≢◌, [], IfOk, IfSome, IfNone, map, string_bytes};
 ghost use Rattle.am_classes.specs.Alike.{HasPattern};
-ghost use Rattle.am_complete.specs.FoundState.{IsAskedFor};
+ghost use Rattle.am_complete.specs.FoundState.{HasThoseOfLists};
 ghost use Rattle.am_complete.specs.Missing.{ArePossibleClasses};
 
 use crate::AskedLabel;
-use crate::made_universe::is_label_name;
 use crate::possible_texts::possible_texts;
 use crate::representatives::representatives;
 use am_classes::{Alphabet, ClassTexts, classes};
@@ -26,7 +23,7 @@ pub(crate) fn possible_classes(
     label: &AskedLabel<'_>,
     alerts: Option<&Alerts>,
 ) -> Result<Option<ClassTexts>, AllocError>
-    requires { label.now.name ≢ [] → IsAskedFor space.now.impossible label.now }
+    requires { label.now.name ≢ [] → HasThoseOfLists space.now.impossible label.now }
     ensures some { IfOk result (λ found. IfSome found (λ classes.
         ArePossibleClasses alphabet space.now.impossible label.now
         (map string_bytes classes.texts.items) classes.all)) }
@@ -36,29 +33,7 @@ pub(crate) fn possible_classes(
         return Ok(None);
     };
     let all = classes.all;
-    let texts = chosen_classes(alloc, alphabet, label, alerts, classes)?;
+    let texts = representatives(alloc, alphabet, label, alerts, classes)?;
     let texts = possible_texts(alloc, space.impossible(), label.name(), texts)?;
     Ok(Some(ClassTexts { texts, all }))
-}
-
-/// Returns the texts of the classes. If these are all, and the label can be declared, the texts are
-/// chosen for a reader.
-fn chosen_classes(
-    alloc: Global,
-    alphabet: Alphabet,
-    label: &AskedLabel<'_>,
-    alerts: Option<&Alerts>,
-    classes: ClassTexts,
-) -> Result<Vec<String>, AllocError>
-    requires on { label.now.name ≢ []
-        → AllByRecursion (λ m. m.name ≡ label.now.name) label.now.matchers }
-    requires classes { AreClasses alphabet label.now.matchers
-        (map string_bytes classes.texts.items) classes.all }
-    ensures { IfOk result (λ texts. AreClasses alphabet label.now.matchers
-        (map string_bytes texts.items) classes.all) }
-{
-    if !classes.all || !is_label_name(alloc, label.name()) {
-        return Ok(classes.texts);
-    }
-    representatives(alloc, alphabet, label, alerts, classes.texts)
 }

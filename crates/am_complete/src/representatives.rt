@@ -1,44 +1,47 @@
 //! Which text stands for each class of a label's texts.
 
-ghost use Rattle.std.specs.Prelude.{◌≡◌, ◌<◌, ℕ, List, Some, IfOk, length, map, Bool, true};
-ghost use Rattle.std.specs.Prelude.{slice_get, string_bytes};
-ghost use Rattle.std.specs.List.{AllByRecursion};
+ghost use Rattle.std.specs.Prelude.{◌≡◌, List, IfOk, map, Bool, option_map, string_bytes};
+ghost use Rattle.std.specs.List.{find};
 ghost use Rattle.am_labels.specs.Matcher.{Condition};
 ghost use Rattle.am_classes.specs.declared.alphabet.Alphabet.{Alphabet};
-ghost use Rattle.am_classes.specs.Alike.{AreAlike};
 ghost use Rattle.am_complete.specs.Covering.{AreClasses};
-ghost use Rattle.am_classes.specs.Alphabet.{AreOver, IsOver};
-ghost use Rattle.am_complete.specs.Truths.{AreAlikeEach};
+ghost use Rattle.am_complete.specs.Truths.{AreChosenEach, IsChosen, has_same_truths};
 
 use crate::AskedLabel;
-use crate::truths::Truths;
+use crate::tested::{Tested, tested_texts};
 use crate::usual_texts::{texts_over, usual_texts};
-use am_classes::Alphabet;
+use am_classes::{Alphabet, ClassTexts};
+use am_labels::{Comparison, Matcher};
 use am_list_files::Alerts;
+use am_universe::limits::MAX_VALUES;
 use std::alloc::{AllocError, Global};
 
-/// Returns texts that stand for the classes of a label's texts, as `texts` do, but are chosen and
-/// put in order for a reader. A text that no matcher names, unless it is absence, is replaced by a
-/// usual text of its class, if there is one: the text that most of the alerts have, or else
-/// `other`. Absence comes first, and texts with a line feed come last.
+/// Returns texts that stand for the classes of a label's texts, as those of `classes` do. If these
+/// are all, they are chosen and put in order for a reader: absence comes first, and texts with a
+/// line feed come last.
 pub(crate) fn representatives(
     alloc: Global,
     alphabet: Alphabet,
     label: &AskedLabel<'_>,
     alerts: Option<&Alerts>,
-    texts: Vec<String>,
+    classes: ClassTexts,
 ) -> Result<Vec<String>, AllocError>
-    requires on { AllByRecursion (λ m. m.name ≡ label.now.name) label.now.matchers }
-    requires classes { AreClasses alphabet label.now.matchers (map string_bytes texts.items) true }
+    requires { AreClasses alphabet label.now.matchers (map string_bytes classes.texts.items)
+        classes.all }
     ensures { IfOk result (λ chosen.
-        AreClasses alphabet label.now.matchers (map string_bytes chosen.items) true) }
+        AreClasses alphabet label.now.matchers (map string_bytes chosen.items) classes.all) }
 {
-    let mut chosen = usual_where_alike(alloc, alphabet, label, alerts, texts)?;
+    if !classes.all {
+        return Ok(classes.texts);
+    }
+    let mut chosen = usual_where_alike(alloc, alphabet, label, alerts, classes.texts)?;
     put_in_order(&mut chosen)?;
     Ok(chosen)
 }
 
-/// Replaces texts that no matcher names by usual texts that are alike to them.
+/// Replaces texts that no matcher names, unless they are absence, by usual texts that are alike to
+/// them: the text that most of the alerts have, or else `other`. If there are more texts than a
+/// label may have values, they stay.
 fn usual_where_alike(
     alloc: Global,
     alphabet: Alphabet,
@@ -46,67 +49,68 @@ fn usual_where_alike(
     alerts: Option<&Alerts>,
     texts: Vec<String>,
 ) -> Result<Vec<String>, AllocError>
-    requires on { AllByRecursion (λ m. m.name ≡ label.now.name) label.now.matchers }
-    requires classes { AreClasses alphabet label.now.matchers (map string_bytes texts.items) true }
-    ensures { IfOk result (λ chosen.
-        AreClasses alphabet label.now.matchers (map string_bytes chosen.items) true) }
+    ensures { IfOk result (λ chosen. (all : Bool)
+        → AreClasses alphabet label.now.matchers (map string_bytes texts.items) all
+        → AreClasses alphabet label.now.matchers (map string_bytes chosen.items) all) }
 {
-    let (name, matchers) = (label.name(), label.matchers());
-    let usual = texts_over(alloc, alphabet, usual_texts(alloc, alerts, name)?)?;
-    let Some(usual) = Truths::of(alloc, name, matchers, usual.as_slice())? else {
+    if texts.len() > MAX_VALUES {
         return Ok(texts);
-    };
-    let Some(wanted) = Truths::of(alloc, name, matchers, texts.as_slice())? else {
-        return Ok(texts);
-    };
-    chosen_texts(alloc, alphabet, &wanted, &usual)
+    }
+    let matchers = label.matchers();
+    let usual = texts_over(alloc, alphabet, usual_texts(alloc, alerts, label.name())?)?;
+    let usual = tested_texts(alloc, matchers, usual)?;
+    let wanted = tested_texts(alloc, matchers, texts)?;
+    chosen_texts(alloc, matchers, usual.as_slice(), wanted.as_slice())
 }
 
 /// Returns a text for each of the wanted texts, alike to it.
 fn chosen_texts(
     alloc: Global,
-    alphabet: Alphabet,
-    wanted: &Truths<'_>,
-    usual: &Truths<'_>,
+    matchers: &[&Matcher],
+    usual: &[Tested],
+    wanted: &[Tested],
 ) -> Result<Vec<String>, AllocError>
-    requires same { usual.now.matchers ≡ wanted.now.matchers }
-    requires wanted { AreOver alphabet wanted.now.texts }
-    requires usual { AreOver alphabet usual.now.texts }
-    ensures alike { IfOk result (λ chosen.
-        AreAlikeEach wanted.now.matchers (map string_bytes chosen.items) wanted.now.texts) }
-    ensures over { IfOk result (λ chosen. AreOver alphabet (map string_bytes chosen.items)) }
+    ensures { IfOk result (λ chosen.
+        AreChosenEach usual.now wanted.now (map string_bytes chosen.items)) }
 {
     let mut chosen = Vec::with_capacity(alloc, wanted.len())?;
-    for j in 0..wanted.len() {
-        chosen.push(chosen_text(alloc, alphabet, wanted, usual, j)?)?;
+    for text in wanted {
+        let like = chosen_text(matchers, usual, text);
+        chosen.push(String::from_str(alloc, like)?)?;
     }
     Ok(chosen)
 }
 
-/// Returns a text that is alike to the wanted text at `j`.
-fn chosen_text(
-    alloc: Global,
-    alphabet: Alphabet,
-    wanted: &Truths<'_>,
-    usual: &Truths<'_>,
-    j: usize,
-) -> Result<String, AllocError>
-    requires same { usual.now.matchers ≡ wanted.now.matchers }
-    requires there { j < length wanted.now.texts }
-    requires wanted { AreOver alphabet wanted.now.texts }
-    requires usual { AreOver alphabet usual.now.texts }
-    ensures alike { IfOk result (λ text. (y : List ℕ) → slice_get wanted.now.texts j ≡ Some y
-        → AreAlike wanted.now.matchers (string_bytes text) y) }
-    ensures over { IfOk result (λ text. IsOver alphabet (string_bytes text)) }
+/// Returns a text that is alike to a wanted one: that text itself if it is absence or a matcher
+/// names it, or else the first of the usual texts, if one is.
+fn chosen_text<'t>(matchers: &[&Matcher], usual: &'t [Tested], wanted: &'t Tested) -> &'t str
+    ensures { IsChosen usual.now wanted.now result.now }
 {
-    let text = wanted.text(j);
-    if text.is_empty() || wanted.names(text) {
-        return String::from_str(alloc, text);
+    let text = wanted.text.as_str();
+    if text.is_empty() || is_named(matchers, text) {
+        return text;
     }
-    match usual.first_alike(wanted, j) {
-        Some(k) => String::from_str(alloc, usual.text(k)),
-        None => String::from_str(alloc, text),
+    match first_alike(usual, wanted) {
+        Some(other) => other.text.as_str(),
+        None => text,
     }
+}
+
+/// Returns the first text that has the same truths as a wanted one, if there is one.
+fn first_alike<'t>(usual: &'t [Tested], wanted: &Tested) -> Option<&'t Tested>
+    ensures { option_map (λ t. t.now) result ≡ find (has_same_truths wanted.now) usual.now }
+{
+    usual.iter().find(|other| other.truths == wanted.truths)
+}
+
+/// Whether a matcher names a text: it asks for this text alone, or for all others.
+fn is_named(matchers: &[&Matcher], text: &str) -> bool {
+    for matcher in matchers {
+        if matcher.op().comparison() == Comparison::Text && matcher.value() == text {
+            return true;
+        }
+    }
+    false
 }
 
 /// Puts the texts of a label in order: absence first, and texts with a line feed last.

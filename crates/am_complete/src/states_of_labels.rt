@@ -4,7 +4,7 @@
 //! that label alone takes away are left out. The matchers of such a list are among those of the
 //! label, so if the list takes one text away, it takes the whole class away.
 
-ghost use Rattle.std.specs.Prelude.{◌≡◌, ◌≢◌, ◌++◌, [], List, IfOk, OnOk, IsTrue, map, not};
+ghost use Rattle.std.specs.Prelude.{◌≡◌, ◌<◌, ◌++◌, List, IfOk, OnOk, IsTrue, length, map, not};
 ghost use Rattle.std.specs.Prelude.{string_bytes, option_map, slice_get, Some, IfSome, IfNone};
 ghost use Rattle.std.specs.Prelude.{Contains};
 ghost use Rattle.std.specs.List.{AllByRecursion, filter, list_all, list_any};
@@ -14,8 +14,7 @@ ghost use Rattle.am_complete.specs.AskedLabel.{IsAskedOf, asked_names};
 ghost use Rattle.am_complete.specs.LabelState.{IsSoIfNamed, is_settled, reported_names};
 ghost use Rattle.am_complete.specs.LabelState.{is_declared};
 ghost use Rattle.am_complete.specs.Complete.{IsSpaceComplete, AreAmong, impossible_conditions};
-ghost use Rattle.am_complete.specs.FoundState.{is_unseen, has_label, IsSoOfName, IsSoOfAsked};
-ghost use Rattle.am_complete.specs.FoundState.{IsAskedFor, IsWithState};
+ghost use Rattle.am_complete.specs.FoundState.{is_unseen, has_label, IsSoOfName};
 
 use crate::completeness_at::completeness_at;
 use crate::{AskedLabel, Completeness, LabelState};
@@ -91,15 +90,14 @@ fn declared_state(
     alerts: Option<&Alerts>,
     name: &str,
 ) -> Result<LabelState, AllocError>
-    requires universe { IsUniverse space.now.labels }
-    requires asked { (ms : List Condition) × IsAskedOf asked.now ms
+    requires { (ms : List Condition) × IsAskedOf asked.now ms
         × AreAmong (impossible_conditions space.now.impossible) ms }
     ensures name { IfOk result (λ state. string_bytes state.name ≡ name.now) }
     ensures so { IfOk result (IsSoOfName alphabet space.now asked.now
         (option_map (λ a. a.now) alerts.entry)) }
 {
     match position_of(asked, name) {
-        Some(i) => asked_state(alloc, alphabet, space, &asked[i], alerts),
+        Some(i) => asked_state(alloc, alphabet, space, asked, i, alerts),
         None => Ok(LabelState {
             name: String::from_str(alloc, name)?,
             completeness: Completeness::Unasked,
@@ -131,8 +129,7 @@ fn add_undeclared(
     alerts: Option<&Alerts>,
     states: &mut Vec<LabelState>,
 ) -> Result<(), AllocError>
-    requires universe { IsUniverse space.now.labels }
-    requires asked { (ms : List Condition) × IsAskedOf asked.now ms
+    requires { (ms : List Condition) × IsAskedOf asked.now ms
         × AreAmong (impossible_conditions space.now.impossible) ms }
     ensures names { OnOk result (map (λ s. string_bytes s.name) states.new.items
         ≡ map (λ s. string_bytes s.name) states.old.items
@@ -144,48 +141,32 @@ fn add_undeclared(
         (IsSoOfName alphabet space.now asked.now (option_map (λ a. a.now) alerts.entry))
         states.new.items) }
 {
-    for label in asked {
-        add_if_undeclared(alloc, alphabet, space, label, alerts, states)?;
+    for i in 0..asked.len() {
+        if space.universe().position(asked[i].name()).is_none() {
+            states.push(asked_state(alloc, alphabet, space, asked, i, alerts)?)?;
+        }
     }
     Ok(())
 }
 
-/// Adds the state of a label that is asked about, if it is not declared.
-fn add_if_undeclared(
-    alloc: Global,
-    alphabet: Alphabet,
-    space: &Space,
-    label: &AskedLabel<'_>,
-    alerts: Option<&Alerts>,
-    states: &mut Vec<LabelState>,
-) -> Result<(), AllocError>
-    requires universe { IsUniverse space.now.labels }
-    requires asked { label.now.name ≢ [] → IsAskedFor space.now.impossible label.now }
-    ensures { OnOk result (IsWithState alphabet space.now label.now
-        (option_map (λ a. a.now) alerts.entry) states.old.items states.new.items) }
-{
-    match space.universe().position(label.name()) {
-        Some(_) => Ok(()),
-        None => {
-            states.push(asked_state(alloc, alphabet, space, label, alerts)?)?;
-            Ok(())
-        }
-    }
-}
-
-/// Returns the state of a label that is asked about.
+/// Returns the state of the label at position `i` among those that are asked about.
 fn asked_state(
     alloc: Global,
     alphabet: Alphabet,
     space: &Space,
-    label: &AskedLabel<'_>,
+    asked: &[AskedLabel<'_>],
+    i: usize,
     alerts: Option<&Alerts>,
 ) -> Result<LabelState, AllocError>
-    requires universe { IsUniverse space.now.labels }
-    requires asked { label.now.name ≢ [] → IsAskedFor space.now.impossible label.now }
-    ensures { IfOk result (IsSoOfAsked alphabet space.now label.now
+    requires inside { i < length asked.now }
+    requires asked { (ms : List Condition) × IsAskedOf asked.now ms
+        × AreAmong (impossible_conditions space.now.impossible) ms }
+    ensures name { IfOk result (λ state.
+        slice_get (asked_names asked.now) i ≡ Some (string_bytes state.name)) }
+    ensures so { IfOk result (IsSoOfName alphabet space.now asked.now
         (option_map (λ a. a.now) alerts.entry)) }
 {
+    let label = &asked[i];
     Ok(LabelState {
         name: String::from_str(alloc, label.name())?,
         completeness: completeness_at(alloc, alphabet, space, label, alerts)?,

@@ -160,7 +160,7 @@ module _ (a : Alphabet) (s : Space) (asked : List AskedLabel) (ms : List Conditi
         let needed = needs.2.1 in
         let possible = needed.possible.possible.0 in
         needed.new.0 (alike_standing s l text
-        (asked_for s.impossible asked ms l asks among i some).lists possible
+        (asked_for s.impossible asked ms l asks among i some) possible
         (subst (λ xs. HasAlikeIn l.matchers xs text) (lone ∙ sym alone)
         (has_each l text i some needed.possible.over.0 possible))))
 

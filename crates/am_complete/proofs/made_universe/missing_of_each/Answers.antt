@@ -7,13 +7,12 @@ use Rattle.am_complete.proofs.LabelStates.{stands_at}
 use Rattle.am_complete.proofs.Pushed.{one_longer}
 use Rattle.am_complete.proofs.made_universe.missing_of_each.Goals as goal
 
-pub missing_at-requires-clause-asked : goal.missing_at-requires-clause-asked
-missing_at-requires-clause-asked c = λ some.
+pub missing_at-requires : goal.missing_at-requires
+missing_at-requires c = λ some.
     let asked = c.args.asked.now in
     let i = c.loop-label.label-index in
     let l = c.label-item.result in
-    asked_for c.args.space.now.impossible asked c.requires.asked.0 l c.requires.asked.1
-    c.requires.asked.2
+    asked_for c.args.space.now.impossible asked c.requires.0 l c.requires.1 c.requires.2
     (in_at asked i l (stands_at asked i l c.loop-label-test.true c.label-item.is)) some
 
 pub loop-label-preserved : goal.loop-label-preserved

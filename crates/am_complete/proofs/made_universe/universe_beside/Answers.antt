@@ -41,7 +41,7 @@ returns-in_err-universe-clause-limit c =
     c.from_residual-in_err-universe.ensures.1 in
     rw (fault.1, fault.2) (λ limit.
     no_room c.args.alphabet s c.args.asked.now missing (universe here)
-    c.in_ok-missing.ensures.missing c.requires.1.distinct
+    c.in_ok-missing.ensures c.requires.1.distinct
     (subst (AreTooLarge s missing) (beside here)
     (subst (λ (ms : List MissingTexts). AreTooLarge s ms
     (map (λ (n : Bor (List ℕ)). n.now) c.as_slice-2.result.now)) c.as_slice-3.ensures.value
@@ -56,7 +56,7 @@ returns c =
     let v : List Label = c.in_ok-universe.universe in
     let positions : List ℕ = c.in_ok-unproved.unproved.items in
     let here = (goal.at.returns c).After-as_slice-3 in
-    let zip = c.in_ok-missing.ensures.missing in
+    let zip = c.in_ok-missing.ensures in
     let is = c.in_ok-universe.ensures.universe in
     let are : names v ≡ names s.labels ++ names_to_declare s.labels missing =
     c.in_ok-universe.ensures.names ∙ beside here in

@@ -14,11 +14,11 @@ returns c =
     let kept : map string_bytes c.in_ok-texts.texts.items
     ≡ filter (may_have impossible l.name) found =
     c.in_ok-texts.ensures
-    ∙ (λ i. filter (may_have (c.impossible.ensures.lists i) (c.name-2.ensures.name i)) found) in
+    ∙ (λ i. filter (may_have (c.impossible.ensures.lists i) (c.name.ensures.name i)) found) in
     record {
       possible = subst (ArePossible a impossible l.name l.matchers) (sym kept)
           (are_possible a impossible l.name l.matchers found c.in_ok-found.ensures.over
           c.in_ok-found.ensures.apart);
-      cover = λ some all. absurd (cc);
+      cover = λ all. absurd (cc);
       pattern = λ some. rw c.in_default.is at c.in_ok-classes.ensures.none;
     }

@@ -20,8 +20,8 @@ returns-clause-some c =
     record {
       possible = subst (ArePossible a impossible l.name l.matchers) (sym kept)
           (are_possible a impossible l.name l.matchers chosen is.over is.apart);
-      cover = λ some all. subst (CoverPossible a impossible l.name l.matchers) (sym kept)
-          (cover_possible a impossible l chosen (c.requires some).lists (is.covers all));
+      cover = λ all. subst (CoverPossible a impossible l.name l.matchers) (sym kept)
+          (cover_possible a impossible l chosen (c.requires c.name.ensures.named) (is.covers all));
       pattern = λ some.
           subst HasPattern c.matchers.ensures.matchers
           (rw c.in-Some.is at c.in_ok-classes.ensures.many some).1;

@@ -1,12 +1,8 @@
 use Rattle.std.proofs.Common.{map, string_bytes, take}
-use Rattle.am_classes.specs.Alphabet.{AreOver}
-use Rattle.am_complete.specs.Truths.{AreAlikeEach}
+use Rattle.am_complete.specs.Truths.{AreChosenEach}
 use Rattle.am_complete.proofs.representatives.chosen_texts.Given as goal
 
--- the texts so far are alike to the wanted ones so far, and over the alphabet
-abbrev pub invariant-loop-j : goal.invariant-loop-j
-invariant-loop-j l = record {
-  alike :
-      AreAlikeEach l.wanted.matchers (map string_bytes l.chosen.items) (take l.j l.wanted.texts);
-  over : AreOver l.alphabet (map string_bytes l.chosen.items);
-}
+-- the texts so far are chosen for the wanted ones so far
+abbrev pub invariant-loop-text : goal.invariant-loop-text
+invariant-loop-text l =
+    AreChosenEach l.usual (take l.text-index l.wanted) (map string_bytes l.chosen.items)

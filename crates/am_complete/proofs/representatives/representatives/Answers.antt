@@ -1,6 +1,7 @@
-use Rattle.std.proofs.Common.{true}
 use Rattle.am_complete.proofs.representatives.representatives.Goals as goal
 
 pub returns : goal.returns
 returns c =
-    c.put_in_order.ensures c.args.alphabet c.args.label.now.matchers true c.in_ok-chosen.ensures
+    let all = c.args.classes.all in
+    c.put_in_order.ensures c.args.alphabet c.args.label.now.matchers all
+    (c.in_ok-chosen.ensures all c.requires)

@@ -6,10 +6,10 @@ use Rattle.am_complete.proofs.LabelStates.{names_of, undeclared}
 use Rattle.am_complete.proofs.states_of_labels.add_undeclared.Given as goal
 
 -- after the others come the states of the labels so far that are not declared, and each is true
-abbrev pub invariant-loop-label : goal.invariant-loop-label
-invariant-loop-label l = record {
+abbrev pub invariant-loop-i : goal.invariant-loop-i
+invariant-loop-i l = record {
   names : names_of l.states.items ≡ names_of l.fn.states.items
-      ++ undeclared l.space.labels (asked_names (take l.label-index l.asked));
+      ++ undeclared l.space.labels (asked_names (take l.i l.asked));
   each : AllByRecursion (IsSoOfName l.alphabet l.space l.asked (option_map (λ a. a.now) l.alerts))
       l.fn.states.items
       → AllByRecursion (IsSoOfName l.alphabet l.space l.asked (option_map (λ a. a.now) l.alerts))

@@ -14,7 +14,7 @@ returns-then-contains-clause-ok c =
     ≡ c.contains.result =
     rw (c.contains.ensures.value, c.operators_beside-found.ensures, c.op-op.ensures.op) refl in
     let some : list_any (asks_same m) (map (λ x. x.now) c.self.inside.matchers.items) ≡ true =
-    sym (c.self.invariant m) ∙ asked ∙ c.if-contains.true in
+    sym (c.self.invariant.1 m) ∙ asked ∙ c.if-contains.true in
     subst (λ (l : AskedLabel). l ≡ with_matcher m l) c.self.view_is (rw some refl)
 
 pub invariant_of-self-2 : goal.invariant_of-self-2
@@ -34,9 +34,11 @@ invariant_of-self-2 c =
       rw (← c.value.ensures.value)
           (btree_map_updates_str c.value.result.now operators c.insert.new.self _
           c.in_ok-insert.ensures.updates),
-    ) in
-    subst (HasOperatorsOf c.insert.new.self) (sym longer)
-    (one_matcher_more operators c.insert.new.self _ m c.push.new.self c.self.invariant puts)
+    ) in (
+      c.self.invariant.0,
+      subst (HasOperatorsOf c.insert.new.self) (sym longer)
+          (one_matcher_more operators c.insert.new.self _ m c.push.new.self c.self.invariant.1 puts),
+    )
 
 pub returns-clause-ok : goal.returns-clause-ok
 returns-clause-ok c =
@@ -45,7 +47,7 @@ returns-clause-ok c =
     ≡ c.contains.result =
     rw (c.contains.ensures.value, c.operators_beside-found.ensures, c.op-op.ensures.op) refl in
     let none : list_any (asks_same m) (map (λ x. x.now) c.self.inside.matchers.items) ≡ false =
-    sym (c.self.invariant m) ∙ asked ∙ c.if-contains.false in
+    sym (c.self.invariant.1 m) ∙ asked ∙ c.if-contains.false in
     rw (
       ← c.self.view_is,
       none,

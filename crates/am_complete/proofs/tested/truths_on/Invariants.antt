@@ -1,0 +1,10 @@
+use Rattle.std.proofs.Common.{◌≡◌, take}
+use Rattle.am_complete.specs.Truths.{truths}
+use Rattle.am_complete.proofs.tested.truths_on.Given as goal
+
+-- the truths so far are those of the matchers so far, which stay the same
+abbrev pub invariant-loop-i : goal.invariant-loop-i
+invariant-loop-i l = record {
+  truths : l.found.items ≡ truths (take l.i l.fn.prepared.items) l.text;
+  same : l.prepared.items ≡ l.fn.prepared.items;
+}
