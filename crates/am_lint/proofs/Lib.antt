@@ -3,13 +3,11 @@ pub mod ValueText
 pub mod MatchersSpelled
 pub mod TableLemmas
 pub mod LiteralLemmas
-pub mod LiteralTruth
-pub mod ReasonPaths
-pub mod ReasonOfParts
-pub mod PartsMet
-pub mod EnteringLemmas
-pub mod PartsEntering
 pub mod PlaceSteps
+pub mod EnteringLemmas
+pub mod LiteralTruth
+pub mod NamedReasons
+pub mod StandingSteps
 pub mod ReportSteps
 pub mod Transfer
 pub mod FoundLemmas

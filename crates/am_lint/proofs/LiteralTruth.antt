@@ -1,112 +1,195 @@
--- When literals are true at a choice: exactly if its label set does what they want.
-use Rattle.std.proofs.Common.{◌≡◌, ◌↔◌, ℕ, List, Bool, true, false, not, cond, Some, sym, ap}
-use Rattle.std.proofs.Common.{◌∙◌, subst, slice_get, Contains, IsTrue, inl, inr}
-use Rattle.std.proofs.lemmas.Bool.{cases_Bool}
-use Rattle.std.proofs.lemmas.Option.{same_Some}
-use Rattle.am_universe.proofs.ListLemmas.{IsIn, IsIn-from_Contains, AllByRecursion-at}
-use Rattle.am_universe.specs.Universe.{Label, sizes}
-use Rattle.am_universe.specs.Choice.{IsWhole}
+-- What literals say of the label set of a choice, and what a search for a choice that meets them
+-- finds.
+use Rattle.std.proofs.Common.{◌≡◌, ◌↔◌, ◌<◌, ℕ, List, [], ◌++◌, length, Bool, true, false, not}
+use Rattle.std.proofs.Common.{cond, ◌&&◌, Option, Some, None, refl, sym, ap, ◌∙◌, subst}
+use Rattle.std.proofs.Common.{IsTrue, ◌∷◌}
+use Rattle.std.specs.Prelude.{⊤}
+use Rattle.std.specs.List.{AllByRecursion, filter, find}
+use Rattle.std.proofs.lemmas.Bool.{and_parts, and_from, both_ways, not-true}
+use Rattle.std.proofs.lemmas.List.Folds.{list_all-append}
+use Rattle.std.proofs.lemmas.Option.{slice_get_within, same_Some}
+use Rattle.am_universe.proofs.ListLemmas.{IsIn, IsIn-map, IsIn-unmap, AllByRecursion-at}
+use Rattle.am_universe.proofs.ListLemmas.{AllByRecursion-each}
 use Rattle.am_universe.specs.LabelSet.{label_set_of, LabelMap}
-use Rattle.am_labels.specs.Matcher.{all_hold, Condition}
+use Rattle.am_labels.specs.Matcher.{all_hold}
+use Rattle.am_labels.specs.Space.{Space, IsChoiceOf, all_choices}
+use Rattle.am_labels.proofs.Passing.{kept_from_passes}
 use Rattle.am_config.specs.ConfigFile.{RouteTree, Configuration, continues_of, matchers_of}
 use Rattle.am_config.specs.Path.{route_at}
-use Rattle.am_eval.specs.Routing.{MatchesAt}
-use Rattle.am_judged_lists.specs.Cube.{MaskedLabels, IsCubeOf, matches}
+use Rattle.am_eval.proofs.ListTests.{all_exactly}
 use Rattle.am_first_sets.proofs.CubeTruth.{matches_where as cube_says}
+use Rattle.am_first_sets.proofs.FirstPossible.{found_of_space, found_passes, none_passes}
 use Rattle.am_first_sets.specs.declared.candidate.Candidate.{Candidate}
-use Rattle.am_first_sets.specs.Literals.{holds_at}
+use Rattle.am_first_sets.specs.Literals.{holds_at, hold_all, meets, IsAnyMet}
+use Rattle.am_judged_lists.specs.Cube.{matches}
 use Rattle.am_lint.specs.declared.literals.Part.{Part}
 use Rattle.am_lint.specs.declared.table.TableRoute.{TableRoute}
 use Rattle.am_lint.specs.Table.{IsTableOf}
-use Rattle.am_lint.specs.Literals.{is_wanted, stands_in, has_route, IsAbout, AreLiterals}
-use Rattle.am_lint.specs.Parts.{DoesAt, StandsIn, MeetsParts}
+use Rattle.am_lint.specs.Literals.{is_wanted, stands_in, has_route, path_if_any, path_of, IsAbout}
+use Rattle.am_lint.specs.Literals.{AddsPart}
+use Rattle.am_lint.specs.Reaching.{IsSetOf, NoneIs}
+use Rattle.am_lint.specs.Standing.{IsSeenBy}
 use Rattle.am_lint.proofs.TableLemmas.{its_route, its_place}
+use Rattle.am_lint.proofs.EnteringLemmas.{Meets}
 
--- ---- When an alert matches a route.
+-- ---- Literals that say of a choice what its label set has.
 
-pub matches_where : (c : Configuration) (set : LabelMap) (q : List ℕ) (t : RouteTree)
-    → route_at c.root q ≡ Some t → MatchesAt set c q ↔ IsTrue (all_hold set (matchers_of t))
-matches_where c set q t at = (
-  λ m.
-      let same : m.0 ≡ t = same_Some m.0 t (sym m.1 ∙ at) in
-      subst (λ (r : RouteTree). IsTrue (all_hold set (matchers_of r))) same m.2,
-  λ h. (t, at, h),
-)
+-- a choice meets all of them exactly if its label set has the property
+abbrev pub AreSaying : Space → List Candidate → (LabelMap → Type 0) → Type 0
+AreSaying s ks Is =
+    (choice : List ℕ) → IsChoiceOf s choice
+    → (hold_all choice ks ≡ true) ↔ Is (label_set_of s.labels choice)
 
-does_where : (c : Configuration) (set : LabelMap) (q : List ℕ) (t : RouteTree) (wanted b : Bool)
-    → route_at c.root q ≡ Some t
-    → b ≡ cond wanted (all_hold set (matchers_of t)) (not (all_hold set (matchers_of t)))
-    → (b ≡ true) ↔ DoesAt c wanted q set
-does_where c set q t true b at is =
-    let m = matches_where c set q t at in (λ h. m.1 (sym is ∙ h), λ d. is ∙ m.0 d)
-does_where c set q t false b at is =
-    let m = matches_where c set q t at in
-    let holds = all_hold set (matchers_of t) in (
-      λ h d.
-          let both : false ≡ true = sym (ap not (m.0 d)) ∙ sym is ∙ h in cc,
-      λ d. elim (cases_Bool holds) [
-        | inl matched ↦ absurd (d (m.1 matched))
-        | inr unmatched ↦ is ∙ ap not unmatched
-      ],
-    )
+abbrev AreNamed : List Candidate → Type 0
+AreNamed ks = AllByRecursion (λ k. IsTrue k.named) ks
 
--- ---- At a whole choice.
+meets_all : (choice : List ℕ) (ks : List Candidate) → AreNamed ks
+    → meets choice ks ≡ hold_all choice ks
+meets_all choice [] named = refl
+meets_all choice (k ∷ ks) named =
+    rw (named.0) (ap (λ b. holds_at choice k && b) (meets_all choice ks named.1))
 
-module _ (u : List Label) (c : Configuration) (routes : List TableRoute)
-    (known : IsTableOf u c routes) (choice : List ℕ) (whole : IsWhole (sizes u) choice) where
-  abbrev set : LabelMap
-  set = label_set_of u choice
+-- ---- The literals of a part.
 
-  by_cube : (wanted : Bool) (cube : MaskedLabels) (ms : List Condition) → IsCubeOf u ms cube
-      → cond wanted (matches cube choice) (not (matches cube choice))
-      ≡ cond wanted (all_hold set ms) (not (all_hold set ms))
-  by_cube wanted cube ms is =
-      ap (λ b. cond wanted b (not b)) (cube_says u choice whole ms cube (is choice whole.0))
+told : (wanted b : Bool) → (cond wanted b (not b) ≡ true) ↔ (b ≡ wanted)
+told true b = (λ h. h, λ h. h)
+told false b = (not-true b, λ h. ap not h)
 
-  pub literal_truth : (k : Candidate) (route : TableRoute) → slice_get routes k.tag ≡ Some route
-      → k.cube.now ≡ route.cube → (holds_at choice k ≡ true) ↔ DoesAt c k.wanted route.path set
-  literal_truth k route at cube =
-      let own = its_route u c routes known k.tag route at in
-      does_where c set route.path own.tree k.wanted (holds_at choice k) own.at
-      (ap (λ m. cond k.wanted (matches m choice) (not (matches m choice))) cube
-      ∙ by_cube k.wanted route.cube (matchers_of own.tree) own.cube)
+module _ (s : Space) (c : Configuration) (routes : List TableRoute)
+    (known : IsTableOf s.labels c routes) (path : List ℕ) (part : Part) where
+  -- the route that a literal is about
+  pub record IsSaying (k : Candidate) : Type 0 where
+    pub tree : RouteTree
+    pub at : route_at c.root (path_of routes k) ≡ Some tree
+    pub stands : IsTrue (stands_in part path (path_of routes k) (continues_of tree))
+    pub says : (choice : List ℕ) → IsChoiceOf s choice → (holds_at choice k ≡ true)
+        ↔ (all_hold (label_set_of s.labels choice) (matchers_of tree) ≡ is_wanted part)
 
-  -- ---- Literals of parts.
+  pub saying : (k : Candidate) → IsAbout routes part path k → IsSaying k
+  saying k about =
+      let own = its_route s.labels c routes known k.tag about.0 about.1 in
+      let tree = own.0.1 in
+      let same : path_of routes k ≡ about.0.path = ap path_if_any about.1 in
+      record {
+        tree = tree;
+        at = ap (route_at c.root) (same ∙ own.2.0) ∙ own.1;
+        stands = ap (λ q. stands_in part path q (continues_of tree)) same
+            ∙ ap (stands_in part path about.0.path) (sym own.2.1) ∙ about.2;
+        says = λ choice possible.
+            let holds = all_hold (label_set_of s.labels choice) (matchers_of tree) in
+            let is : matches k.cube.now choice ≡ holds =
+            ap (λ cube. matches cube choice) about.3
+            ∙ cube_says s.labels choice possible.0 (matchers_of tree) about.0.cube
+            (own.2.2 choice possible.0.0) in
+            let t = told (is_wanted part) holds in
+            let same : holds_at choice k ≡ cond (is_wanted part) holds (not holds) =
+            λ i. cond (about.4 i) (is i) (not (is i)) in
+            (λ h. t.0 (sym same ∙ h), λ h. same ∙ t.1 h);
+      }
 
-  module _ (parts : List Part) (path : List ℕ) (ks : List Candidate)
-      (are : AreLiterals routes parts path ks) where
-    -- a label set that meets the literals does what the parts want
-    pub parts_met : ((k : Candidate) → IsIn ks k → holds_at choice k ≡ true)
-        → MeetsParts c parts path set
-    parts_met all part among q stands =
-        let place = its_place u c routes known q stands.0 stands.1 in
-        let has : IsTrue (has_route part path place.route) =
-        ap (stands_in part path place.route.path) (place.continues)
-        ∙ ap (λ p. stands_in part path p (continues_of stands.0)) place.path ∙ stands.2 in
-        let k = are.every part among place.position place.route place.at has in
-        let tagged = ap (slice_get routes) k.2 ∙ place.at in
-        let about = AllByRecursion-at
-        (λ (l : Candidate). (p : Part) × Contains parts p × IsAbout routes p path l) ks k.0 are.each
-        (IsIn-from_Contains ks k.0 k.1) in
-        let same = same_Some about.2.0 place.route (sym about.2.1 ∙ tagged) in
-        let holds = (literal_truth k.0 about.2.0 about.2.1 about.2.3).0
-        (all k.0 (IsIn-from_Contains ks k.0 k.1)) in
-        subst (λ p. DoesAt c (is_wanted part) p set) (ap (λ r. r.path) same ∙ place.path)
-        (subst (λ b. DoesAt c b about.2.0.path set) k.3 holds)
+  module _ (old new : List Candidate) (adds : AddsPart routes part path routes old new) where
+    about_each : (k : Candidate) → IsIn adds.more k → IsAbout routes part path k
+    about_each k there =
+        AllByRecursion-at (IsAbout routes part path) adds.more k adds.each there
 
-    -- and a label set that does what the parts want meets the literals
-    pub literals_met : MeetsParts c parts path set
-        → (k : Candidate) → IsIn ks k → holds_at choice k ≡ true
-    literals_met does k among =
-        let about = AllByRecursion-at
-        (λ (l : Candidate). (p : Part) × Contains parts p × IsAbout routes p path l) ks k are.each
-        among in
-        let own = its_route u c routes known k.tag about.2.0 about.2.1 in
-        let stands : StandsIn c about.0 path about.2.0.path = (
-          own.tree,
-          own.at,
-          ap (stands_in about.0 path about.2.0.path) (sym own.continues) ∙ about.2.2,
-        ) in
-        (literal_truth k about.2.0 about.2.1 about.2.3).1
-        (subst (λ b. DoesAt c b about.2.0.path set) (sym about.2.4)
-        (does about.0 about.1 about.2.0.path stands))
+    -- a choice meets them exactly if its label set meets what the part asks
+    pub part_said : AreSaying s adds.more (λ set. Meets set c.root path part)
+    part_said choice possible =
+        let each = all_exactly (holds_at choice) (λ k. holds_at choice k ≡ true)
+        (λ k. (λ h. h, λ h. h)) adds.more in (
+          λ h q u at stands.
+              let place = its_place s.labels c routes known q u at in
+              let has : IsTrue (has_route part path place.0) =
+              (λ i. stands_in part path (place.2.0 i) (place.2.1 i)) ∙ stands in
+              let among = subst (λ (qs : List (List ℕ)). IsIn qs place.0.path) (sym adds.paths)
+              (IsIn-map (λ (r : TableRoute). r.path) (filter (has_route part path) routes) place.0
+              (kept_from_passes (has_route part path) routes place.0 place.1 has)) in
+              let k = IsIn-unmap (path_of routes) adds.more place.0.path among in
+              let of = saying k.0 (about_each k.0 k.1) in
+              let same = same_Some of.tree u
+              (sym of.at ∙ ap (route_at c.root) (k.2 ∙ place.2.0) ∙ at) in
+              ap (λ (v : RouteTree). all_hold (label_set_of s.labels choice) (matchers_of v))
+              (sym same)
+              ∙ (of.says choice possible).0
+              (AllByRecursion-at (λ l. holds_at choice l ≡ true) adds.more k.0 (each.0 h) k.1),
+          λ m. each.1 (AllByRecursion-each (λ k. holds_at choice k ≡ true) adds.more (λ k there.
+              let of = saying k (about_each k there) in
+              (of.says choice possible).1 (m (path_of routes k) of.tree of.at of.stands))),
+        )
+
+-- ---- Literals of several parts.
+
+-- literals that are named, whose tags are positions in the table, and that say of a choice what its
+-- label set has
+pub record AreFront (s : Space) (routes : List TableRoute) (ks : List Candidate)
+    (Is : LabelMap → Type 0) : Type 0 where
+  pub say : AreSaying s ks Is
+  pub named : AreNamed ks
+  pub tagged : AllByRecursion (λ k. k.tag < length routes) ks
+
+all_and : {X : Type 0} (P : X → Type 0) (xs ys : List X) → AllByRecursion P xs
+    → AllByRecursion P ys → AllByRecursion P (xs ++ ys)
+all_and P [] ys all more = more
+all_and P (x ∷ xs) ys all more = (all.0, all_and P xs ys all.1 more)
+
+pub nothing_said : (s : Space) (routes : List TableRoute) → AreFront s routes [] (λ set. ⊤)
+nothing_said s routes =
+    record { say = λ choice possible. (λ h. tt, λ h. refl); named = tt; tagged = tt }
+
+pub more_said : (s : Space) (c : Configuration) (routes : List TableRoute)
+    (known : IsTableOf s.labels c routes) (path : List ℕ) (part : Part)
+    (old new : List Candidate) (adds : AddsPart routes part path routes old new)
+    (First Is : LabelMap → Type 0) → AreFront s routes old First
+    → ((set : LabelMap) → (First set × Meets set c.root path part) ↔ Is set)
+    → AreFront s routes new Is
+more_said s c routes known path part old new adds First Is front both =
+    let about = about_each s c routes known path part old new adds in
+    subst (λ (ks : List Candidate). AreFront s routes ks Is) (sym adds.adds) (record {
+      say = λ choice possible.
+          let set = label_set_of s.labels choice in
+          let one = front.say choice possible in
+          let other = part_said s c routes known path part old new adds choice possible in
+          let joined = list_all-append (holds_at choice) old adds.more in (
+            λ h.
+                let parts = and_parts (hold_all choice old) (hold_all choice adds.more)
+                (sym joined ∙ h) in
+                (both set).0 (one.0 parts.0, other.0 parts.1),
+            λ is.
+                let h = (both set).1 is in
+                joined ∙ and_from (hold_all choice old) (hold_all choice adds.more) (one.1 h.0)
+                (other.1 h.1),
+          );
+      named = all_and (λ k. IsTrue k.named) old adds.more front.named
+          (AllByRecursion-each (λ k. IsTrue k.named) adds.more (λ k there. (about k there).5));
+      tagged = all_and (λ k. k.tag < length routes) old adds.more front.tagged
+          (AllByRecursion-each (λ k. k.tag < length routes) adds.more (λ k there.
+          slice_get_within routes k.tag (about k there).0 (about k there).1));
+    })
+
+-- ---- What a search for a choice that meets them finds.
+
+module _ (s : Space) (routes : List TableRoute) (ks : List Candidate) (Is : LabelMap → Type 0)
+    (front : AreFront s routes ks Is) (found : Option (List ℕ))
+    (first : found ≡ find (λ d. meets d ks) (all_choices s)) where
+  pub seen : (choice : List ℕ) → found ≡ Some choice → IsSeenBy s.labels (IsSetOf s) Is choice
+  seen choice is =
+      let possible : IsChoiceOf s choice =
+      found_of_space s (λ d. meets d ks) (Some choice) (sym is ∙ first) in
+      let met = found_passes s (λ d. meets d ks) found choice first is in (
+        possible.0,
+        (choice, possible, refl),
+        (front.say choice possible).0 (sym (meets_all choice ks front.named) ∙ met),
+      )
+
+  pub none_seen : found ≡ None → NoneIs (IsSetOf s) Is
+  none_seen none set occurs is =
+      both_ways (meets occurs.0 ks)
+      (none_passes s (λ d. meets d ks) (sym none ∙ first) occurs.0 occurs.1)
+      (meets_all occurs.0 ks front.named
+      ∙ (front.say occurs.0 occurs.1).1 (subst Is occurs.2 is))
+
+pub none_met : (s : Space) (routes : List TableRoute) (ks : List Candidate)
+    (Is : LabelMap → Type 0) → AreFront s routes ks Is → NoneIs (IsSetOf s) Is
+    → IsAnyMet (IsChoiceOf s) ks → ⊥
+none_met s routes ks Is front none met =
+    none (label_set_of s.labels met.0) (met.0, met.1, refl) ((front.say met.0 met.1).0 met.2)

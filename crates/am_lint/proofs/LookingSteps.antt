@@ -1,9 +1,10 @@
 -- Routes that are looked at over a second space, one after another.
 use Rattle.std.proofs.Common.{◌≡◌, ◌<◌, ◌≤◌, ◌+◌, ℕ, zero, suc, List, [], ◌∷◌, length, take, set}
 use Rattle.std.proofs.Common.{Some, refl}
-use Rattle.std.proofs.Common.{◌∙◌, subst, slice_get, arith, add-one}
+use Rattle.std.proofs.Common.{◌∙◌, subst, slice_get}
 use Rattle.std.specs.List.{AllByRecursion, AllZip}
-use Rattle.std.proofs.lemmas.List.{take_all}
+use Rattle.std.proofs.lemmas.List.{take_all, take_more_set}
+use Rattle.am_universe.proofs.DistinctLists.{all_push}
 use Rattle.am_lint.specs.declared.found.FoundRoute.{FoundRoute}
 use Rattle.am_lint.specs.FoundView.{IsSameButEvery}
 
@@ -24,16 +25,10 @@ one_set (o ∷ old) (f ∷ found) zero before after same at is =
 one_set (o ∷ old) (f ∷ found) (suc i) before after same at is =
     (same.0, one_set old found i before after same.1 at is)
 
-looked_next : {X : Type 0} (P : X → Type 0) (xs : List X) (i : ℕ) (x : X) → i < length xs
-    → AllByRecursion P (take i xs) → P x → AllByRecursion P (take (suc i) (set xs i x))
-looked_next P [] i x lt before here = absurd (omega (arith, lt))
-looked_next P (y ∷ xs) zero x lt before here = (here, tt)
-looked_next P (y ∷ xs) (suc i) x lt before here =
-    (before.0, looked_next P xs i x (omega (arith, lt)) before.1 here)
-
 pub looked_more : {X : Type 0} (P : X → Type 0) (xs : List X) (i : ℕ) (x : X) → i < length xs
     → AllByRecursion P (take i xs) → P x → AllByRecursion P (take (i + 1) (set xs i x))
-looked_more P xs i x lt before here = rw add-one (looked_next P xs i x lt before here)
+looked_more P xs i x lt before here =
+    rw (take_more_set xs i x lt) (all_push P (take i xs) x before here)
 
 pub looked_all : {X : Type 0} (P : X → Type 0) (xs : List X) (i : ℕ) → length xs ≤ i
     → AllByRecursion P (take i xs) → AllByRecursion P xs

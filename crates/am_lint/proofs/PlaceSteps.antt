@@ -1,12 +1,10 @@
 -- How routes stand relative to each other, step by step.
-use Rattle.std.proofs.Common.{◌≡◌, ℕ, ◌+◌, ◌<◌, ◌≤◌, List, [], ◌∷◌, length, drop, get_or}
-use Rattle.std.proofs.Common.{true, false, ◌&&◌, nat_lt, refl, ap, arith}
+use Rattle.std.proofs.Common.{◌≡◌, ℕ, suc, ◌+◌, ◌<◌, ◌≤◌, List, [], ◌∷◌, ◌++◌, length, get_or}
+use Rattle.std.proofs.Common.{Bool, true, false, ◌&&◌, nat_lt, refl, ap, ◌∙◌, arith}
 use Rattle.std.specs.Prelude.{◌==◌}
 use Rattle.std.specs.List.{starts_with}
-use Rattle.std.proofs.lemmas.List.{drop_more, drop_all}
-use Rattle.std.proofs.lemmas.Bool.{and_right}
+use Rattle.std.proofs.lemmas.Bool.{and_right, lt-ltb}
 use Rattle.std.proofs.lemmas.Bool.Decides.{nat_tests}
-use borrow.Author.Tests.{ne_eqb}
 use Rattle.am_lint.specs.Places.{stands_before, is_child_of}
 
 -- ---- Children.
@@ -28,48 +26,56 @@ child_is_not [] (q ∷ r ∷ other) e = refl
 child_is_not (p ∷ path) (q ∷ other) e =
     and_right (p == q) (is_child_of path other) (child_is_not path other (λ same. e (omega arith)))
 
--- ---- Earlier siblings: the rest of both paths decides, as long as they are the same.
+-- ---- Earlier siblings: the last step decides, if the steps before it are the same.
 
-same_step : (p : ℕ) (path other : List ℕ)
+pub same_step : (p : ℕ) (path other : List ℕ)
     → stands_before (p ∷ path) (p ∷ other) ≡ stands_before path other
 same_step p path [] = grind (arith, nat_tests)
 same_step p path (r ∷ other) =
     let same : (p == p) ≡ true = grind (arith, nat_tests) in
     rw same refl
 
-pub stands_same : (path other : List ℕ) (i : ℕ) → i < length path → i < length other
-    → get_or path i 0 ≡ get_or other i 0
-    → stands_before (drop i path) (drop i other)
-    ≡ stands_before (drop (i + 1) path) (drop (i + 1) other)
-stands_same path other i l m e =
-    rw (drop_more path i 0 l, drop_more other i 0 m, e)
-    (same_step (get_or other i 0) (drop (i + 1) path) (drop (i + 1) other))
+-- one step more of both
+step : (p q : ℕ) (begins less : Bool) (n m : ℕ)
+    → (p == q && (nat_lt n m && (begins && less)))
+    ≡ (nat_lt (suc n) (suc m) && ((q == p && begins) && less))
+step p q begins less n m =
+    let more : nat_lt (suc n) (suc m) ≡ nat_lt n m = grind (arith, nat_tests) in
+    let same : (q == p) ≡ (p == q) = grind (arith, nat_tests) in
+    rw (more, same) (by (p == q) (nat_lt n m))
+  where
+    by : (e l : Bool) → (e && (l && (begins && less))) ≡ (l && ((e && begins) && less))
+    by true l = refl
+    by false true = refl
+    by false false = refl
 
-pub stands_last : (path other : List ℕ) (i : ℕ) → i < length path → i + 1 ≡ length other
-    → stands_before (drop i path) (drop i other) ≡ nat_lt (get_or other i 0) (get_or path i 0)
-stands_last path other i l e =
-    rw (
-      drop_more path i 0 l,
-      drop_more other i 0 (omega arith),
-      drop_all (i + 1) other (omega arith),
-    ) refl
+before_is : (path parent : List ℕ) (last : ℕ)
+    → stands_before path (parent ++ last ∷ [])
+    ≡ (nat_lt (length parent) (length path)
+    && (starts_with (λ p q. p == q) path parent && nat_lt last (get_or path (length parent) 0)))
+before_is [] [] last = grind (arith, nat_tests)
+before_is [] (q ∷ parent) last = grind (arith, nat_tests)
+before_is (p ∷ path) [] last =
+    let some : nat_lt 0 (suc (length path)) ≡ true = grind (arith, nat_tests) in rw some refl
+before_is (p ∷ path) (q ∷ []) last =
+    ap (λ b. p == q && b) (before_is path [] last)
+    ∙ step p q true (nat_lt last (get_or path 0 0)) 0 (length path)
+before_is (p ∷ path) (q ∷ r ∷ parent) last =
+    ap (λ b. p == q && b) (before_is path (r ∷ parent) last)
+    ∙ step p q (starts_with (λ p q. p == q) path (r ∷ parent))
+    (nat_lt last (get_or path (length (r ∷ parent)) 0)) (length (r ∷ parent)) (length path)
 
-pub stands_apart : (path other : List ℕ) (i : ℕ) → i < length path → i + 1 < length other
-    → (get_or path i 0 ≡ get_or other i 0 → ⊥)
-    → stands_before (drop i path) (drop i other) ≡ false
-stands_apart path other i l m e =
-    let ne : (get_or path i 0 == get_or other i 0) ≡ false = ne_eqb _ _ e in
-    rw (
-      drop_more path i 0 l,
-      drop_more other i 0 (omega arith),
-      drop_more other (i + 1) 0 m,
-      ne,
-    ) refl
+pub stands_where : (path other parent steps : List ℕ) (last : ℕ) (begins : Bool)
+    → other ≡ parent ++ last ∷ [] → steps ≡ path → length parent < length steps
+    → begins ≡ starts_with (λ p q. p == q) steps parent
+    → (begins && nat_lt last (get_or steps (length parent) 0)) ≡ stands_before path other
+stands_where path other parent steps last begins is same within starts =
+    let some = lt-ltb (length parent) (length steps) within in
+    rw (← same, is, before_is steps parent last, some, starts) refl
 
-pub stands_below : (path other : List ℕ) (i : ℕ) → length path ≤ i → i < length other
-    → stands_before (drop i path) (drop i other) ≡ false
-stands_below path other i l m = rw (drop_all i path l, drop_more other i 0 m) refl
-
-pub stands_on_way : (path other : List ℕ) (i : ℕ) → length other ≤ i
-    → stands_before (drop i path) (drop i other) ≡ false
-stands_on_way path other i m = rw (drop_all i other m) refl
+pub stands_nowhere : (path other parent steps : List ℕ) (last : ℕ)
+    → other ≡ parent ++ last ∷ [] → steps ≡ path → length steps ≤ length parent
+    → false ≡ stands_before path other
+stands_nowhere path other parent steps last is same past =
+    let none : nat_lt (length parent) (length steps) ≡ false = grind (arith, nat_tests) in
+    rw (← same, is, before_is steps parent last, none) refl

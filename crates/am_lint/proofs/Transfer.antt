@@ -1,7 +1,7 @@
 -- What is true of the label sets of a complete space is true of all its alerts.
-use Rattle.std.proofs.Common.{◌≡◌, ◌↔◌, ℕ, zero, suc, List, [], ◌∷◌, Contains, Some, refl, sym}
+use Rattle.std.proofs.Common.{◌≡◌, ℕ, zero, suc, List, [], ◌∷◌, Contains, Some, refl, sym}
 use Rattle.std.proofs.Common.{subst, ◌∙◌}
-use Rattle.std.specs.Prelude.{IsTrue, slice_get}
+use Rattle.std.specs.Prelude.{IsTrue, slice_get, ⊤}
 use Rattle.std.proofs.lemmas.Option.{option_and_then_some, same_Some}
 use Rattle.am_universe.specs.Universe.{Label, IsUniverse}
 use Rattle.am_universe.specs.LabelSet.{LabelMap, label_set_of}
@@ -20,14 +20,13 @@ use Rattle.am_every_alert.specs.Deciding.{coverage_conditions}
 use Rattle.am_every_alert.proofs.UniverseAlerts.{universe_alert}
 use Rattle.am_every_alert.proofs.SpaceAlerts.{space_choice}
 use Rattle.am_every_alert.proofs.SameFate.{front_met, rest_met, all_alike, same_ends}
-use Rattle.am_every_alert.proofs.SameFate.{same_receivers, same_possible}
+use Rattle.am_every_alert.proofs.SameFate.{same_possible}
 use Rattle.am_lint.specs.declared.standing.Cause.{Cause}
 use Rattle.am_lint.specs.declared.standing.Cause.TheVariants as cause_is
 use Rattle.am_lint.specs.declared.standing.Standing.{Standing}
 use Rattle.am_lint.specs.declared.standing.Standing.TheVariants as standing_is
-use Rattle.am_lint.specs.Reaching.{IsSetOf, EndsAt, Enters, GoesTo, SomeIs, NoneIs}
-use Rattle.am_lint.specs.Reasons.{MatchesEach, MatchesEachBut, MatchesNone, MatchesNoneBut}
-use Rattle.am_lint.specs.Reasons.{MatchesWay, IsExcludedBy, IsTakenBy, IsHandedTo}
+use Rattle.am_lint.specs.Reaching.{IsSetOf, EndsAt, Enters, SomeIs, NoneIs}
+use Rattle.am_lint.specs.Reasons.{IsReasonWhy, Matches, Misses, MatchesWay, IsHandedTo}
 use Rattle.am_lint.specs.Standing.{IsSeenBy, IsReasonFor, IsStanding}
 
 -- ---- What meets the same of the matchers of all routes.
@@ -73,70 +72,30 @@ module _ (c : Configuration) where
   abbrev pub MeetsRoutes : LabelMap → LabelMap → Type 0
   MeetsRoutes s t = MeetsTheSame (route_conditions c.root) s t
 
-  pub turned : (s t : LabelMap) → MeetsRoutes s t → MeetsRoutes t s
+  turned : (s t : LabelMap) → MeetsRoutes s t → MeetsRoutes t s
   turned s t = meets_turned (route_conditions c.root) s t
 
-  pub matches_told : (q : List ℕ) → IsToldByRoutes c (λ set. MatchesAt set c q)
+  matches_told : (q : List ℕ) → IsToldByRoutes c (λ set. MatchesAt set c q)
   matches_told q s t met h =
       (h.0, h.1, sym (own_met s t h.0 (met_at s t c.root q h.0 met h.1)) ∙ h.2)
 
-  pub ends_told : (path : List ℕ) → IsToldByRoutes c (EndsAt c path)
+  misses_told : (q : List ℕ) → IsToldByRoutes c (λ set. MatchesAt set c q → ⊥)
+  misses_told q s t met h matched = h (matches_told q t s (turned s t met) matched)
+
+  ends_told : (path : List ℕ) → IsToldByRoutes c (EndsAt c path)
   ends_told path s t met h = subst (λ paths. Contains paths path) (same_ends s t c met) h
 
-  pub enters_told : (path : List ℕ) → IsToldByRoutes c (Enters c path)
+  enters_told : (path : List ℕ) → IsToldByRoutes c (Enters c path)
   enters_told path s t met h =
       (h.0, subst (λ paths. Contains paths h.0) (same_ends s t c met) h.1, h.2)
 
-  pub goes_told : (receiver : ℕ) → IsToldByRoutes c (GoesTo c receiver)
-  goes_told receiver s t met h =
-      subst (λ found. Contains found receiver) (same_receivers s t c met) h
-
-  pub each_told : (routes : List (List ℕ)) → IsToldByRoutes c (MatchesEach c routes)
-  each_told routes s t met h q there = matches_told q s t met (h q there)
-
-  pub way_told : (path : List ℕ) → IsToldByRoutes c (MatchesWay c path)
+  way_told : (path : List ℕ) → IsToldByRoutes c (MatchesWay c path)
   way_told path s t met h q leads = matches_told q s t met (h q leads)
 
-  pub none_told : (routes : List (List ℕ)) → IsToldByRoutes c (MatchesNone c routes)
-  none_told routes s t met h q there matched =
-      h q there (matches_told q t s (turned s t met) matched)
-
-  -- so either both label sets have the property, or neither has it
-  pub told_exactly : (Is : LabelMap → Type 0) → IsToldByRoutes c Is → (s t : LabelMap)
-      → MeetsRoutes s t → Is s ↔ Is t
-  told_exactly Is told s t met = (told s t met, told t s (turned s t met))
-
-  pub same_matches : (q : List ℕ) (s t : LabelMap) → MeetsRoutes s t
-      → MatchesAt s c q ↔ MatchesAt t c q
-  same_matches q = told_exactly (λ set. MatchesAt set c q) (matches_told q)
-
-  pub same_end : (path : List ℕ) (s t : LabelMap) → MeetsRoutes s t
-      → EndsAt c path s ↔ EndsAt c path t
-  same_end path = told_exactly (EndsAt c path) (ends_told path)
-
-  pub same_entry : (path : List ℕ) (s t : LabelMap) → MeetsRoutes s t
-      → Enters c path s ↔ Enters c path t
-  same_entry path = told_exactly (Enters c path) (enters_told path)
-
-  pub same_receipt : (receiver : ℕ) (s t : LabelMap) → MeetsRoutes s t
-      → GoesTo c receiver s ↔ GoesTo c receiver t
-  same_receipt receiver = told_exactly (GoesTo c receiver) (goes_told receiver)
-
--- ---- Alerts of a space with the same impossible lists.
+-- ---- A space that stands for its alerts.
 
 abbrev IsAlertBut : Alphabet → List (List Condition) → LabelMap → Type 0
 IsAlertBut a lists set = IsAlert a set × IsTrue (is_possible lists set)
-
-pub as_alerts_of : (a : Alphabet) (s t : Space) (So : (LabelMap → Type 0) → Type 0)
-    → s.impossible ≡ t.impossible → So (IsAlertOf a s) → So (IsAlertOf a t)
-as_alerts_of a s t So same h = subst (λ lists. So (IsAlertBut a lists)) same h
-
-pub same_alerts : (a : Alphabet) (s t : Space) (set : LabelMap) → s.impossible ≡ t.impossible
-    → IsAlertOf a s set → IsAlertOf a t set
-same_alerts a s t set same is =
-    (is.0, subst (λ lists. IsTrue (is_possible lists set)) same is.1)
-
--- ---- A space that stands for its alerts.
 
 -- the space is complete for the routes and what is impossible, and its texts are over the alphabet
 pub record StandsForAlerts (a : Alphabet) (s : Space) (c : Configuration) : Type 0 where
@@ -172,42 +131,32 @@ module _ (a : Alphabet) (s : Space) (c : Configuration) (h : StandsForAlerts a s
 
   -- ---- Reasons.
 
-  pub excluded_over : (path : List ℕ) (routes : List (List ℕ))
-      → IsExcludedBy (IsSetOf s) c path routes → IsExcludedBy (IsAlertOf a s) c path routes
-  excluded_over path routes by = record {
-    on_way = by.on_way;
-    enough = none_over (MatchesEach c routes) (each_told c routes) by.enough;
-    needed = λ q there. some_over (MatchesEachBut c routes q) (by.needed q there);
-  }
-
-  pub taken_over : (path : List ℕ) (siblings : List (List ℕ))
-      → IsTakenBy (IsSetOf s) c path siblings → IsTakenBy (IsAlertOf a s) c path siblings
-  taken_over path siblings by = record {
-    some = by.some;
-    before = by.before;
-    enough = none_over (λ set. MatchesWay c path set × MatchesNone c siblings set)
-        (λ x y met so. (way_told c path x y met so.0, none_told c siblings x y met so.1))
-        by.enough;
-    needed = λ q there. some_over
-        (λ set. MatchesWay c path set × MatchesNoneBut c siblings q set) (by.needed q there);
+  why_over : (IsOfKind : List ℕ → Type 0) (First : LabelMap → Type 0)
+      (Does : List ℕ → LabelMap → Type 0) (routes : List (List ℕ)) → IsToldByRoutes c First
+      → ((q : List ℕ) → IsToldByRoutes c (Does q))
+      → IsReasonWhy (IsSetOf s) IsOfKind First Does routes
+      → IsReasonWhy (IsAlertOf a s) IsOfKind First Does routes
+  why_over IsOfKind First Does routes first does by = record {
+    kind = by.kind;
+    enough = none_over (λ set. First set × ((q : List ℕ) → Contains routes q → Does q set))
+        (λ x y met so. (first x y met so.0, λ q there. does q x y met (so.1 q there))) by.enough;
+    needed = λ q there. some_over _ (by.needed q there);
   }
 
   pub handed_over : (path : List ℕ) (children : List (List ℕ))
       → IsHandedTo (IsSetOf s) c path children → IsHandedTo (IsAlertOf a s) c path children
-  handed_over path children by = record {
-    below = by.below;
-    enough = none_over (λ set. Enters c path set × MatchesNone c children set)
-        (λ x y met so. (enters_told c path x y met so.0, none_told c children x y met so.1))
-        by.enough;
-    needed = λ q there. some_over
-        (λ set. Enters c path set × MatchesNoneBut c children q set) (by.needed q there);
-  }
+  handed_over path children by =
+      why_over _ (Enters c path) (Misses c) children (enters_told c path) (misses_told c) by
 
   pub reason_over : (path : List ℕ) (cause : Cause) (routes : List (List ℕ))
       → IsReasonFor (IsSetOf s) c path cause routes
       → IsReasonFor (IsAlertOf a s) c path cause routes
-  reason_over path cause_is.Excluded routes by = excluded_over path routes by
-  reason_over path cause_is.Taken routes by = taken_over path routes by
+  reason_over path cause_is.Excluded routes by =
+      why_over _ (λ set. ⊤) (Matches c) routes (λ x y met so. so) (matches_told c) by
+  reason_over path cause_is.Taken routes by = (
+    by.0,
+    why_over _ (MatchesWay c path) (Misses c) routes (way_told c path) (misses_told c) by.1,
+  )
 
   -- ---- How a route stands.
 
@@ -234,5 +183,5 @@ module _ (a : Alphabet) (s : Space) (c : Configuration) (h : StandsForAlerts a s
       → (standing : Standing) → IsStanding s.labels (IsSetOf s) c path standing
       → IsStanding s.labels (IsAlertOf a t) c path standing
   standing_over_as t same path standing so =
-      as_alerts_of a s t (λ Occurs. IsStanding s.labels Occurs c path standing) (sym same)
+      subst (λ lists. IsStanding s.labels (IsAlertBut a lists) c path standing) (sym same)
       (standing_over path standing so)

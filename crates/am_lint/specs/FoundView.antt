@@ -2,7 +2,9 @@
 use Rattle.std.specs.Prelude.{◌≡◌, ◌<◌, ℕ, List, Option, Some, None, Bool, true, false, ⊤, length}
 use Rattle.std.specs.Prelude.{◌&&◌, ◌==◌, if◌then◌else◌}
 use Rattle.std.specs.List.{list_any}
+use Rattle.am_universe.specs.Universe.{Label}
 use Rattle.am_universe.specs.Choice.{IsWhole}
+use Rattle.am_universe.specs.LabelSet.{LabelMap}
 use Rattle.am_labels.specs.Space.{Space}
 use Rattle.am_config.specs.ConfigFile.{Configuration, RouteTree, receiver_of}
 use Rattle.am_lint.specs.declared.standing.Standing.{Standing}
@@ -60,15 +62,16 @@ IsFoundIn s c route found =
     (found.path ≡ route.0) × (found.receiver ≡ receiver_of route.1)
     × IsStanding s.labels (IsSetOf s) c route.0 found.ordinary
 
--- How a route stands over a second space is known if no label set of the first space ends there.
+-- How a route stands over the label sets that occur is known if no label set of another space ends
+-- there: so over a second space.
+abbrev pub IsKnown :
+    List Label → (LabelMap → Type 0) → Configuration → List ℕ → Option Standing → Type 0
+IsKnown u Occurs c path None = ⊥
+IsKnown u Occurs c path (Some standing) = IsStanding u Occurs c path standing
+
 abbrev pub IsLookedAt : Space → Configuration → List ℕ → Standing → Option Standing → Type 0
-IsLookedAt s c path (standing_is.Ends choice) every = ⊤
-IsLookedAt s c path (standing_is.HandsOn entry children) None = ⊥
-IsLookedAt s c path (standing_is.HandsOn entry children) (Some standing) =
-    IsStanding s.labels (IsSetOf s) c path standing
-IsLookedAt s c path (standing_is.NeverEntered reason) None = ⊥
-IsLookedAt s c path (standing_is.NeverEntered reason) (Some standing) =
-    IsStanding s.labels (IsSetOf s) c path standing
+IsLookedAt s c path ordinary every =
+    is_end ordinary ≡ false → IsKnown s.labels (IsSetOf s) c path every
 
 -- What was found of a route is the same, except for how the route stands over the second space.
 abbrev pub IsSameButEvery : FoundRoute → FoundRoute → Type 0

@@ -3,7 +3,6 @@ pub mod Reaching
 pub mod Reasons
 pub mod Table
 pub mod Literals
-pub mod Parts
 pub mod Standing
 pub mod Findings
 pub mod FoundView

@@ -3,7 +3,6 @@ use Rattle.std.specs.Prelude.{ℕ, List}
 use Rattle.am_universe.specs.Universe.{Label, sizes}
 use Rattle.am_universe.specs.Choice.{IsWhole}
 use Rattle.am_universe.specs.LabelSet.{LabelMap, label_set_of}
-use Rattle.am_labels.specs.Space.{Space, IsChoiceOf}
 use Rattle.am_config.specs.ConfigFile.{Configuration}
 use Rattle.am_lint.specs.declared.standing.Cause.{Cause}
 use Rattle.am_lint.specs.declared.standing.Cause.TheVariants as cause_is
@@ -12,11 +11,7 @@ use Rattle.am_lint.specs.declared.standing.Standing.TheVariants as standing_is
 use Rattle.am_lint.specs.Reaching.{EndsAt, Enters, NoneIs}
 use Rattle.am_lint.specs.Reasons.{IsExcludedBy, IsTakenBy, IsHandedTo}
 
--- A choice of a space, and its label set has a property.
-abbrev pub IsShownBy : Space → (LabelMap → Type 0) → List ℕ → Type 0
-IsShownBy s Is choice = IsChoiceOf s choice × Is (label_set_of s.labels choice)
-
--- The same for a whole choice of some labels: its label set occurs and has a property.
+-- A whole choice of some labels: its label set occurs and has a property.
 abbrev pub IsSeenBy :
     List Label → (LabelMap → Type 0) → (LabelMap → Type 0) → List ℕ → Type 0
 IsSeenBy u Occurs Is choice =

@@ -1,13 +1,13 @@
 //! What an alert must meet to enter a route or to end there, as literals that name routes.
 
-ghost use Rattle.std.specs.Prelude.{◌≡◌, OnOk};
-ghost use Rattle.am_lint.specs.Literals.{stands_in, is_wanted, AddsPart};
+ghost use Rattle.std.specs.Prelude.{◌≡◌, IfOk, OnOk};
+ghost use Rattle.am_lint.specs.Literals.{stands_in, is_wanted, AddsPart, AreLiterals};
 
 use crate::places::{is_child_of, stands_before};
 use crate::table::{Table, TableRoute};
 use am_config::Path;
 use am_first_sets::Candidate;
-use std::alloc::AllocError;
+use std::alloc::{AllocError, Global};
 
 /// A part of the literals for a route, by the routes that they name.
 #[derive(Clone, Copy)]
@@ -41,15 +41,47 @@ impl Part {
     }
 }
 
+/// The literals for a route, one part after another.
+#[derive(Drop)]
+pub(crate) struct Literals<'t> {
+    pub all: Vec<Candidate<'t>>,
+    /// How many an alert meets that matches the way to the route.
+    pub on_way: usize,
+    /// How many an alert meets that enters the route.
+    pub to_enter: usize,
+}
+
+/// Returns the literals for the route at a path. An alert ends there exactly if it meets all of
+/// them. Fails only if memory runs out.
+pub(crate) fn literals_of<'t>(
+    alloc: Global,
+    table: &'t Table<'_>,
+    path: &Path,
+) -> Result<Literals<'t>, AllocError>
+    ensures { IfOk result (AreLiterals table.now.routes.items path.now) }
+{
+    let mut all = Vec::new(alloc);
+    add_part(table, Part::Way, path, &mut all)?;
+    let on_way = all.len();
+    add_part(table, Part::Before, path, &mut all)?;
+    let to_enter = all.len();
+    add_part(table, Part::Children, path, &mut all)?;
+    Ok(Literals {
+        all,
+        on_way,
+        to_enter,
+    })
+}
+
 /// Adds the literals of a part for the route at a path. All that are added are named, and the tag
 /// of each is the position of its route in the table. Fails only if memory runs out.
-pub(crate) fn add_part<'t>(
+fn add_part<'t>(
     table: &'t Table<'_>,
     part: Part,
     path: &Path,
     literals: &mut Vec<Candidate<'t>>,
 ) -> Result<(), AllocError>
-    ensures { OnOk result (AddsPart table.now.routes.items part path.now
+    ensures { OnOk result (AddsPart table.now.routes.items part path.now table.now.routes.items
         literals.old.items literals.new.items) }
 {
     for (i, route) in table.routes.iter().enumerate() {

@@ -10,21 +10,14 @@ use am_config::Path;
 pub(crate) fn stands_before(path: &Path, other: &Path) -> bool
     ensures { result ≡ stands_before path.now other.now }
 {
-    steps_stand_before(path.steps(), other.steps())
-}
-
-fn steps_stand_before(path: &[u16], other: &[u16]) -> bool
-    ensures { result ≡ stands_before path.now other.now }
-{
-    for i in 0..other.len() {
-        if i >= path.len() {
-            return false;
-        }
-        if path[i] != other[i] {
-            return i + 1 == other.len() && other[i] < path[i];
-        }
+    let steps = path.steps();
+    let Some((last, parent)) = other.steps().split_last() else {
+        return false;
+    };
+    if steps.len() <= parent.len() {
+        return false;
     }
-    false
+    steps.starts_with(parent) && *last < steps[parent.len()]
 }
 
 /// Whether the route at `other` is a child of the route at `path`.

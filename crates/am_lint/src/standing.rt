@@ -11,22 +11,17 @@
 //! the siblings are, or the way itself if no label set matches that. `find_reason` names which of
 //! them.
 
-ghost use Rattle.std.specs.Prelude.{◌≡◌, ◌≤◌, ◌∷◌, ◌++◌, [], List, length, drop, IfOk, IfSome};
-ghost use Rattle.std.specs.Prelude.{IfNone};
+ghost use Rattle.std.specs.Prelude.{◌≡◌, ◌≤◌, List, length, drop, IfOk};
 ghost use Rattle.am_labels.specs.Space.{IsChoiceOf};
 ghost use Rattle.am_first_sets.specs.declared.candidate.Candidate.{Candidate};
 ghost use Rattle.am_first_sets.specs.Literals.{IsAnyMet};
 ghost use Rattle.am_first_sets.specs.Reason.{AreSameLiterals, IsReason};
-ghost use Rattle.am_lint.specs.declared.literals.Part.{Part};
-ghost use Rattle.am_lint.specs.declared.literals.Part.TheVariants as parts;
 ghost use Rattle.am_lint.specs.Table.{KnowsRoutes, table_space, table_config, IsRoute};
-ghost use Rattle.am_lint.specs.Literals.{AreLiterals, named_paths, AreTagged};
-ghost use Rattle.am_lint.specs.Parts.{MeetsParts, IsReasonOfParts};
-ghost use Rattle.am_lint.specs.Reaching.{IsSetOf, EndsAt, Enters, SomeIs, NoneIs};
-ghost use Rattle.am_lint.specs.Reasons.{MatchesWay, IsExcludedBy, IsTakenBy, IsHandedTo};
-ghost use Rattle.am_lint.specs.Standing.{IsStanding, IsReasonFor, IsShownBy};
+ghost use Rattle.am_lint.specs.Literals.{named_paths, AreTagged};
+ghost use Rattle.am_lint.specs.Reaching.{IsSetOf};
+ghost use Rattle.am_lint.specs.Standing.{IsStanding};
 
-use crate::literals::{Part, add_part};
+use crate::literals::literals_of;
 use crate::table::Table;
 use am_config::Path;
 use am_first_sets::{Candidate, find_reason, first_meeting};
@@ -75,148 +70,26 @@ pub(crate) fn standing_of(
     ensures standing { IfOk result (IsStanding (table_space table.now).labels
         (IsSetOf (table_space table.now)) (table_config table.now) path.now) }
 {
-    if let Some(choice) = first_ending(alloc, table, path)? {
+    let mut literals = literals_of(alloc, table, path)?;
+    let (on_way, to_enter) = (literals.on_way, literals.to_enter);
+    let all = literals.all.as_mut_slice();
+    if let Some(choice) = first_meeting(alloc, &table.possible, all)? {
         return Ok(Standing::Ends(choice));
     }
-    if let Some(entry) = first_entering(alloc, table, path)? {
-        let children = why_handed_on(alloc, table, path)?;
+    if let Some(entry) = first_meeting(alloc, &table.possible, &all[..to_enter])? {
+        let children = named_by_reason(alloc, table, all, to_enter)?;
         return Ok(Standing::HandsOn { entry, children });
     }
-    Ok(Standing::NeverEntered(why_never_entered(alloc, table, path)?))
-}
-
-/// Returns a choice whose label set ends at the route at a path, if there is one.
-fn first_ending(alloc: Global, table: &Table<'_>, path: &Path) -> Result<Option<Choice>, AllocError>
-    requires knows { KnowsRoutes table.now }
-    requires there { IsRoute (table_config table.now) path.now }
-    ensures some { IfOk result (λ found. IfSome found
-        (IsShownBy (table_space table.now) (EndsAt (table_config table.now) path.now))) }
-    ensures none { IfOk result (λ found. IfNone found
-        (NoneIs (IsSetOf (table_space table.now)) (EndsAt (table_config table.now) path.now))) }
-{
-    let mut literals = literals_to_enter(alloc, table, path)?;
-    add_part(table, Part::Children, path, &mut literals)?;
-    first_meeting(alloc, &table.possible, literals.as_slice())
-}
-
-/// Returns a choice whose label set enters the route at a path, if there is one.
-fn first_entering(
-    alloc: Global,
-    table: &Table<'_>,
-    path: &Path,
-) -> Result<Option<Choice>, AllocError>
-    requires knows { KnowsRoutes table.now }
-    requires there { IsRoute (table_config table.now) path.now }
-    ensures some { IfOk result (λ found. IfSome found
-        (IsShownBy (table_space table.now) (Enters (table_config table.now) path.now))) }
-    ensures none { IfOk result (λ found. IfNone found
-        (NoneIs (IsSetOf (table_space table.now)) (Enters (table_config table.now) path.now))) }
-{
-    let literals = literals_to_enter(alloc, table, path)?;
-    first_meeting(alloc, &table.possible, literals.as_slice())
-}
-
-/// Returns a choice whose label set matches the way to the route at a path, if there is one.
-fn first_on_way(alloc: Global, table: &Table<'_>, path: &Path) -> Result<Option<Choice>, AllocError>
-    requires knows { KnowsRoutes table.now }
-    requires there { IsRoute (table_config table.now) path.now }
-    ensures some { IfOk result (λ found. IfSome found
-        (IsShownBy (table_space table.now) (MatchesWay (table_config table.now) path.now))) }
-    ensures none { IfOk result (λ found. IfNone found (NoneIs (IsSetOf (table_space table.now))
-        (MatchesWay (table_config table.now) path.now))) }
-{
-    let literals = literals_of_way(alloc, table, path)?;
-    first_meeting(alloc, &table.possible, literals.as_slice())
-}
-
-/// Finds which children take all label sets that enter the route at a path. There must be no label
-/// set that ends there.
-fn why_handed_on(alloc: Global, table: &Table<'_>, path: &Path) -> Result<Vec<Path>, AllocError>
-    requires knows { KnowsRoutes table.now }
-    requires there { IsRoute (table_config table.now) path.now }
-    requires none { NoneIs (IsSetOf (table_space table.now))
-        (EndsAt (table_config table.now) path.now) }
-    ensures handed { IfOk result (λ children. IsHandedTo (IsSetOf (table_space table.now))
-        (table_config table.now) path.now children.items) }
-{
-    let literals = literals_to_enter(alloc, table, path)?;
-    reason_of(alloc, table, path, literals, Part::Children)
-}
-
-/// Finds why no label set enters the route at a path. There must be none that does.
-fn why_never_entered(alloc: Global, table: &Table<'_>, path: &Path) -> Result<Reason, AllocError>
-    requires knows { KnowsRoutes table.now }
-    requires there { IsRoute (table_config table.now) path.now }
-    requires none { NoneIs (IsSetOf (table_space table.now))
-        (Enters (table_config table.now) path.now) }
-    ensures reason { IfOk result (λ reason. IsReasonFor (IsSetOf (table_space table.now))
-        (table_config table.now) path.now reason.cause reason.routes.items) }
-{
-    let shown = first_on_way(alloc, table, path)?;
-    match shown {
-        Some(_) => Ok(Reason {
+    match first_meeting(alloc, &table.possible, &all[..on_way])? {
+        Some(_) => Ok(Standing::NeverEntered(Reason {
             cause: Cause::Taken,
-            routes: why_taken(alloc, table, path)?,
-        }),
-        None => Ok(Reason {
+            routes: named_by_reason(alloc, table, &mut all[..to_enter], on_way)?,
+        })),
+        None => Ok(Standing::NeverEntered(Reason {
             cause: Cause::Excluded,
-            routes: why_excluded(alloc, table, path)?,
-        }),
+            routes: named_by_reason(alloc, table, &mut all[..on_way], 0)?,
+        })),
     }
-}
-
-/// Finds which siblings take all label sets that match the way to the route at a path. Some label
-/// set must match the way, and none may enter the route.
-fn why_taken(alloc: Global, table: &Table<'_>, path: &Path) -> Result<Vec<Path>, AllocError>
-    requires knows { KnowsRoutes table.now }
-    requires there { IsRoute (table_config table.now) path.now }
-    requires none { NoneIs (IsSetOf (table_space table.now))
-        (Enters (table_config table.now) path.now) }
-    requires some { SomeIs (IsSetOf (table_space table.now))
-        (MatchesWay (table_config table.now) path.now) }
-    ensures taken { IfOk result (λ siblings. IsTakenBy (IsSetOf (table_space table.now))
-        (table_config table.now) path.now siblings.items) }
-{
-    let literals = literals_of_way(alloc, table, path)?;
-    reason_of(alloc, table, path, literals, Part::Before)
-}
-
-/// Finds which routes on the way to the route at a path exclude each other. There must be no label
-/// set that matches all routes on the way.
-fn why_excluded(alloc: Global, table: &Table<'_>, path: &Path) -> Result<Vec<Path>, AllocError>
-    requires knows { KnowsRoutes table.now }
-    requires there { IsRoute (table_config table.now) path.now }
-    requires none { NoneIs (IsSetOf (table_space table.now))
-        (MatchesWay (table_config table.now) path.now) }
-    ensures excluded { IfOk result (λ routes. IsExcludedBy (IsSetOf (table_space table.now))
-        (table_config table.now) path.now routes.items) }
-{
-    reason_of(alloc, table, path, Vec::new(alloc), Part::Way)
-}
-
-/// Finds the routes of a part that are to blame, in preorder. There must be no label set that meets
-/// the given literals and those of the part.
-fn reason_of<'t>(
-    alloc: Global,
-    table: &'t Table<'_>,
-    path: &Path,
-    literals: Vec<Candidate<'t>>,
-    part: Part,
-) -> Result<Vec<Path>, AllocError>
-    requires knows { KnowsRoutes table.now }
-    requires none { (ps : List Part)
-        × AreLiterals table.now.routes.items ps path.now literals.items
-        × NoneIs (IsSetOf (table_space table.now))
-        (MeetsParts (table_config table.now) (ps ++ part ∷ []) path.now) }
-    ensures reason { IfOk result (λ routes. (ps : List Part)
-        → AreLiterals table.now.routes.items ps path.now literals.entry.items
-        → IsReasonOfParts (IsSetOf (table_space table.now)) (table_config table.now) ps part
-        path.now routes.items) }
-{
-    let mut literals = literals;
-    let fixed = literals.len();
-    add_part(table, part, path, &mut literals)?;
-    named_by_reason(alloc, table, &mut literals, fixed)
 }
 
 /// Finds why no label set meets all literals, and returns the paths of the routes that are to
@@ -237,34 +110,6 @@ fn named_by_reason(
 {
     find_reason(alloc, table.possible.choices(), literals, fixed)?;
     named_routes(alloc, table, &literals[fixed..])
-}
-
-/// Returns the literals that a label set meets if it matches the way to the route at a path.
-fn literals_of_way<'t>(
-    alloc: Global,
-    table: &'t Table<'_>,
-    path: &Path,
-) -> Result<Vec<Candidate<'t>>, AllocError>
-    ensures literals { IfOk result (λ literals.
-        AreLiterals table.now.routes.items (parts.Way ∷ []) path.now literals.items) }
-{
-    let mut literals = Vec::new(alloc);
-    add_part(table, Part::Way, path, &mut literals)?;
-    Ok(literals)
-}
-
-/// Returns the literals that a label set meets if it enters the route at a path.
-fn literals_to_enter<'t>(
-    alloc: Global,
-    table: &'t Table<'_>,
-    path: &Path,
-) -> Result<Vec<Candidate<'t>>, AllocError>
-    ensures literals { IfOk result (λ literals. AreLiterals table.now.routes.items
-        (parts.Way ∷ parts.Before ∷ []) path.now literals.items) }
-{
-    let mut literals = literals_of_way(alloc, table, path)?;
-    add_part(table, Part::Before, path, &mut literals)?;
-    Ok(literals)
 }
 
 /// Returns the paths of the routes whose literals are named.

@@ -14,7 +14,7 @@ use Rattle.am_config.proofs.RouteLists.{listed_at, each_at}
 use Rattle.am_complete.proofs.Pushed.{one_longer}
 use Rattle.am_lint.specs.declared.found.FoundRoute.{FoundRoute}
 use Rattle.am_lint.specs.FoundView.{IsFoundIn}
-use Rattle.am_lint.proofs.TableLemmas.{zip_push}
+use Rattle.std.proofs.lemmas.Slice.Zip.{all_zipped_more}
 use Rattle.am_lint.proofs.finding.found_routes.Goals as goal
 use Rattle.am_lint.proofs.finding.found_routes.Goals.{After-index-in-loop-i}
 
@@ -68,8 +68,8 @@ loop-i-preserved c =
           (subst (λ (rs : List (List ℕ × RouteTree)).
           AllZip (IsFoundIn s config) rs (c.loop-i.found.items ++ found ∷ []))
           (one_longer all c.loop-i.i (path, t) there)
-          (zip_push (IsFoundIn s config) (take c.loop-i.i all) c.loop-i.found.items (path, t) found
-          c.loop-i.invariant.found is));
+          (all_zipped_more (IsFoundIn s config) (take c.loop-i.i all) c.loop-i.found.items (path, t)
+          found c.loop-i.invariant.found is));
       once = subst (AllByRecursion (λ (r : FoundRoute). r.every ≡ None))
           (sym c.in_ok-push.ensures.items)
           (all_push (λ (r : FoundRoute). r.every ≡ None) c.loop-i.found.items found

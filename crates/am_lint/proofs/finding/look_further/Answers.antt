@@ -25,10 +25,11 @@ look_further_at-requires c =
     let within : i < length found = omega (arith, c.loop-i-test.true, c.loop-i.auto.found) in
     let at : slice_get found i ≡ Some route =
     slice_get_read found (length found) i route refl within c.index-found-i.is in
-    let r = zip_right IsSameButEvery c.args.found.now found i route c.loop-i.invariant.same at in
+    let r = zip_right IsSameButEvery c.args.found.now found route c.loop-i.invariant.same
+    (in_at found i route at) in
     let there : IsRoute config r.0.path =
     AllByRecursion-at (λ (x : FoundRoute). IsRoute config x.path) c.args.found.now r.0
-    c.requires.routes (in_at c.args.found.now i r.0 r.1) in
+    c.requires.routes r.1 in
     let same : config ≡ table_config c.in_ok-table.table = sym c.in_ok-table.ensures.config in
     record {
       knows = c.in_ok-table.ensures.knows;

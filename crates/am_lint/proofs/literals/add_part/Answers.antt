@@ -1,8 +1,10 @@
 -- The next route is one of the part, or it is not.
-use Rattle.std.proofs.Common.{◌≡◌, List, length, Some, refl, sym, ap, ◌∙◌, slice_get, arith}
+use Rattle.std.proofs.Common.{◌≡◌, List, length, Some, refl, sym, ap, ◌∙◌, slice_get, subst, arith}
+use Rattle.std.proofs.lemmas.List.{take_all}
 use Rattle.std.proofs.lemmas.Option.{slice_get_read}
 use Rattle.am_lint.specs.declared.table.TableRoute.{TableRoute}
-use Rattle.am_lint.proofs.LiteralLemmas.{nothing_yet, one_passed, one_taken, all_added}
+use Rattle.am_lint.specs.Literals.{AddsPart}
+use Rattle.am_lint.proofs.LiteralLemmas.{nothing_yet, one_passed, one_taken}
 use Rattle.am_lint.proofs.literals.add_part.Goals as goal
 use Rattle.am_lint.proofs.literals.add_part.Goals.{then-has+in_ok-push, else-has}
 
@@ -36,8 +38,9 @@ loop-i-preserved c =
 
 pub returns : goal.returns
 returns c =
+    let routes = c.args.table.now.routes.items in
     let past = c.loop-i-test.false in
     let same = ap length c.deref-route-items.ensures.value in
-    all_added c.args.table.now.routes.items c.args.part c.args.path.now c.loop-i.i
-    c.args.literals.now.items c.loop-i.literals.items c.loop-i.invariant
-    (omega (arith, past, same))
+    subst (λ (seen : List TableRoute). AddsPart routes c.args.part c.args.path.now seen
+    c.args.literals.now.items c.loop-i.literals.items)
+    (take_all c.loop-i.i routes (omega (arith, past, same))) c.loop-i.invariant

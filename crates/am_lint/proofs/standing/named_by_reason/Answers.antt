@@ -1,15 +1,16 @@
 -- The literals behind the first ones.
-use Rattle.std.proofs.Common.{◌≡◌, ◌-◌, ℕ, length, take, drop, List, subst, sym, ap, ◌∙◌, arith}
-use Rattle.std.proofs.Common.{length-drop}
+use Rattle.std.proofs.Common.{◌≡◌, ◌-◌, ◌<◌, ℕ, length, take, drop, List, subst, sym, ap, ◌∙◌}
+use Rattle.std.proofs.Common.{arith, length-drop}
+use Rattle.std.specs.List.{AllByRecursion}
 use Rattle.std.proofs.lemmas.List.{take_all}
 use Rattle.am_labels.specs.Space.{IsChoiceOf}
 use Rattle.am_first_sets.specs.PossibleChoices.{IsPossible}
 use Rattle.am_first_sets.proofs.MeetingLemmas.{if_ok_more}
 use Rattle.am_first_sets.proofs.ReasonLemmas.{reason_alike}
 use Rattle.am_first_sets.specs.declared.candidate.Candidate.{Candidate}
-use Rattle.am_lint.specs.Literals.{AreTagged, named_paths}
+use Rattle.am_lint.specs.Literals.{named_paths}
 use Rattle.am_lint.specs.Table.{table_space}
-use Rattle.am_lint.proofs.LiteralLemmas.{tagged_alike, tagged_behind}
+use Rattle.am_lint.proofs.LiteralLemmas.{tagged_alike, all_behind}
 use Rattle.am_lint.proofs.standing.named_by_reason.Goals as goal
 
 left : (n : ℕ) (ks : List Candidate) → take (length ks - n) (drop n ks) ≡ drop n ks
@@ -25,8 +26,9 @@ named_routes-requires c =
     let routes = c.args.table.now.routes.items in
     let ks = c.find_reason.new.candidates in
     let n = c.args.fixed in
-    subst (AreTagged routes) (sym (left n ks))
-    (tagged_behind routes ks n
+    let IsTagged = λ (k : Candidate). k.tag < length routes in
+    subst (AllByRecursion IsTagged) (sym (left n ks))
+    (all_behind IsTagged ks n
     (tagged_alike routes c.args.literals.now ks c.find_reason.ensures.same c.requires.tagged))
 
 pub returns : goal.returns
@@ -39,8 +41,9 @@ returns c =
       reason = if_ok_more c.named_routes.result _ _ (λ found is. (
         ks,
         c.find_reason.ensures.same,
-        reason_alike (IsPossible c.choices.result.now) (IsChoiceOf (table_space c.args.table.now)) n ks
-            c.choices.ensures c.in_ok-find_reason.ensures.reason,
+        reason_alike (IsPossible c.choices.result.now)
+            (IsChoiceOf (table_space c.args.table.now)) n ks c.choices.ensures
+            c.in_ok-find_reason.ensures.reason,
         is ∙ ap (named_paths routes) (left n ks),
       )) c.named_routes.ensures;
     }

@@ -1,12 +1,12 @@
 -- The next literal is named, or it is not.
 use Rattle.std.proofs.Common.{◌≡◌, ◌<◌, length, Some, refl, sym, ap, ◌∙◌, ◌++◌, ◌∷◌, [], List, ℕ}
-use Rattle.std.proofs.Common.{slice_get}
+use Rattle.std.proofs.Common.{slice_get, append-nil}
 use Rattle.std.proofs.lemmas.Option.{slice_get_read}
 use Rattle.am_universe.proofs.ListLemmas.{AllByRecursion-at}
 use Rattle.am_universe.proofs.Members.{in_at}
 use Rattle.am_first_sets.specs.declared.candidate.Candidate.{Candidate}
 use Rattle.am_lint.specs.Literals.{path_if_any, path_of}
-use Rattle.am_lint.proofs.LiteralLemmas.{path_named, path_left_out}
+use Rattle.am_lint.proofs.LiteralLemmas.{kept_more}
 use Rattle.am_lint.proofs.standing.named_routes.Goals as goal
 use Rattle.am_lint.proofs.standing.named_routes.Goals.{then-literal+in_ok-push, else-literal}
 
@@ -21,6 +21,7 @@ loop-literal-preserved c =
     let tagged : k.tag < length routes =
     AllByRecursion-at (λ (l : Candidate). l.tag < length routes) ks k c.requires (in_at ks i k at)
     in
+    let more = kept_more (λ (l : Candidate). l.named) (path_of routes) ks i k at in
     elim c.if-literal.branch [
       | then-literal+in_ok-push w ↦
           let route = w.index.result.now in
@@ -29,8 +30,8 @@ loop-literal-preserved c =
           ap (λ v. v.items) w.routes-is ∙ w.in_ok-push.ensures.items
           ∙ ap (λ (r : List ℕ). c.loop-literal.routes.items ++ r ∷ []) (sym (ap path_if_any there))
           ∙ ap (λ (xs : List (List ℕ)). xs ++ path_of routes k ∷ []) c.loop-literal.invariant
-          ∙ sym (path_named routes ks i k at w.if-literal.true)
+          ∙ sym (more ∙ rw w.if-literal.true refl)
       | else-literal w ↦
           ap (λ v. v.items) w.routes-is ∙ c.loop-literal.invariant
-          ∙ sym (path_left_out routes ks i k at w.if-literal.false)
+          ∙ sym (more ∙ rw w.if-literal.false (append-nil _))
     ]

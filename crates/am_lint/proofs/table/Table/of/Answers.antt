@@ -11,7 +11,7 @@ use Rattle.am_config.proofs.RouteLists.{listed_at}
 use Rattle.am_complete.proofs.Pushed.{one_longer}
 use Rattle.am_lint.specs.declared.table.TableRoute.{TableRoute}
 use Rattle.am_lint.specs.Table.{IsTabled}
-use Rattle.am_lint.proofs.TableLemmas.{zip_push}
+use Rattle.std.proofs.lemmas.Slice.Zip.{all_zipped_more}
 use Rattle.am_lint.proofs.table.Table.of.Goals as goal
 
 pub loop-i-preserved : goal.loop-i-preserved
@@ -37,7 +37,7 @@ loop-i-preserved c =
     (subst (λ (rs : List (List ℕ × RouteTree)). AllZip (IsTabled u) rs
     (c.loop-i.routes.items ++ route ∷ []))
     (one_longer all i (path, t) there)
-    (zip_push (IsTabled u) (take i all) c.loop-i.routes.items (path, t) route
+    (all_zipped_more (IsTabled u) (take i all) c.loop-i.routes.items (path, t) route
     c.loop-i.invariant is))
 
 pub returns-clause-knows : goal.returns-clause-knows
