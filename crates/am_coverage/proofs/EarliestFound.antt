@@ -14,7 +14,7 @@ use Rattle.am_first_sets.proofs.FirstPossible.{is_found, find_none}
 
 -- ---- Of two tests.
 
-none_before : (x : List ℕ) (xs : List (List ℕ)) (y : List ℕ) → Ascends (x ∷ xs)
+pub none_before : (x : List ℕ) (xs : List (List ℕ)) (y : List ℕ) → Ascends (x ∷ xs)
     → IsIn (x ∷ xs) y → comes_before y x ≡ false
 none_before x xs y s (inl same) = ap (λ z. comes_before z x) (sym same) ∙ not_itself x
 none_before x xs y s (inr later) = not_back x y (above_first x xs y s later)

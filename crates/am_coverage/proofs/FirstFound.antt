@@ -7,48 +7,32 @@ use Rattle.std.specs.Ordering.{nat_cmp, is_lt, ordering_reverse}
 use Rattle.std.specs.Cmp.Lexicographic.{slice_cmp}
 use Rattle.std.specs.declared.cmp.Ordering.{Ordering}
 use Rattle.std.specs.declared.cmp.Ordering.TheVariants.{Less, Equal, Greater}
-use Rattle.std.proofs.lemmas.Bool.{cases_Bool}
+use Rattle.std.proofs.lemmas.Bool.{cases_Bool, both_ways}
 use Rattle.std.proofs.lemmas.Cmp.{nat_list_cmp_total}
 use Rattle.std.proofs.lemmas.Map.Lookups.{exact_bytes}
 use Rattle.am_universe.proofs.ListLemmas.{IsIn, IsIn-from_Contains, Contains-from_IsIn}
 use Rattle.am_labels.specs.Space.{Space, all_choices, IsChoiceOf}
 use Rattle.am_labels.proofs.SpaceLaws.{space_choices, space_choices_sorted}
 use Rattle.am_search.specs.Start.{comes_before}
-use Rattle.am_search.proofs.ChoiceOrder.{Ascends, above_first, ascends_rest, not_itself, not_back}
-use Rattle.am_first_sets.proofs.FirstPossible.{is_found}
+use Rattle.am_search.proofs.ChoiceOrder.{Ascends, ascends_rest}
+use Rattle.am_first_sets.proofs.FirstPossible.{is_found, none_passes}
 use Rattle.am_coverage.specs.Report.{IsFirstChoice}
-
--- if an item passes, one is found
-finds : {X : Type 0} (test : X → Bool) (xs : List X) (x : X) → IsIn xs x → test x ≡ true
-    → (y : X) × (find test xs ≡ Some y)
-finds test [] x h passes = absurd h
-finds test (y ∷ ys) x (inl same) passes =
-    let first : test y ≡ true = ap test same ∙ passes in (y, rw first refl)
-finds test (y ∷ ys) x (inr later) passes = elim (cases_Bool (test y)) [
-  | inl first ↦ (y, rw first refl)
-  | inr fails ↦ let r = finds test ys x later passes in (r.0, rw fails r.1)
-]
+use Rattle.am_coverage.proofs.EarliestFound.{none_before}
 
 -- in a list that ascends, no item that passes comes before the one that is found
 found_first : (test : List ℕ → Bool) (xs : List (List ℕ)) (x y : List ℕ) → Ascends xs
     → find test xs ≡ Some x → IsIn xs y → test y ≡ true → comes_before y x ≡ false
 found_first test [] x y s e h passes = absurd h
-found_first test (z ∷ zs) x y s e (inl same) passes =
-    let first : test z ≡ true = ap test same ∙ passes in
-    let found : Some z ≡ Some x = rw first at e in
-    let both : y ≡ x = cc in
-    ap (comes_before y) (sym both) ∙ not_itself y
-found_first test (z ∷ zs) x y s e (inr later) passes = elim (cases_Bool (test z)) [
+found_first test (z ∷ zs) x y s e h passes = elim (cases_Bool (test z)) [
   | inl first ↦
       let found : Some z ≡ Some x = rw first at e in
       let both : z ≡ x = cc in
-      ap (comes_before y) (sym both) ∙ not_back z y (above_first z zs y s later)
-  | inr fails ↦ found_first test zs x y (ascends_rest z zs s) (rw fails at e) later passes
+      ap (comes_before y) (sym both) ∙ none_before z zs y s h
+  | inr fails ↦ elim h [
+    | inl same ↦ absurd (both_ways (test z) fails (ap test same ∙ passes))
+    | inr later ↦ found_first test zs x y (ascends_rest z zs s) (rw fails at e) later passes
+  ]
 ]
-
-none_from : {X : Type 0} (o : Option X) → ((x : X) → o ≡ Some x → ⊥) → o ≡ None
-none_from None none = refl
-none_from (Some x) none = absurd (none x refl)
 
 -- ---- Among all choices of a space, by a test that says which have the property.
 
@@ -70,20 +54,29 @@ module _ (s : Space) (test : List ℕ → Bool) (Has : List ℕ → Type 0)
             (in_space other possible) ((exact other).1 has);
       }
 
-  pub some_found : (choice : List ℕ) → IsChoiceOf s choice → Has choice
-      → (first : List ℕ) × (find test (all_choices s) ≡ Some first)
-  some_found choice possible has =
-      finds test (all_choices s) choice (in_space choice possible) ((exact choice).1 has)
-
+  -- nothing is found exactly if no choice has the property
   pub none_found : ((choice : List ℕ) → IsChoiceOf s choice → Has choice → ⊥)
       ↔ (find test (all_choices s) ≡ None)
   none_found = (
-    λ none. none_from (find test (all_choices s)) (λ choice e.
-        let first = first_found choice e in none choice first.possible first.has),
+    λ none. by none (find test (all_choices s)) refl,
     λ e choice possible has.
-        let r = some_found choice possible has in
-        let both : None ≡ Some r.0 = sym e ∙ r.1 in cc,
+        both_ways (test choice) (none_passes s test (sym e) choice possible) ((exact choice).1 has),
   )
+    where
+      by : ((choice : List ℕ) → IsChoiceOf s choice → Has choice → ⊥) → (o : Option (List ℕ))
+          → find test (all_choices s) ≡ o → o ≡ None
+      by none None e = refl
+      by none (Some choice) e =
+          let first = first_found choice e in absurd (none choice first.possible first.has)
+
+  pub some_found : (choice : List ℕ) → IsChoiceOf s choice → Has choice
+      → (first : List ℕ) × (find test (all_choices s) ≡ Some first)
+  some_found choice possible has = by (find test (all_choices s)) refl
+    where
+      by : (o : Option (List ℕ)) → find test (all_choices s) ≡ o
+          → (first : List ℕ) × (o ≡ Some first)
+      by None e = absurd (none_found.1 e choice possible has)
+      by (Some first) e = (first, refl)
 
 -- ---- There is one such choice.
 

@@ -9,7 +9,6 @@ pub mod ReportFacts
 pub mod EarliestFound
 pub mod FirstEndLaws
 pub mod EntryLaws
-pub mod BeforeByPosition
 pub mod RoutesBehind
 pub mod ReceiverRoutes
 pub mod EmptySpace

@@ -1,6 +1,6 @@
 -- The coverage of a receiver says what holds over all label sets, and over its routes.
 use Rattle.std.proofs.Common.{◌≡◌, ◌↔◌, ℕ, List, Bool, Contains}
-use Rattle.std.proofs.Common.{Option, Some, None, refl, ap, subst, ◌∙◌}
+use Rattle.std.proofs.Common.{Option, Some, None, refl, ap, subst}
 use Rattle.std.specs.Prelude.{IsTrue, ◌==◌}
 use Rattle.std.specs.List.{list_any}
 use Rattle.am_universe.specs.LabelSet.{label_set_of}

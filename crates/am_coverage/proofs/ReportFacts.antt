@@ -41,10 +41,9 @@ lines_are : {K : Type 0} (IsLine : K → List ℕ → Type 0) (line_at : K → L
     → ((k : K) (line : List ℕ) → IsLine k line → line ≡ line_at k)
     → (ks : List K) (lines : List (List ℕ)) → AllZip IsLine ks lines → lines ≡ map line_at ks
 lines_are IsLine line_at is [] [] each = refl
-lines_are IsLine line_at is [] (line ∷ lines) each = absurd each
-lines_are IsLine line_at is (k ∷ ks) [] each = absurd each
 lines_are IsLine line_at is (k ∷ ks) (line ∷ lines) each =
     rw (is k line each.0, lines_are IsLine line_at is ks lines each.1) refl
+lines_are IsLine line_at is ks lines each = absurd each
 
 abbrev report_of : List (List ℕ) → List ℕ
 report_of lines = flat_map (λ line. line) lines ++ codes "# end\n"

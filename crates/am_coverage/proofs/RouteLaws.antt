@@ -3,8 +3,6 @@ use Rattle.std.proofs.Common.{◌≡◌, ◌≢◌, ◌↔◌, ℕ, List, Bool, 
 use Rattle.std.proofs.Common.{Option, Some, None, refl, sym, ap, ◌∙◌}
 use Rattle.std.specs.Prelude.{IsTrue}
 use Rattle.std.specs.List.{list_any}
-use Rattle.std.specs.Cmp.Lexicographic.{bytes_decides}
-use Rattle.std.proofs.Math.Seq.{take-length}
 use Rattle.am_universe.specs.LabelSet.{label_set_of}
 use Rattle.am_universe.specs.Text.{same_text}
 use Rattle.am_labels.specs.Space.{Space, IsChoiceOf}
@@ -13,15 +11,12 @@ use Rattle.am_config.specs.Path.{leads_through}
 use Rattle.am_eval.specs.Routing.{ends}
 use Rattle.am_eval.proofs.ListTests.{some_passes, passes_among}
 use Rattle.am_eval.proofs.SimpleParts.{end_from_test, test_from_end}
+use Rattle.am_search.proofs.PrefixOrder.{begins_itself}
 use Rattle.am_coverage.specs.declared.coverage.RouteCoverage.TheVariants as route_is
 use Rattle.am_coverage.specs.Coverage.{IsDead, IsNeverEntered, first_end}
 use Rattle.am_coverage.specs.Coverage.{first_entry, live_or, dead_by, route_coverage}
 use Rattle.am_coverage.specs.Report.{IsFirstChoice, EndsAt}
 use Rattle.am_coverage.proofs.FirstFound.{first_found, some_found, none_found}
-
--- a path leads through itself
-through_itself : (path : List ℕ) → IsTrue (leads_through path path)
-through_itself path = (bytes_decides path _).1 (sym (take-length path))
 
 -- ---- What is told of a route.
 
@@ -86,7 +81,7 @@ module _ (s : Space) (c : Configuration) (path : List ℕ) where
 
   -- if no label set ends at the route or below it, none ends at it
   pub dead_from_never : IsNeverEntered s c path → IsDead s c path
-  dead_from_never never choice possible h = never choice path possible h (through_itself path)
+  dead_from_never never choice possible h = never choice path possible h (begins_itself path)
 
   pub first_live : (choice : List ℕ) → route_coverage s c path ≡ route_is.Live choice
       → IsFirstChoice s (EndsAt s c path) choice

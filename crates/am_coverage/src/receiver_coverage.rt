@@ -66,11 +66,5 @@ fn with_route(known: ReceiverCoverage, choice: Option<Choice>) -> ReceiverCovera
 fn comes_before(choice: &Choice, other: &Choice) -> bool
     ensures before { result ≡ comes_before choice.now other.now }
 {
-    for i in 0..choice.len().min(other.len()) {
-        let (position, beside) = (choice.get(i), other.get(i));
-        if position != beside {
-            return position < beside;
-        }
-    }
-    choice.len() < other.len()
+    choice.as_slice().cmp(other.as_slice()).is_lt()
 }
