@@ -56,21 +56,3 @@ pub each_all : {X : Type 0} (test : X → Bool) (xs : List X)
     → ((x : X) → IsIn xs x → test x ≡ true) → list_all test xs ≡ true
 each_all test [] each = refl
 each_all test (x ∷ xs) each = rw (each x (inl refl)) (each_all test xs (λ y i. each y (inr i)))
-
--- ---- Lists with the same elements.
-
-abbrev pub HaveSame : {X : Type 0} → List X → List X → Type 0
-HaveSame {X} xs ys = ((x : X) → IsIn xs x → IsIn ys x) × ((x : X) → IsIn ys x → IsIn xs x)
-
--- two truth values that imply each other are equal
-pub one_test : (a b : Bool) → (a ≡ true → b ≡ true) → (b ≡ true → a ≡ true) → a ≡ b
-one_test true b there back = sym (there refl)
-one_test false true there back = back refl
-one_test false false there back = refl
-
-pub all_same : {X : Type 0} (test : X → Bool) (xs ys : List X) → HaveSame xs ys
-    → list_all test xs ≡ list_all test ys
-all_same test xs ys same =
-    one_test (list_all test xs) (list_all test ys)
-    (λ all. each_all test ys (λ x i. all_each test xs x all (same.1 x i)))
-    (λ all. each_all test xs (λ x i. all_each test ys x all (same.0 x i)))

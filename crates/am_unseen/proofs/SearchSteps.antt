@@ -1,7 +1,7 @@
 -- The matchers of the silences that are left, and what the search finds.
-use Rattle.std.proofs.Common.{◌≡◌, ℕ, ◌+◌, ◌<◌, List, [], ◌∷◌, ◌++◌, length, drop}
+use Rattle.std.proofs.Common.{◌≡◌, ℕ, ◌+◌, List, [], ◌∷◌, ◌++◌, drop}
 use Rattle.std.proofs.Common.{Some, fold, sym, ap, ◌∙◌, refl, false, true, append_assoc, append-nil}
-use Rattle.std.proofs.Common.{inl, inr, zero, suc, arith}
+use Rattle.std.proofs.Common.{inl, inr}
 use Rattle.std.specs.Prelude.{slice_get}
 use Rattle.std.specs.List.{flat_map, enumerate_from, filter}
 use Rattle.std.proofs.lemmas.Bool.{cases_Bool}
@@ -31,13 +31,6 @@ with_first : (w : World) (i : ℕ) (silence : Silence) → slice_get w.silences 
 with_first w i silence at =
     ap (λ left. flat_map placed_in_silence (filter (is_left w) (enumerate_from i left)))
     (left_at w.silences i silence at)
-
--- a silence stands at each position of the list
-pub stands_at : {X : Type 0} (xs : List X) (i : ℕ) → i < length xs
-    → (x : X) × (slice_get xs i ≡ Some x)
-stands_at [] i lt = absurd (omega (arith, lt))
-stands_at (x ∷ xs) zero lt = (x, refl)
-stands_at (x ∷ xs) (suc i) lt = stands_at xs i (omega (arith, lt))
 
 -- a silence that is over is skipped
 pub one_over : (w : World) (i : ℕ) (silence : Silence) (now whole : Search)

@@ -4,31 +4,25 @@ use Rattle.std.proofs.Common.{Some, take, map, fold, length, Bor, not, inl, inr,
 use Rattle.std.specs.Prelude.{slice_get}
 use Rattle.std.specs.List.{filter, list_any}
 use Rattle.std.proofs.lemmas.Bool.{cases_Bool}
-use Rattle.std.proofs.lemmas.List.{take_more, map_push, append-nil}
+use Rattle.std.proofs.lemmas.List.{map_push, append-nil}
 use Rattle.std.proofs.lemmas.List.Elements.{filter-append}
 use Rattle.std.proofs.lemmas.List.Sums.{fold-append}
-use Rattle.std.proofs.lemmas.Option.{slice_get_within, get_or_from_slice_get}
 use Rattle.indexmap.specs.IndexSet.{insert_key}
 use Rattle.am_universe.specs.LabelSet.{LabelMap, value_of}
 use Rattle.am_universe.specs.Text.{same_text}
 use Rattle.am_complete.specs.FoundState.{begins}
+use Rattle.am_complete.proofs.Pushed.{one_longer}
 use Rattle.am_unseen.specs.Unseen.{seen_values, is_missing}
 use Rattle.am_unseen.specs.Search.{with_text, each_once}
 
 -- ---- One more alert.
-
-one_more : {X : Type 0} (xs : List X) (i : ℕ) (x : X) → slice_get xs i ≡ Some x
-    → take (i + 1) xs ≡ take i xs ++ x ∷ []
-one_more xs i x at =
-    take_more xs i x (slice_get_within xs i x at)
-    ∙ ap (λ y. take i xs ++ y ∷ []) (get_or_from_slice_get xs i x x at)
 
 seen_more : (alerts : List LabelMap) (name : List ℕ) (i : ℕ) (a : LabelMap)
     → slice_get alerts i ≡ Some a
     → seen_values (take (i + 1) alerts) name
     ≡ seen_values (take i alerts) name ++ filter begins (value_of a name ∷ [])
 seen_more alerts name i a at =
-    ap (λ as'. seen_values as' name) (one_more alerts i a at)
+    ap (λ as'. seen_values as' name) (sym (one_longer alerts i a at))
     ∙ ap (filter begins) (map_push (λ b. value_of b name) (take i alerts) a)
     ∙ filter-append begins (map (λ b. value_of b name) (take i alerts)) (value_of a name ∷ [])
 

@@ -1,10 +1,11 @@
 -- A silence is over, or its matchers are looked at.
 use Rattle.std.proofs.Common.{◌≡◌, ◌+◌, ◌<◌, length, Some, fold, sym, ap, ◌∙◌, arith}
 use Rattle.std.specs.Prelude.{slice_get}
+use Rattle.am_universe.proofs.LabelPairLemmas.{found_at}
 use Rattle.am_asked.specs.Placed.{placed_at}
 use Rattle.am_complete.specs.declared.origin.Origin.TheVariants as origin_is
 use Rattle.am_unseen.specs.Search.{after_matcher}
-use Rattle.am_unseen.proofs.SearchSteps.{one_over, one_left, stands_at, left_from}
+use Rattle.am_unseen.proofs.SearchSteps.{one_over, one_left, left_from}
 use Rattle.am_unseen.proofs.world_search.look_at_silences.Goals as goal
 use Rattle.am_unseen.proofs.world_search.look_at_silences.Goals.{else-not-over}
 use Rattle.am_unseen.proofs.world_search.look_at_silences.Goals.{then-not-over+in_ok-visit_matchers}
@@ -34,7 +35,7 @@ loop-i-preserved c =
             ap length c.silences-silences.ensures.silences,
             c.loop-i-test.true,
           ) in
-          let there = stands_at world.silences i within in
+          let there = found_at world.silences i within in
           ap (λ s. fold after_matcher s (left_from world (i + 1))) w.search-is
           ∙ one_over world i there.0 now _ there.1
           (sym (c.over.ensures.over there.0 there.1) ∙ w.if-not-over.false) c.loop-i.invariant
