@@ -1,5 +1,5 @@
 -- The strings of the JSON value of a file are UTF-8, and so are the texts of a universe file.
-use Rattle.std.proofs.Common.{◌≡◌, ℕ, List, [], ◌∷◌, Bool, true, false, cond, Option, Some, None}
+use Rattle.std.proofs.Common.{◌≡◌, ℕ, List, [], ◌∷◌, ◌++◌, Bool, true, false, cond, Option, Some, None}
 use Rattle.std.proofs.Common.{option_map, option_and_then, IsUtf8, subst, inl, inr, codes}
 use Rattle.std.specs.Prelude.{⊤, IfSome}
 use Rattle.std.specs.Str.{is_utf8}
@@ -12,6 +12,11 @@ use Rattle.std.proofs.lemmas.Bool.{cases_Bool}
 use Rattle.std.proofs.lemmas.Option.{same_Some}
 use Rattle.std.proofs.lemmas.Str.{IsUtf8-from_is_utf8}
 use Rattle.json.specs.Json as json
+use Rattle.json.specs.Json.{value, if_last}
+use Rattle.json.specs.Lex.{tokens}
+use Rattle.json.specs.Token.{Token}
+use Rattle.json.specs.Tree.{json_tokens, items_tokens, members_tokens}
+use Rattle.json.proofs.Unique.Spelling.{value-json_tokens_back}
 use Rattle.serde_json.specs.Data.{Data, null, boolean, number, string, array, object, Items}
 use Rattle.serde_json.specs.Data.{no_items, item, Members, no_members, member, put}
 use Rattle.serde_json.specs.Find.{get, get_member}
@@ -23,8 +28,7 @@ use Rattle.am_list_files.specs.UniverseFile.{SaysValue, SaysLabel, FileSaysUnive
 use Rattle.am_classes.specs.declared.alphabet.Alphabet.TheVariants.{Unicode}
 use Rattle.am_complete.specs.Covering.{HasTextsOver}
 use Rattle.am_every_alert.proofs.OptionParts.{mapped, then_some}
-use Rattle.am_every_alert.proofs.JsonGrammar.{HasTexts, ItemsHaveTexts, MembersHaveTexts}
-use Rattle.am_every_alert.proofs.JsonGrammar.{json_of_text}
+use Rattle.am_every_alert.proofs.JsonTokens.{AreTokens, tokens_of_text}
 
 -- each string that is a value, at the top or inside, is UTF-8
 abbrev mutual
@@ -57,45 +61,61 @@ put_text k d (member l other ms) h hs =
     by Equal later more = (h, hs.1)
     by Greater later more = (hs.0, more)
 
+-- the tokens of a list are those of two lists, one behind the other
+both : (ts us : List Token) → AreTokens (ts ++ us) → AreTokens ts × AreTokens us
+both [] us h = (tt, h)
+both (t ∷ ts) us h = let later = both ts us h.1 in ((h.0, later.0), later.1)
+
 mutual
-  data_text : (j : json.Json) (d : Data) → HasTexts j → of_json j ≡ Some d → HasText d
+  data_text : (j : json.Json) (d : Data) → AreTokens (json_tokens j) → of_json j ≡ Some d
+      → HasText d
   data_text json.null d h e = subst HasText (same_Some null d e) tt
   data_text (json.boolean b) d h e = subst HasText (same_Some (boolean b) d e) tt
   data_text (json.number s) d h e =
       let n = mapped number (number_of s) d e in subst HasText n.2 tt
-  data_text (json.string s) d h e = subst HasText (same_Some (string s) d e) h
+  data_text (json.string s) d h e = subst HasText (same_Some (string s) d e) h.0
   data_text (json.array js) d h e =
       let ds = mapped array (of_items js) d e in
-      subst HasText ds.2 (items_text js ds.0 h ds.1)
+      subst HasText ds.2 (items_text js ds.0 h.1 ds.1)
   data_text (json.object ms) d h e =
       let found = mapped object (of_members ms no_members) d e in
-      subst HasText found.2 (members_text ms no_members found.0 h tt found.1)
+      subst HasText found.2 (members_text ms no_members found.0 h.1 tt found.1)
 
-  items_text : (js : json.Items) (ds : Items) → ItemsHaveTexts js → of_items js ≡ Some ds
+  items_text : (js : json.Items) (ds : Items) → AreTokens (items_tokens js) → of_items js ≡ Some ds
       → ItemsHaveText ds
   items_text json.no_items ds h e = subst ItemsHaveText (same_Some no_items ds e) tt
   items_text (json.item j js) ds h e =
+      let parts = both (json_tokens j) (items_tokens js) h in
       let first = then_some (λ d. option_map (item d) (of_items js)) (of_json j) ds e in
       let later = mapped (item first.0) (of_items js) ds first.2 in
       subst ItemsHaveText later.2
-      (data_text j first.0 h.0 first.1, items_text js later.0 h.1 later.1)
+      (data_text j first.0 parts.0 first.1, items_text js later.0 parts.1 later.1)
 
-  members_text : (ms : json.Members) (before after : Members) → MembersHaveTexts ms
+  members_text : (ms : json.Members) (before after : Members) → AreTokens (members_tokens ms)
       → MembersHaveText before → of_members ms before ≡ Some after → MembersHaveText after
   members_text json.no_members before after h hs e =
       subst MembersHaveText (same_Some before after e) hs
   members_text (json.member k j ms) before after h hs e =
+      let parts = both (json_tokens j) (members_tokens ms) h.1 in
       let first = then_some (λ d. of_members ms (put k d before)) (of_json j) after e in
-      members_text ms (put k first.0 before) after h.1
-      (put_text k first.0 before (data_text j first.0 h.0 first.1) hs) first.2
+      members_text ms (put k first.0 before) after parts.1
+      (put_text k first.0 before (data_text j first.0 parts.0 first.1) hs) first.2
+
+last_is : (j k : json.Json) (rest : List Token) → if_last j rest ≡ Some k → j ≡ k
+last_is j k [] e = cc
+last_is j k (t ∷ ts) e = absurd (cc)
 
 file_text : (bytes : List ℕ) (d : Data) → json_of bytes ≡ Some d → HasText d
 file_text bytes d e = elim (cases_Bool (is_utf8 bytes)) [
   | inl valid ↦
       let found : read bytes ≡ Some d = rw valid at e in
-      let u = IsUtf8-from_is_utf8 bytes valid in
       let j = then_some of_json _ d found in
-      data_text j.0 d (json_of_text max_depth bytes j.0 u j.1) j.2
+      let p = then_some (λ q. if_last q.0 q.1) (value max_depth (tokens bytes)) j.0 j.1 in
+      let h = subst AreTokens (value-json_tokens_back max_depth (tokens bytes) p.0.1 p.0.0 p.1)
+      (tokens_of_text bytes (IsUtf8-from_is_utf8 bytes valid)) in
+      data_text j.0 d
+      (subst (λ k. AreTokens (json_tokens k)) (last_is p.0.0 j.0 p.0.1 p.2)
+      (both (json_tokens p.0.0) p.0.1 h).0) j.2
   | inr invalid ↦ let none : None ≡ Some d = rw invalid at e in absurd (cc)
 ]
 

@@ -1,10 +1,11 @@
 -- The strings among the tokens of a text are UTF-8, if the text is.
 use Rattle.std.proofs.Common.{◌≡◌, ℕ, ◌-◌, ◌<◌, Bool, true, false, cond, ◌==◌, ◌&&◌, nat_eq, length}
-use Rattle.std.proofs.Common.{take, drop, List, [], ◌∷◌, Option, Some, None, IsUtf8, refl, arith}
+use Rattle.std.proofs.Common.{take, drop, List, [], ◌∷◌, ◌++◌, Option, Some, None, IsUtf8, refl, sym}
+use Rattle.std.proofs.Common.{arith, subst, append_assoc}
 use Rattle.std.proofs.Common.{inl, inr}
 use Rattle.std.specs.Prelude.{⊤}
 use Rattle.std.specs.List.{AllByRecursion, starts_with}
-use Rattle.std.proofs.lemmas.Bool.{cases_Bool, eqb-true}
+use Rattle.std.proofs.lemmas.Bool.Decides.{nat_tests}
 use Rattle.json.specs.Token.{Token, begin_object, end_object, begin_array, end_array, key, string}
 use Rattle.json.specs.Token.{number, boolean, null, bad}
 use Rattle.json.specs.Text.{content, plain}
@@ -16,7 +17,7 @@ use Rattle.json.specs.Lex.{other, class, operator_lexeme, string_token, Mode, be
 use Rattle.json.specs.Lex.{in_string, in_escape, lex_byte, lex, Place, fresh, after_value}
 use Rattle.json.specs.Lex.{after_comma, after_key, begins_colon, may_begin, may_close, if_allowed}
 use Rattle.json.specs.Lex.{place_token, punctuate, tokens}
-use Rattle.am_every_alert.proofs.JsonTexts.{IsRest, rest_behind, behind_ascii, content_is_text}
+use Rattle.am_every_alert.proofs.JsonTexts.{beside_ascii, content_is_text}
 
 -- if a token is a string, its text is UTF-8
 abbrev pub HasText : Token → Type 0
@@ -86,28 +87,19 @@ byte_text in_string backslash x xs k u later = later in_escape
 byte_text in_string c x xs k u later = later in_string
 byte_text in_escape c x xs k u later = later in_string
 
-no_quote : (a b c : Bool)
-    → cond a backslash (cond b operator (cond c space other)) ≡ quote → ⊥
-no_quote true b c e = cc
-no_quote false true c e = cc
-no_quote false false true e = cc
-no_quote false false false e = cc
+quote_is_ascii : (x : ℕ) → class x ≡ quote → x < 128
+quote_is_ascii x e = grind (arith, nat_tests)
 
-behind_quote : (k x : ℕ) (xs : List ℕ) → IsRest k (x ∷ xs) → class x ≡ quote → IsUtf8 xs
-behind_quote k x xs h e = elim (cases_Bool (x == 34)) [
-  | inl is ↦
-      let small : x < 128 = omega (arith, eqb-true x 34 is) in behind_ascii k x xs small h
-  | inr not ↦
-      absurd (no_quote (x == 92) (is_operator x) (is_space x) (rw not at e))
-]
-
-lexeme_texts : (k : ℕ) (m : Mode) (xs : List ℕ) → IsRest k xs → AreLexemes (lex m xs)
+-- what is read is a text, or what is left of one
+lexeme_texts : (front : List ℕ) (m : Mode) (xs : List ℕ) → IsUtf8 (front ++ xs)
+    → AreLexemes (lex m xs)
 unfolding lex
-lexeme_texts k m [] h = tt
-lexeme_texts k m (x ∷ xs) h =
-    let behind = rest_behind k x xs h in
-    byte_text m (class x) x xs (λ next. lex next xs) (behind_quote k x xs h)
-    (λ next. lexeme_texts behind.0 next xs behind.1)
+lexeme_texts front m [] u = tt
+lexeme_texts front m (x ∷ xs) u =
+    byte_text m (class x) x xs (λ next. lex next xs)
+    (λ e. (beside_ascii front x xs (quote_is_ascii x e) u).1)
+    (λ next. lexeme_texts (front ++ x ∷ []) next xs
+    (subst IsUtf8 (sym (append_assoc front (x ∷ []) xs)) u))
 
 -- ---- Tokens.
 
@@ -150,4 +142,4 @@ token_texts after_key (colon ∷ ls) h = token_texts fresh ls h.1
 token_texts p ls h = (tt, tt)
 
 pub tokens_of_text : (text : List ℕ) → IsUtf8 text → AreTokens (tokens text)
-tokens_of_text text u = token_texts fresh (lex between text) (lexeme_texts 0 between text u)
+tokens_of_text text u = token_texts fresh (lex between text) (lexeme_texts [] between text u)

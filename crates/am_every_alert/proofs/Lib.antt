@@ -9,7 +9,6 @@ pub mod OverAscii
 pub mod AnyLine
 pub mod CompleteExample
 pub mod JsonTokens
-pub mod JsonGrammar
 pub mod JsonData
 pub mod RoomLemmas
 pub mod EveryAlert

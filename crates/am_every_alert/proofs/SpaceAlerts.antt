@@ -29,9 +29,11 @@ use Rattle.am_complete.proofs.Alike.{alike_itself}
 use Rattle.am_complete.proofs.LabelTexts.{undeclared_texts}
 use Rattle.am_complete.proofs.CompleteUniverses.{alone_truth, takes_away}
 use Rattle.am_every_alert.specs.EveryAlert.{IsAlert, IsAlertOf, MeetsTheSame, HaveTheSameFate}
-use Rattle.am_every_alert.specs.Deciding.{coverage_conditions, asked_conditions}
+use Rattle.am_every_alert.specs.Deciding.{coverage_conditions, asked_conditions, StandsFor}
+use Rattle.am_every_alert.specs.Deciding.{deciding_conditions, IsSetOf}
 use Rattle.am_every_alert.proofs.CompleteSpaces.{complete_space}
 use Rattle.am_every_alert.proofs.StandingChoice.{standing_choice}
+use Rattle.am_every_alert.proofs.UniverseAlerts.{universe_alert}
 use Rattle.am_every_alert.proofs.SameFate.{front_met, rest_met, same_ends, same_receivers}
 use Rattle.am_every_alert.proofs.SameFate.{same_possible, same_fate, same_truth}
 
@@ -97,6 +99,47 @@ alert_choice a u ms s h complete alert =
     let space : Space = record { labels = u; impossible = [] } in
     space_choice a space ms s h (complete_space a space ms complete) (alert, refl)
 
+-- ---- What is true of the label sets of a space that stands for its alerts is true of these.
+
+-- a property of label sets depends only on which of some matchers they meet
+abbrev pub IsToldBy : List Condition → (LabelMap → Type 0) → Type 0
+IsToldBy ms Is = (s t : LabelMap) → MeetsTheSame ms s t → Is s → Is t
+
+module _ (a : Alphabet) (s : Space) (ms : List Condition) where
+  -- some choice of the space meets the same of the matchers as an alert
+  pub choice_of_alert : (alert : LabelMap) → IsUniverse s.labels
+      → IsSpaceComplete a s (deciding_conditions s ms) → IsAlertOf a s alert
+      → (choice : List ℕ) × IsChoiceOf s choice
+      × MeetsTheSame ms (label_set_of s.labels choice) alert
+  choice_of_alert alert h complete is =
+      let lists = impossible_conditions s.impossible in
+      let r = space_choice a s (ms ++ lists) alert h complete is in
+      let set = label_set_of s.labels r.0 in
+      let possible = same_possible set alert s.impossible (rest_met set alert ms lists r.2) in
+      (r.0, (r.1, possible ∙ is.1), front_met set alert ms lists r.2)
+
+  module _ (h : StandsFor a s ms) where
+    pub alert_of_set : (set : LabelMap) → IsSetOf s set → IsAlertOf a s set
+    alert_of_set set is =
+        subst (IsAlertOf a s) (sym is.2)
+        (universe_alert a s.labels is.0 h.universe h.over, is.1.1)
+
+    pub set_of_alert : (alert : LabelMap) → IsAlertOf a s alert
+        → (set : LabelMap) × IsSetOf s set × MeetsTheSame ms set alert
+    set_of_alert alert is =
+        let r = choice_of_alert alert h.universe h.complete is in
+        (label_set_of s.labels r.0, (r.0, r.1, refl), r.2)
+
+    pub each_over : (Is : LabelMap → Type 0) → IsToldBy ms Is
+        → ((set : LabelMap) → IsSetOf s set → Is set)
+        → (alert : LabelMap) → IsAlertOf a s alert → Is alert
+    each_over Is told each alert is =
+        let r = set_of_alert alert is in told r.0 alert r.2 (each r.0 r.1)
+
+    pub some_over : (Is : LabelMap → Type 0) → (set : LabelMap) × IsSetOf s set × Is set
+        → (alert : LabelMap) × IsAlertOf a s alert × Is alert
+    some_over Is some = (some.0, alert_of_set some.0 some.1, some.2)
+
 -- ---- One with the same ends, and one that is an answer.
 
 module _ (a : Alphabet) (s : Space) (alert : LabelMap) (h : IsUniverse s.labels)
@@ -108,16 +151,11 @@ module _ (a : Alphabet) (s : Space) (alert : LabelMap) (h : IsUniverse s.labels)
       → (choice : List ℕ) × IsChoiceOf s choice × (ends (set_of choice) c ≡ ends alert c)
       × (receivers (set_of choice) c ≡ receivers alert c)
   ends_of_choice c complete =
-      let r = space_choice a s (coverage_conditions s c) alert h complete is in
-      let routes = route_conditions c.root in
-      let lists = impossible_conditions s.impossible in
-      let on_routes = front_met (set_of r.0) alert routes lists r.2 in
-      let possible = same_possible (set_of r.0) alert s.impossible
-      (rest_met (set_of r.0) alert routes lists r.2) in (
+      let r = choice_of_alert a s (route_conditions c.root) alert h complete is in (
         r.0,
-        (r.1, possible ∙ is.1),
-        same_ends (set_of r.0) alert c on_routes,
-        same_receivers (set_of r.0) alert c on_routes,
+        r.1,
+        same_ends (set_of r.0) alert c r.2,
+        same_receivers (set_of r.0) alert c r.2,
       )
 
   pub answer_of_alert : (w : World) (q : Question) → IsSpaceComplete a s (asked_conditions s w q)

@@ -1,19 +1,28 @@
--- The matchers that decide what a report says about an alert, and whether a question is true of it.
-use Rattle.std.specs.Prelude.{List, ◌++◌}
+-- The matchers that decide what a report says about an alert, and whether a question is true of it;
+-- and spaces that stand for every alert, for such matchers.
+use Rattle.std.specs.Prelude.{◌≡◌, ℕ, List, ◌++◌}
+use Rattle.am_universe.specs.Universe.{Label, IsUniverse}
+use Rattle.am_universe.specs.LabelSet.{LabelMap, label_set_of}
 use Rattle.am_labels.specs.Matcher.{Condition}
-use Rattle.am_labels.specs.Space.{Space}
+use Rattle.am_labels.specs.Space.{Space, IsChoiceOf}
 use Rattle.am_config.specs.ConfigFile.{Configuration}
 use Rattle.am_eval.specs.World.{World}
 use Rattle.am_eval.specs.Question.{Question}
 use Rattle.am_asked.specs.Asked.{route_conditions, world_conditions, question_conditions}
-use Rattle.am_complete.specs.Complete.{impossible_conditions}
+use Rattle.am_classes.specs.declared.alphabet.Alphabet.{Alphabet}
+use Rattle.am_complete.specs.Complete.{impossible_conditions, IsSpaceComplete}
+use Rattle.am_complete.specs.Covering.{HasTextsOver}
+
+-- Some matchers, and those that say what is impossible in a space.
+abbrev pub deciding_conditions : Space → List Condition → List Condition
+deciding_conditions s ms = ms ++ impossible_conditions s.impossible
 
 -- The matchers that decide which label sets end at a route or go to a receiver, and which are
 -- possible: those of the routes, and of the impossible lists.
 -- Source: own choice.
 -- Example: if nothing is impossible, they are those of the routes.
 abbrev pub coverage_conditions : Space → Configuration → List Condition
-coverage_conditions s c = route_conditions c.root ++ impossible_conditions s.impossible
+coverage_conditions s c = deciding_conditions s (route_conditions c.root)
 
 -- The matchers that decide whether a label set satisfies a question and is possible: those of the
 -- world, of the question, and of the impossible lists.
@@ -22,3 +31,21 @@ coverage_conditions s c = route_conditions c.root ++ impossible_conditions s.imp
 abbrev pub asked_conditions : Space → World → Question → List Condition
 asked_conditions s w q =
     world_conditions w ++ (question_conditions q ++ impossible_conditions s.impossible)
+
+-- The space with some labels, in which some lists are impossible.
+abbrev pub space_of : List (List Condition) → List Label → Space
+space_of lists u = record { labels = u; impossible = lists }
+
+-- A label set of a space: that of one of its choices.
+abbrev pub IsSetOf : Space → LabelMap → Type 0
+IsSetOf s set = (choice : List ℕ) × IsChoiceOf s choice × (set ≡ label_set_of s.labels choice)
+
+-- A space stands for every alert of it over an alphabet, for some matchers: it is complete for them
+-- and for its impossible lists, and its texts are over the alphabet.
+-- Source: own choice.
+-- Example: for `team="db"`, if nothing is impossible, a space in which `team` may be absent or `db`
+-- does so over each alphabet. It does not if `team` is always `db`.
+pub record StandsFor (a : Alphabet) (s : Space) (ms : List Condition) : Type 0 where
+  pub universe : IsUniverse s.labels
+  pub complete : IsSpaceComplete a s (deciding_conditions s ms)
+  pub over : HasTextsOver a s.labels
