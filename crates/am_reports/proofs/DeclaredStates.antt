@@ -1,14 +1,13 @@
 -- The state of the label at a position of a space, and what follows from it.
-use Rattle.std.proofs.Common.{◌≡◌, ◌≢◌, ◌<◌, ℕ, zero, suc, List, [], ◌∷◌, length, map, take}
-use Rattle.std.proofs.Common.{Some, slice_get, string_bytes, refl, sym, ap, subst, inl, inr, ◌∙◌}
-use Rattle.std.proofs.Common.{arith}
+use Rattle.std.proofs.Common.{◌≡◌, ◌≢◌, ℕ, List, [], map, take, Some, slice_get, string_bytes}
+use Rattle.std.proofs.Common.{option_map, sym, ap, subst, inl, inr, ◌∙◌}
 use Rattle.std.specs.Prelude.{IsTrue}
 use Rattle.std.specs.List.{AllByRecursion}
 use Rattle.std.proofs.lemmas.Bool.{false≢true}
+use Rattle.std.proofs.lemmas.Option.{slice_get-map}
 use Rattle.am_universe.specs.declared.place.Place.{Place}
 use Rattle.am_universe.specs.Universe.{Label, IsLabel, IsUniverse, names, is_label_name}
-use Rattle.am_universe.proofs.ListLemmas.{AllByRecursion-at}
-use Rattle.am_universe.proofs.Members.{in_at}
+use Rattle.am_universe.proofs.LabelPairLemmas.{at_place}
 use Rattle.am_labels.specs.Matcher.{Condition}
 use Rattle.am_labels.specs.Space.{Space}
 use Rattle.am_json.specs.Pointer.{Refusal}
@@ -21,34 +20,13 @@ use Rattle.am_complete.specs.AskedLabel.{AskedLabel}
 use Rattle.am_complete.specs.LabelState.{IsSoAt, IsSoIfNamed, reported_names}
 use Rattle.am_complete.proofs.CompleteUniverses.{space_complete_without_matchers}
 use Rattle.am_complete.proofs.Pushed.{got_front}
+use Rattle.am_every_alert.proofs.OptionParts.{mapped}
 use Rattle.am_reports.specs.Configurations.{Configurations, routing_conditions}
 use Rattle.am_reports.specs.Configurations.{labels_of_routes, first_place}
 use Rattle.am_reports.specs.Made.{AreDeclaredWhole, IsDeclaredRefusal}
 use Rattle.am_reports.specs.Made.{IsSettledState, IsStateRefusal}
 
 -- ---- The state at a position.
-
-pub there_is : {X : Type 0} (xs : List X) (i : ℕ) → i < length xs
-    → (x : X) × (slice_get xs i ≡ Some x)
-there_is [] i lt = absurd (omega (arith, lt))
-there_is (x ∷ xs) zero lt = (x, refl)
-there_is (x ∷ xs) (suc i) lt = there_is xs i (omega (arith, lt))
-
-all_there : {X : Type 0} (P : X → Type 0) (xs : List X) (i : ℕ) (x : X) → AllByRecursion P xs
-    → slice_get xs i ≡ Some x → P x
-all_there P xs i x all at = AllByRecursion-at P xs x all (in_at xs i x at)
-
-mapped_there : {X Y : Type 0} (f : X → Y) (xs : List X) (i : ℕ) (x : X) → slice_get xs i ≡ Some x
-    → slice_get (map f xs) i ≡ Some (f x)
-mapped_there f [] i x at = cc at
-mapped_there f (y ∷ xs) zero x at = let same : y ≡ x = cc at in ap (λ z. Some (f z)) same
-mapped_there f (y ∷ xs) (suc i) x at = mapped_there f xs i x at
-
-of_mapped : {X Y : Type 0} (f : X → Y) (xs : List X) (i : ℕ) (y : Y)
-    → slice_get (map f xs) i ≡ Some y → (x : X) × (slice_get xs i ≡ Some x) × (f x ≡ y)
-of_mapped f [] i y at = cc at
-of_mapped f (x ∷ xs) zero y at = (x, refl, cc at)
-of_mapped f (x ∷ xs) (suc i) y at = of_mapped f xs i y at
 
 named : (l : Label) → IsLabel l → l.name ≢ []
 named l is none = false≢true (subst (λ (name : List ℕ). IsTrue (is_label_name name)) none is.name)
@@ -63,18 +41,20 @@ pub told_at : (a : Alphabet) (s : Space) (ms : List Condition) (asked : List Ask
     → (state : LabelState) × (slice_get states i ≡ Some state)
     × (string_bytes state.name ≡ l.name) × IsSoAt a s ms asked l.name state.completeness
 told_at a s ms asked states i l is reported each at =
+    let name_of = λ (state : LabelState). string_bytes state.name in
     let name_there = got_front (names s.labels) _ i l.name
-    (mapped_there (λ k. k.name) s.labels i l at) in
-    let found = of_mapped (λ state. string_bytes state.name) states i l.name
-    (subst (λ (ns : List (List ℕ)). slice_get ns i ≡ Some l.name) (sym reported) name_there) in
-    let so = all_there
+    (slice_get-map (λ (k : Label). k.name) s.labels i ∙ ap (option_map (λ (k : Label). k.name)) at) in
+    let found = mapped name_of (slice_get states i) l.name
+    (sym (slice_get-map name_of states i)
+    ∙ subst (λ (ns : List (List ℕ)). slice_get ns i ≡ Some l.name) (sym reported) name_there) in
+    let so = at_place
     (λ state. IsSoIfNamed a s ms asked (string_bytes state.name) state.completeness) states i
     found.0 each found.1 in (
       found.0,
       found.1,
       found.2,
       subst (λ (name : List ℕ). IsSoIfNamed a s ms asked name found.0.completeness) found.2 so
-          (named l (all_there IsLabel s.labels i l is.labels at)),
+          (named l (at_place IsLabel s.labels i l is.labels at)),
     )
 
 -- ---- What follows from it.

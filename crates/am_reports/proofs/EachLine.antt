@@ -1,18 +1,10 @@
 -- One more line in the lines about things.
 use Rattle.std.proofs.Common.{◌≡◌, ◌+◌, ◌≤◌, ℕ, zero, suc, List, [], ◌∷◌, ◌++◌, length, take}
-use Rattle.std.proofs.Common.{Some, slice_get, subst, refl, sym, ap, ◌∙◌, append_assoc, arith}
+use Rattle.std.proofs.Common.{Some, slice_get, subst, sym, ap, ◌∙◌, append_assoc, arith}
 use Rattle.std.specs.List.{AllZip}
 use Rattle.std.proofs.lemmas.List.{take_all, append-nil}
 use Rattle.std.proofs.lemmas.Option.{same_Some}
 use Rattle.am_reports.specs.LintSections.{each_line}
-
--- there are as many findings as things
-pub same_length : {X F : Type 0} (R : X → F → Type 0) (xs : List X) (found : List F)
-    → AllZip R xs found → length found ≡ length xs
-same_length R [] [] all = refl
-same_length R [] (g ∷ found) all = absurd all
-same_length R (x ∷ xs) [] all = absurd all
-same_length R (x ∷ xs) (g ∷ found) all = ap suc (same_length R xs found all.1)
 
 pub zip_at : {X F : Type 0} (R : X → F → Type 0) (xs : List X) (found : List F) (i : ℕ) (x : X)
     (finding : F) → AllZip R xs found → slice_get xs i ≡ Some x → slice_get found i ≡ Some finding

@@ -1,4 +1,3 @@
-pub mod RoutesAsked
 pub mod DeclaredStates
 pub mod Origins
 pub mod StageLemmas

@@ -5,7 +5,7 @@ use Rattle.am_labels.specs.Space.{Space}
 use Rattle.am_json.specs.Pointer.{Refusal}
 use Rattle.am_eval.specs.World.{World}
 use Rattle.am_eval.specs.Faults.{Stage, IsFirstFaultOfCall}
-use Rattle.am_eval.proofs.FirstFaults.{first_of_more, first_behind_world}
+use Rattle.am_eval.proofs.FirstFaults.{first_behind_world}
 use Rattle.am_classes.specs.declared.alphabet.Alphabet.{Alphabet}
 use Rattle.am_classes.specs.declared.alphabet.Alphabet.TheVariants.{Ascii}
 use Rattle.am_lint.specs.Findings.{alphabet_of}
@@ -13,13 +13,13 @@ use Rattle.am_reports.specs.Configurations.{Configurations, One}
 use Rattle.am_reports.specs.ReportInputs.{report_places}
 use Rattle.am_reports.specs.LintInputs.{LintInputs, AcceptsLintInputs, AcceptsLint}
 use Rattle.am_reports.specs.LintInputs.{lint_input_stages}
-use Rattle.am_reports.specs.LaterStages.{declared_stages, made_stages, AcceptsWhole}
+use Rattle.am_reports.specs.LaterStages.{made_stages, AcceptsWhole}
 use Rattle.am_reports.specs.LintSections.{IsRulesRefusal, IsSilencesRefusal}
 use Rattle.am_reports.specs.Linting.{later_stages, finding_stages}
 use Rattle.am_reports.specs.Made.{IsDeclaredRefusal, IsRoutesRefusal, AreDeclaredWhole}
 use Rattle.am_idle.specs.Lists.{undeclared}
-use Rattle.am_reports.proofs.StageLemmas.{declared_first, made_first, first_behind_declared}
-use Rattle.am_reports.proofs.StageLemmas.{first_behind_made}
+use Rattle.am_reports.proofs.StageLemmas.{declared_first, made_first, behind_declared}
+use Rattle.am_reports.proofs.StageLemmas.{behind_made}
 
 module _ (inputs : LintInputs) (s : Space) (w : World) (place : Place) (r : Refusal)
     (accepts : AcceptsLintInputs inputs s w) where
@@ -49,39 +49,39 @@ module _ (inputs : LintInputs) (s : Space) (w : World) (place : Place) (r : Refu
   abbrev findings : List Stage
   findings = finding_stages inputs
 
-  abbrev behind_declared : List Stage
-  behind_declared = every ++ (ordinary ++ findings)
-
   said : says s (One w.config)
   said = (w, accepts, refl)
 
   -- a label that the universe file declares is refused
   pub declared_refused : IsDeclaredRefusal a s (One w.config) place r
       → IsFirstFaultOfCall (later_stages inputs) place r
-  declared_refused refused =
-      first_of_more (declared_stages says report_places a) behind_declared place r
-      (declared_first says a s (One w.config) place r said refused)
+  declared_refused =
+      declared_first says a (every ++ (ordinary ++ findings)) place r s (One w.config) said
 
   module _ (whole : AreDeclaredWhole a s (One w.config) s.labels) where
+    behind_checks : IsFirstFaultOfCall (every ++ (ordinary ++ findings)) place r
+        → IsFirstFaultOfCall (later_stages inputs) place r
+    behind_checks =
+        behind_declared says a (every ++ (ordinary ++ findings)) place r report_places
+
     -- no universe is made for every alert, or none for ordinary ones
-    pub routes_refused : IsRoutesRefusal inputs.ascii s w.config place r
+    pub routes_refused : IsRoutesRefusal inputs.ascii s.impossible w.config place r
         → IsFirstFaultOfCall (later_stages inputs) place r
     routes_refused (inl refused) =
-        first_behind_declared says report_places a behind_declared place r
-        (first_of_more every (ordinary ++ findings) place r
-        (made_first whole_too a s (One w.config) place r (said, whole) refused))
+        behind_checks
+        (made_first whole_too a (ordinary ++ findings) place r s (One w.config) (said, whole)
+        refused)
     routes_refused (inr refused) =
-        first_behind_declared says report_places a behind_declared place r
-        (first_behind_made whole_too report_places a (ordinary ++ findings) place r
-        (first_of_more ordinary findings place r
-        (made_first whole_too Ascii s (One w.config) place r (said, whole) refused)))
+        behind_checks
+        (behind_made whole_too a (ordinary ++ findings) place r report_places
+        (made_first whole_too Ascii findings place r s (One w.config) (said, whole) refused))
 
     behind_all : IsFirstFaultOfCall findings place r
         → IsFirstFaultOfCall (later_stages inputs) place r
     behind_all first =
-        first_behind_declared says report_places a behind_declared place r
-        (first_behind_made whole_too report_places a (ordinary ++ findings) place r
-        (first_behind_made whole_too report_places Ascii findings place r first))
+        behind_checks
+        (behind_made whole_too a (ordinary ++ findings) place r report_places
+        (behind_made whole_too Ascii findings place r report_places first))
 
     -- a rule is refused
     pub rules_refused : IsRulesRefusal a (undeclared s) w.config.rules place r

@@ -9,7 +9,7 @@ use Rattle.am_universe.specs.Text.{same_text}
 use Rattle.am_universe.proofs.DistinctLists.{all_push}
 use Rattle.am_universe.proofs.ListLemmas.{AllByRecursion-at, IsIn, IsIn-from_Contains}
 use Rattle.am_labels.specs.Matcher.{Condition}
-use Rattle.am_config.specs.ConfigFile.{Configuration, RouteTree, matchers_of}
+use Rattle.am_config.specs.ConfigFile.{Configuration, matchers_of}
 use Rattle.am_config.specs.RoutePaths.{all_routes}
 use Rattle.am_complete.specs.declared.origin.Origin.{Origin}
 use Rattle.am_complete.specs.declared.origin.Origin.TheVariants as origin_is
@@ -25,10 +25,8 @@ use Rattle.am_reports.specs.CompareInputs.{compare_places}
 -- a matcher stands in a route, or in an impossible list
 abbrev IsOfRoutes : Origin → Type 0
 IsOfRoutes (origin_is.Route path) = ⊤
-IsOfRoutes (origin_is.Rule position) = ⊥
-IsOfRoutes (origin_is.Silence position) = ⊥
-IsOfRoutes (origin_is.Question position) = ⊥
 IsOfRoutes (origin_is.Impossible position) = ⊤
+IsOfRoutes _ = ⊥
 
 -- ---- A label keeps where it is first asked of.
 
@@ -81,27 +79,23 @@ module _ (P : Origin → Type 0) where
   at_one o [] here = tt
   at_one o (m ∷ ms) here = (here, at_one o ms here)
 
+  all_joined : {X : Type 0} (f : X → List (Origin × Condition)) → ((x : X) → AllPlaced (f x))
+      → (xs : List X) → AllPlaced (flat_map f xs)
+  all_joined f each [] = tt
+  all_joined f each (x ∷ xs) =
+      both_placed (f x) (flat_map f xs) (each x) (all_joined f each xs)
+
 -- ---- Routes, and impossible lists.
 
-in_routes : (found : List (List ℕ × RouteTree))
-    → AllPlaced IsOfRoutes (flat_map placed_by_route found)
-in_routes [] = tt
-in_routes (route ∷ found) =
-    both_placed IsOfRoutes (placed_by_route route) (flat_map placed_by_route found)
-    (at_one IsOfRoutes (origin_is.Route route.0) (matchers_of route.1) tt) (in_routes found)
-
-in_lists : (lists : List (ℕ × List Condition))
-    → AllPlaced IsOfRoutes (flat_map placed_in_list lists)
-in_lists [] = tt
-in_lists (list ∷ lists) =
-    both_placed IsOfRoutes (placed_in_list list) (flat_map placed_in_list lists)
-    (at_one IsOfRoutes (origin_is.Impossible list.0) list.1 tt) (in_lists lists)
-
 of_routes : (c : Configuration) → AllPlaced IsOfRoutes (placed_in_routes c)
-of_routes c = in_routes (all_routes c)
+of_routes c =
+    all_joined IsOfRoutes placed_by_route
+    (λ route. at_one IsOfRoutes (origin_is.Route route.0) (matchers_of route.1) tt) (all_routes c)
 
 of_lists : (lists : List (List Condition)) → AllPlaced IsOfRoutes (placed_in_lists lists)
-of_lists lists = in_lists (enumerate_from 0 lists)
+of_lists lists =
+    all_joined IsOfRoutes placed_in_list
+    (λ list. at_one IsOfRoutes (origin_is.Impossible list.0) list.1 tt) (enumerate_from 0 lists)
 
 labels_placed : (k : Configurations) (lists : List (List Condition))
     → AllFirst IsOfRoutes (labels_of_routes k lists)
@@ -130,15 +124,10 @@ old_or_new false = inr (inl refl)
 in_places : (k : Configurations) (name : List ℕ) (o : Origin) → IsOfRoutes o
     → IsIn (places_of k) (first_place k name o)
 in_places (One c) name (origin_is.Route path) of = inl refl
-in_places (One c) name (origin_is.Rule position) of = absurd of
-in_places (One c) name (origin_is.Silence position) of = absurd of
-in_places (One c) name (origin_is.Question position) of = absurd of
 in_places (One c) name (origin_is.Impossible position) of = inr (inl refl)
 in_places (Pair old new) name (origin_is.Route path) of = old_or_new (asks_of old name)
-in_places (Pair old new) name (origin_is.Rule position) of = absurd of
-in_places (Pair old new) name (origin_is.Silence position) of = absurd of
-in_places (Pair old new) name (origin_is.Question position) of = absurd of
 in_places (Pair old new) name (origin_is.Impossible position) of = inr (inr (inl refl))
+in_places k name o of = absurd of
 
 pub in_files : (k : Configurations) (lists : List (List Condition)) (l : AskedLabel)
     → Contains (labels_of_routes k lists) l → IsIn (places_of k) (first_place k l.name l.first)

@@ -1,79 +1,47 @@
 -- The outcomes of a space that stands for the alerts that count are those of these alerts.
-use Rattle.std.proofs.Common.{◌≡◌, Bool, ℕ, List, [], ◌∷◌, map, Contains, refl, sym, subst, ◌∙◌}
-use Rattle.std.proofs.Common.{Result, Ok, Err, IfErr, OnOk}
+use Rattle.std.proofs.Common.{◌≡◌, Bool, ℕ, List, [], ◌∷◌, ◌++◌, map, Contains, refl}
+use Rattle.std.proofs.Common.{sym, subst, ◌∙◌}
 use Rattle.std.specs.Cmp.Lexicographic.{bytes_decides}
 use lib.Pointwise.{pointwise_decides}
-use Rattle.am_universe.specs.declared.kind.Kind.TheVariants as kinds
 use Rattle.am_universe.specs.Universe.{Label}
 use Rattle.am_universe.specs.LabelSet.{LabelMap, label_set_of}
 use Rattle.am_universe.proofs.ListLemmas.{IsIn, IsIn-map, IsIn-unmap, IsIn-from_Contains}
 use Rattle.am_universe.proofs.ListLemmas.{Contains-from_IsIn, AllByRecursion-each}
-use Rattle.am_labels.specs.Matcher.{Condition}
 use Rattle.am_labels.specs.Space.{Space, all_choices}
 use Rattle.am_labels.proofs.SpaceLaws.{space_choices}
-use Rattle.am_json.specs.Pointer.{Refusal, refusal_here}
-use Rattle.am_config.specs.ConfigFile.{Configuration}
-use Rattle.am_classes.specs.declared.alphabet.Alphabet.{Alphabet}
 use Rattle.am_complete.specs.Complete.{impossible_conditions}
 use Rattle.am_asked.specs.Asked.{route_conditions}
 use Rattle.am_every_alert.specs.EveryAlert.{MeetsTheSame}
-use Rattle.am_every_alert.specs.Deciding.{coverage_conditions}
 use Rattle.am_every_alert.proofs.UniverseAlerts.{universe_alert}
 use Rattle.am_every_alert.proofs.SpaceAlerts.{space_choice}
 use Rattle.am_every_alert.proofs.SameFate.{front_met, rest_met, same_receivers, same_possible}
 use Rattle.am_lint.specs.Findings.{alphabet_of, Counts}
 use Rattle.am_outcomes.specs.Outcomes.{fate, same_fate, with_fate, outcomes_of}
-use Rattle.am_outcomes.specs.Ways.{HaveManyWays}
 use Rattle.am_outcomes.proofs.FirstsLemmas.{Decides, first_is_one, first_of_key, firsts_apart}
 use Rattle.am_reports.specs.Configurations.{Configurations, One, Pair, each_of}
-use Rattle.am_reports.specs.Configurations.{routing_conditions}
+use Rattle.am_reports.specs.Configurations.{conditions_of_routes, space_of}
 use Rattle.am_reports.specs.Made.{StandsForAll}
-use Rattle.am_reports.specs.LaterStages.{TooManyWaysFor}
 use Rattle.am_reports.specs.AllOutcomes.{AreAllOutcomes, IsOutcome, fates}
-use Rattle.am_reports.proofs.RoutesAsked.{stands_as}
 
--- a space with these labels and these impossible lists
-abbrev pub beside : List (List Condition) → List Label → Space
-beside lists u = record { labels = u; impossible = lists }
-
-pub fate_decides : Decides same_fate
+fate_decides : Decides same_fate
 fate_decides = pointwise_decides bytes_decides
 
--- ---- What meets the same of the matchers has the same fate.
-
-module _ (s : Space) (set alert : LabelMap) where
-  one_met : (c : Configuration) → MeetsTheSame (coverage_conditions s c) set alert
-      → fate (c ∷ []) set ≡ fate (c ∷ []) alert
-  one_met c met =
-      let routes = route_conditions c.root in
-      let lists = impossible_conditions s.impossible in
-      let same = same_receivers set alert c (front_met set alert routes lists met) in
-      λ i. same i ∷ []
-
-  fate_met : (k : Configurations) → MeetsTheSame (routing_conditions s k) set alert
-      → fate (each_of k) set ≡ fate (each_of k) alert
-  fate_met (One c) met = one_met c met
-  fate_met (Pair old new) met =
-      let routes = route_conditions old.root in
-      let behind = coverage_conditions s new in
-      let first = same_receivers set alert old (front_met set alert routes behind met) in
-      let second = one_met new (rest_met set alert routes behind met) in
-      λ i. first i ∷ second i
-
-  lists_met : (k : Configurations) → MeetsTheSame (routing_conditions s k) set alert
-      → MeetsTheSame (impossible_conditions s.impossible) set alert
-  lists_met (One c) met =
-      rest_met set alert (route_conditions c.root) (impossible_conditions s.impossible) met
-  lists_met (Pair old new) met =
-      rest_met set alert (route_conditions new.root) (impossible_conditions s.impossible)
-      (rest_met set alert (route_conditions old.root) (coverage_conditions s new) met)
-
--- ---- The outcomes.
+-- what meets the same of the matchers of the routes has the same fate
+fate_met : (k : Configurations) (set alert : LabelMap)
+    → MeetsTheSame (conditions_of_routes k) set alert
+    → fate (each_of k) set ≡ fate (each_of k) alert
+fate_met (One c) set alert met = λ i. same_receivers set alert c met i ∷ []
+fate_met (Pair old new) set alert met =
+    let before = route_conditions old.root in
+    let after = route_conditions new.root in
+    let first = same_receivers set alert old (front_met set alert before after met) in
+    let second = same_receivers set alert new (rest_met set alert before after met) in
+    λ i. first i ∷ second i ∷ []
 
 module _ (ascii : Bool) (s : Space) (k : Configurations) (u : List Label)
-    (stands : StandsForAll (alphabet_of ascii) s k u) where
+    (stands : StandsForAll (alphabet_of ascii) s.impossible k u) where
   abbrev made : Space
-  made = beside s.impossible u
+  made = space_of s.impossible u
 
   abbrev with_fates : List (List (List ℕ) × List ℕ)
   with_fates = map (with_fate made (each_of k)) (all_choices made)
@@ -95,15 +63,16 @@ module _ (ascii : Bool) (s : Space) (k : Configurations) (u : List Label)
       → (choice : List ℕ) × IsIn (all_choices made) choice
       × (fate (each_of k) (label_set_of u choice) ≡ fate (each_of k) alert)
   choice_of alert counts =
-      let ms = routing_conditions made k in
-      let r = space_choice (alphabet_of ascii) made ms alert stands.universe stands.complete counts
-      in
+      let routes = conditions_of_routes k in
+      let lists = impossible_conditions s.impossible in
+      let r = space_choice (alphabet_of ascii) made (routes ++ lists) alert stands.universe
+      stands.complete counts in
       let set = label_set_of u r.0 in
-      let possible = same_possible set alert s.impossible (lists_met made set alert k r.2) in
+      let possible = same_possible set alert s.impossible (rest_met set alert routes lists r.2) in
       let there = (space_choices made r.0).1 (r.1, possible ∙ counts.1) in (
         r.0,
         IsIn-from_Contains (all_choices made) r.0 there,
-        fate_met made set alert k r.2,
+        fate_met k set alert (front_met set alert routes lists r.2),
       )
 
   has_fate : (alert : LabelMap) → Counts ascii s alert
@@ -132,40 +101,3 @@ module _ (ascii : Bool) (s : Space) (k : Configurations) (u : List Label)
         once = firsts_apart same_fate fate_decides with_fates;
       } in
       subst (AreAllOutcomes ascii s k u) (sym order) all
-
--- ---- Of a space with the same impossible lists.
-
-pub outcomes_over : (ascii : Bool) (k : Configurations) (s t : Space)
-    (outcomes : List (List (List ℕ) × List ℕ)) → t.impossible ≡ s.impossible
-    → StandsForAll (alphabet_of ascii) s k t.labels → outcomes ≡ outcomes_of t (each_of k)
-    → AreAllOutcomes ascii s k t.labels outcomes
-outcomes_over ascii k s t outcomes same stands is =
-    outcomes_are ascii s k t.labels stands outcomes
-    (subst
-    (λ (lists : List (List Condition)). outcomes ≡ outcomes_of (beside lists t.labels) (each_of k))
-    same is)
-
--- there are more ways through the routes than there is room for
-pub too_many : (a : Alphabet) (k : Configurations) (s o t : Space) (u : List Label) (r : Refusal)
-    → o.impossible ≡ s.impossible → t.impossible ≡ o.impossible → t.labels ≡ u
-    → StandsForAll a o k u → HaveManyWays t (each_of k) → r ≡ refusal_here kinds.Limit
-    → TooManyWaysFor a s k r
-too_many a k s o t u r first second labels stands many refusal = record {
-  labels = t.labels;
-  stands = subst (StandsForAll a s k) (sym labels) (stands_as a k o s u first stands);
-  many = subst
-      (λ (lists : List (List Condition)). HaveManyWays (beside lists t.labels) (each_of k))
-      (second ∙ first) many;
-  refusal = refusal;
-}
-
--- ---- What follows of a result.
-
-pub on_ok : {A E : Type 0} (r : Result A E) {P : Type 0} → P → OnOk r P
-on_ok (Ok a) is = is
-on_ok (Err e) is = tt
-
-pub if_err_more : {A E : Type 0} (r : Result A E) (P Q : E → Type 0) → ((e : E) → P e → Q e)
-    → IfErr r P → IfErr r Q
-if_err_more (Ok a) P Q more is = tt
-if_err_more (Err e) P Q more is = more e is

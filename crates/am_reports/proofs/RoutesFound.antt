@@ -8,7 +8,6 @@ use Rattle.std.specs.List.{AllByRecursion, AllZip}
 use Rattle.std.proofs.lemmas.List.{with_items_is}
 use Rattle.std.proofs.lemmas.List.Elements.{length_all_zip}
 use Rattle.am_universe.specs.Universe.{Label}
-use Rattle.am_labels.specs.Matcher.{Condition}
 use Rattle.am_labels.specs.Space.{Space}
 use Rattle.am_config.specs.ConfigFile.{Configuration}
 use Rattle.am_config.specs.RoutePaths.{all_routes}
@@ -19,7 +18,7 @@ use Rattle.am_lint.specs.FoundView.{IsFoundIn, IsLookedAt, IsSameButEvery}
 use Rattle.am_lint.proofs.Transfer.{StandsForAlerts}
 use Rattle.am_lint.proofs.FoundLemmas.{IsFoundSo}
 use Rattle.am_lint.proofs.FoundOver.{found_over_ascii, found_over_unicode}
-use Rattle.am_reports.specs.Configurations.{One}
+use Rattle.am_reports.specs.Configurations.{One, space_of}
 use Rattle.am_reports.specs.Made.{StandsForAll}
 
 -- what is found about each route is true, with choices of some labels and, for every alert, of
@@ -33,16 +32,15 @@ abbrev pub IsSpaceWith : Space → List Label → Space → Type 0
 IsSpaceWith s u o = (o.labels ≡ u) × (o.impossible ≡ s.impossible)
 
 stands : (a : Alphabet) (s o : Space) (c : Configuration) (u : List Label)
-    → StandsForAll a s (One c) u → IsSpaceWith s u o → StandsForAlerts a o c
+    → StandsForAll a s.impossible (One c) u → IsSpaceWith s u o → StandsForAlerts a o c
 stands a s o c u h is =
-    let Stands = λ (labels : List Label) (lists : List (List Condition)).
-    StandsForAlerts a (record { labels = labels; impossible = lists }) c in
-    subst (λ (x : List Label). Stands x o.impossible) (sym is.0)
-    (subst (λ (x : List (List Condition)). Stands u x) (sym is.1)
-    (record { universe = h.universe; complete = h.complete; over = h.over }))
+    let same : space_of s.impossible u ≡ o =
+    λ i. record { labels = sym is.0 i; impossible = sym is.1 i } in
+    subst (λ (t : Space). StandsForAlerts a t c) same
+    (record { universe = h.universe; complete = h.complete; over = h.over })
 
-module _ (s o : Space) (c : Configuration) (u : List Label) (over : StandsForAll Ascii s (One c) u)
-    (is : IsSpaceWith s u o) where
+module _ (s o : Space) (c : Configuration) (u : List Label)
+    (over : StandsForAll Ascii s.impossible (One c) u) (is : IsSpaceWith s u o) where
   pub found_ordinary : (every : Option (List Label)) (v : List Label) (found : List FoundRoute)
       → every ≡ None → AllZip (IsFoundIn o c) (all_routes c) found
       → AllByRecursion (λ route. route.every ≡ None) found
@@ -53,12 +51,12 @@ module _ (s o : Space) (c : Configuration) (u : List Label) (over : StandsForAll
 
   pub found_every : (every : Option (List Label)) (v : List Label) (e : Space)
       (old : Vec FoundRoute Global) (new : List FoundRoute) → every ≡ Some v
-      → IfSome every (StandsForAll Unicode s (One c)) → IsSpaceWith s v e
+      → IfSome every (StandsForAll Unicode s.impossible (One c)) → IsSpaceWith s v e
       → AllZip (IsFoundIn o c) (all_routes c) old.items → AllZip IsSameButEvery old.items new
       → AllByRecursion (λ route. IsLookedAt e c route.path route.ordinary route.every) new
       → AreFoundSo (is_none every) s e.labels c (with_items old new).items
   found_every every v e old new some all at so same looked =
-      let stands_all : StandsForAll Unicode s (One c) v = rw some at all in
+      let stands_all : StandsForAll Unicode s.impossible (One c) v = rw some at all in
       let long : length new ≡ old.len =
       sym (length_all_zip IsSameButEvery old.items new same) ∙ sym old.ok.0 in
       let found : AreFoundSo false s e.labels c new = (

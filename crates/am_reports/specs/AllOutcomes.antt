@@ -8,7 +8,7 @@ use Rattle.am_labels.specs.Space.{Space}
 use Rattle.am_config.specs.ConfigFile.{Configuration}
 use Rattle.am_lint.specs.Findings.{alphabet_of, Counts}
 use Rattle.am_outcomes.specs.Outcomes.{fate, same_fate, outcomes_of}
-use Rattle.am_reports.specs.Configurations.{Configurations, each_of}
+use Rattle.am_reports.specs.Configurations.{Configurations, each_of, space_of}
 use Rattle.am_reports.specs.Made.{StandsForAll}
 
 -- The label set that is shown for an outcome is that of an alert that counts, and it has the fate
@@ -33,9 +33,8 @@ fates outcomes = map (λ outcome. outcome.0) outcomes
 -- other is 1, shown with `{team="db"}`.
 pub record AreAllOutcomes (ascii : Bool) (s : Space) (k : Configurations) (labels : List Label)
     (outcomes : List (List (List ℕ) × List ℕ)) : Type 0 where
-  pub stands : StandsForAll (alphabet_of ascii) s k labels
-  pub order :
-      outcomes ≡ outcomes_of (record { labels = labels; impossible = s.impossible }) (each_of k)
+  pub stands : StandsForAll (alphabet_of ascii) s.impossible k labels
+  pub order : outcomes ≡ outcomes_of (space_of s.impossible labels) (each_of k)
   pub each : AllByRecursion (IsOutcome ascii s labels (each_of k)) outcomes
   pub all : (alert : LabelMap) → Counts ascii s alert
       → Contains (fates outcomes) (fate (each_of k) alert)

@@ -4,16 +4,17 @@ use Rattle.std.specs.List.{list_any}
 use Rattle.am_universe.specs.declared.place.Place.{Place}
 use Rattle.am_universe.specs.declared.place.Place.TheVariants as places
 use Rattle.am_universe.specs.Text.{same_text}
+use Rattle.am_universe.specs.Universe.{Label}
 use Rattle.am_labels.specs.Matcher.{Condition}
 use Rattle.am_labels.specs.Space.{Space}
 use Rattle.am_config.specs.ConfigFile.{Configuration}
 use Rattle.am_complete.specs.declared.origin.Origin.{Origin}
 use Rattle.am_complete.specs.declared.origin.Origin.TheVariants as origin_is
 use Rattle.am_complete.specs.AskedLabel.{AskedLabel, asked_labels}
+use Rattle.am_complete.specs.Complete.{impossible_conditions}
 use Rattle.am_asked.specs.Asked.{route_conditions}
 use Rattle.am_asked.specs.Placed.{placed_in_routes, placed_in_lists}
 use Rattle.am_universe_command.specs.Universes.{origin_place}
-use Rattle.am_every_alert.specs.Deciding.{coverage_conditions}
 
 -- One configuration, or an old one and a new one that is compared with it.
 pub data Configurations : Type 0 where
@@ -25,14 +26,22 @@ abbrev pub each_of : Configurations → List Configuration
 each_of (One c) = c ∷ []
 each_of (Pair old new) = old ∷ new ∷ []
 
+-- The space with some labels, in which some lists are impossible.
+abbrev pub space_of : List (List Condition) → List Label → Space
+space_of lists u = record { labels = u; impossible = lists }
+
+-- The matchers of the routes of each configuration.
+abbrev pub conditions_of_routes : Configurations → List Condition
+conditions_of_routes (One c) = route_conditions c.root
+conditions_of_routes (Pair old new) = route_conditions old.root ++ route_conditions new.root
+
 -- The matchers that decide to which receivers a label set goes under each configuration, and
 -- whether it is possible: those of the routes, and those of the impossible lists.
 -- Source: own choice.
 -- Example: if the routes of an old configuration ask for `team="db"`, those of a new one ask for
 -- `team="web"`, and nothing is impossible, they are these two matchers.
 abbrev pub routing_conditions : Space → Configurations → List Condition
-routing_conditions s (One c) = coverage_conditions s c
-routing_conditions s (Pair old new) = route_conditions old.root ++ coverage_conditions s new
+routing_conditions s k = conditions_of_routes k ++ impossible_conditions s.impossible
 
 -- The labels that the routes and the impossible lists ask about, each with what first asks about
 -- it.

@@ -69,7 +69,7 @@ pub record IsLintReport (inputs : LintInputs) (s : Space) (w : World) (findings 
     (report : List ℕ) : Type 0 where
   pub routes : Section
   pub says_of_routes :
-      SaysOfRoutes inputs.ascii s w.config routes.findings routes.notes routes.lines
+      SaysOfRoutes inputs.ascii (undeclared s) w.config routes.findings routes.notes routes.lines
   pub rules : Section
   pub says_of_rules :
       SaysOfRules (alphabet_of inputs.ascii) (undeclared s) w.config.rules rules

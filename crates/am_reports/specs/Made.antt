@@ -7,6 +7,7 @@ use Rattle.am_universe.specs.declared.kind.Kind.TheVariants as kinds
 use Rattle.am_universe.specs.declared.place.Place.{Place}
 use Rattle.am_universe.specs.declared.place.Place.TheVariants as places
 use Rattle.am_universe.specs.Universe.{Label, IsUniverse}
+use Rattle.am_labels.specs.Matcher.{Condition}
 use Rattle.am_labels.specs.Space.{Space}
 use Rattle.am_json.specs.Pointer.{Refusal, refusal_here}
 use Rattle.am_config.specs.ConfigFile.{Configuration}
@@ -23,32 +24,29 @@ use Rattle.am_classes.specs.Alike.{HasPattern}
 use Rattle.am_universe_command.specs.CheckText.{origin_pointer}
 use Rattle.am_universe_command.specs.Universes.{HaveRoomBut}
 use Rattle.am_lint.specs.Findings.{alphabet_of}
-use Rattle.am_idle.specs.Lists.{undeclared}
-use Rattle.am_reports.specs.Configurations.{Configurations, One, routing_conditions}
-use Rattle.am_reports.specs.Configurations.{labels_of_routes, first_place}
+use Rattle.am_reports.specs.Configurations.{Configurations, One, space_of}
+use Rattle.am_reports.specs.Configurations.{routing_conditions, labels_of_routes, first_place}
 
--- A universe stands for every alert over an alphabet, with the impossible lists of a space: it is
+-- A universe stands for every alert over an alphabet that no impossible list matches: it is
 -- complete for the matchers of the routes and of these lists, its texts are over the alphabet, and
 -- it has nothing that is not needed for that.
 -- Source: own choice.
 -- Example: for one route with `team="db"`, the universe in which `team` may be absent or `db` does
 -- so over each alphabet. It does not if `team` may also be `web`.
-pub record StandsForAll (a : Alphabet) (s : Space) (k : Configurations) (u : List Label)
-    : Type 0 where
+pub record StandsForAll (a : Alphabet) (lists : List (List Condition)) (k : Configurations)
+    (u : List Label) : Type 0 where
   pub universe : IsUniverse u
-  pub complete : let made : Space = record { labels = u; impossible = s.impossible } in
-      IsSpaceComplete a made (routing_conditions made k)
+  pub complete : IsSpaceComplete a (space_of lists u) (routing_conditions (space_of lists u) k)
   pub over : HasTextsOver a u
-  pub adds : let made : Space = record { labels = u; impossible = s.impossible } in
-      AddsNeeded a (undeclared s) (routing_conditions made k) u
+  pub adds : AddsNeeded a (space_of lists []) (routing_conditions (space_of lists u) k) u
 
 -- No universe is made, since there is no room for the labels that are asked about.
 -- Source: own choice.
 -- Example: this is so if 65 routes ask about 65 labels, each with one matcher `=`.
-abbrev pub NoRoomFor : Alphabet → Space → Configurations → Refusal → Type 0
-NoRoomFor a s k r =
-    HaveNoRoom a (undeclared s) (labels_of_routes k s.impossible)
-    × (r ≡ refusal_here kinds.Limit)
+abbrev pub NoRoomFor :
+    Alphabet → List (List Condition) → Configurations → Refusal → Type 0
+NoRoomFor a lists k r =
+    HaveNoRoom a (space_of lists []) (labels_of_routes k lists) × (r ≡ refusal_here kinds.Limit)
 
 -- No universe is made, since some labels are unproved, though there is room for the others. The
 -- refusal is at the file of the first matcher on the first of these labels, and points to the route
@@ -56,15 +54,15 @@ NoRoomFor a s k r =
 -- Source: own choice.
 -- Example: over Unicode, if the first child of the top-level route has `team=~"\bdb"`, and no
 -- matcher before it is on `team`, the pointer is `/route/routes/0`.
-pub record UnprovedFor (a : Alphabet) (s : Space) (k : Configurations) (place : Place)
-    (r : Refusal) : Type 0 where
+pub record UnprovedFor (a : Alphabet) (lists : List (List Condition)) (k : Configurations)
+    (place : Place) (r : Refusal) : Type 0 where
   pub unproved : List ℕ
-  pub labels : AreUnproved a (undeclared s) (labels_of_routes k s.impossible) unproved
-  pub room : HaveRoomBut a (undeclared s) (labels_of_routes k s.impossible) unproved
+  pub labels : AreUnproved a (space_of lists []) (labels_of_routes k lists) unproved
+  pub room : HaveRoomBut a (space_of lists []) (labels_of_routes k lists) unproved
   pub position : ℕ
   pub first : slice_get unproved 0 ≡ Some position
   pub label : AskedLabel
-  pub asked : slice_get (labels_of_routes k s.impossible) position ≡ Some label
+  pub asked : slice_get (labels_of_routes k lists) position ≡ Some label
   pub stands : place ≡ first_place k label.name label.first
   pub refusal : r ≡ record { kind = kinds.Unproved; pointer = origin_pointer label.first }
 
@@ -112,18 +110,21 @@ pub record UndecidedFor (a : Alphabet) (s : Space) (k : Configurations) (place :
   pub refusal : r ≡ record { kind = kinds.Unproved; pointer = origin_pointer asked.first }
 
 -- What is to be made, or what is declared, is refused at this place for one of these reasons.
-abbrev pub IsMadeRefusal : Alphabet → Space → Configurations → Place → Refusal → Type 0
-IsMadeRefusal a s k place r =
-    ((place ≡ places.Universe) × NoRoomFor a s k r) ⊎ UnprovedFor a s k place r
+abbrev pub IsMadeRefusal :
+    Alphabet → List (List Condition) → Configurations → Place → Refusal → Type 0
+IsMadeRefusal a lists k place r =
+    ((place ≡ places.Universe) × NoRoomFor a lists k r) ⊎ UnprovedFor a lists k place r
 
 abbrev pub IsDeclaredRefusal : Alphabet → Space → Configurations → Place → Refusal → Type 0
 IsDeclaredRefusal a s k place r =
     ((place ≡ places.Universe) × IncompleteFor a s k r) ⊎ UndecidedFor a s k place r
 
 -- No universe is made for the alerts that count, or none for ordinary alerts.
-abbrev pub IsRoutesRefusal : Bool → Space → Configuration → Place → Refusal → Type 0
-IsRoutesRefusal ascii s c place r =
-    IsMadeRefusal (alphabet_of ascii) s (One c) place r ⊎ IsMadeRefusal Ascii s (One c) place r
+abbrev pub IsRoutesRefusal :
+    Bool → List (List Condition) → Configuration → Place → Refusal → Type 0
+IsRoutesRefusal ascii lists c place r =
+    IsMadeRefusal (alphabet_of ascii) lists (One c) place r
+    ⊎ IsMadeRefusal Ascii lists (One c) place r
 
 -- Whether a label is known to lack no value, by its state; and how it is refused, by its state.
 abbrev pub IsSettledState : Completeness → Type 0

@@ -6,18 +6,18 @@
 //! choice is an alert. The labels are in the order in which the files first ask about them, the
 //! old configuration before the new one.
 
-ghost use Rattle.std.specs.Prelude.{◌≡◌, ◌≢◌, IfOk, IfErr, OnOk, option_copied};
+ghost use Rattle.std.specs.Prelude.{◌≡◌, ◌≢◌, IfOk, IfErr, OnOk};
 ghost use Rattle.am_universe.specs.declared.kind.Kind.TheVariants as kinds;
 ghost use Rattle.am_universe.specs.declared.place.Place.TheVariants as places;
 ghost use Rattle.am_json.specs.Pointer.{refusal_here};
 ghost use Rattle.am_json.specs.Reading.{refusal_of};
-ghost use Rattle.am_universe_command.specs.UniverseInputs.{SaysUniverseIfAny};
 ghost use Rattle.am_lint.specs.Findings.{alphabet_of};
 ghost use Rattle.am_outcomes.specs.Outcomes.{outcomes_of};
 ghost use Rattle.am_outcomes.specs.Ways.{HaveManyWays};
 ghost use Rattle.am_reports.specs.Configurations.{each_of};
 ghost use Rattle.am_reports.specs.ConfigsView.{configurations_of};
-ghost use Rattle.am_reports.specs.Made.{StandsForAll, AreDeclaredWhole};
+ghost use Rattle.am_reports.specs.Made.{AreDeclaredWhole};
+ghost use Rattle.am_reports.specs.AllOutcomes.{AreAllOutcomes};
 ghost use Rattle.am_reports.specs.LaterStages.{IsOutcomesRefusal};
 
 use crate::configs::Configs;
@@ -36,27 +36,19 @@ use std::alloc::Global;
 pub(crate) fn all_outcomes(
     alloc: Global,
     ascii: bool,
-    file: Option<&[u8]>,
     space: &mut Space,
     configs: Configs<'_>,
 ) -> Result<Outcomes, Fault>
-    ensures whole { OnOk result (SaysUniverseIfAny (option_copied file.entry) space.old
-        → AreDeclaredWhole (alphabet_of ascii) space.old (configurations_of configs.entry)
-        space.old.labels) }
-    ensures stands { OnOk result (StandsForAll (alphabet_of ascii) space.old
-        (configurations_of configs.entry) space.new.labels) }
-    ensures impossible { OnOk result (space.new.impossible ≡ space.old.impossible) }
-    ensures outcomes { IfOk result (λ outcomes.
-        outcomes ≡ outcomes_of space.new (each_of (configurations_of configs.entry))) }
+    ensures whole { OnOk result (AreDeclaredWhole (alphabet_of ascii) space.old
+        (configurations_of configs.entry) space.old.labels) }
+    ensures are { IfOk result
+        (AreAllOutcomes ascii space.old (configurations_of configs.entry) space.new.labels) }
     ensures refused { IfErr result (λ fault. fault.kind ≢ kinds.Memory
-        → SaysUniverseIfAny (option_copied file.entry) space.old
         → IsOutcomesRefusal (alphabet_of ascii) space.old (configurations_of configs.entry)
         fault.place (refusal_of fault)) }
 {
     let alphabet = alphabet_of(ascii);
-    if file.is_some() {
-        check_declared(alloc, alphabet, space, configs)?;
-    }
+    check_declared(alloc, alphabet, space, configs)?;
     space.declare(Universe::empty(alloc));
     let universe = universe_for_routes(alloc, alphabet, space, configs)?;
     space.declare(universe);

@@ -1,24 +1,13 @@
 //! The command `compare`.
 
-ghost use Rattle.std.specs.Prelude.{◌≡◌, IfOk, IfErr, OnOk, string_bytes};
-ghost use Rattle.am_config.specs.ConfigView.{config_view};
-ghost use Rattle.am_eval.specs.Faults.{IsFirstFault};
 ghost use Rattle.am_eval.specs.Promise.{IsKept};
-ghost use Rattle.am_lint.specs.Findings.{alphabet_of};
-ghost use Rattle.am_reports.specs.Configurations.{Pair};
-ghost use Rattle.am_reports.specs.CompareInputs.{AcceptsCompareInputs, AcceptsCompare};
-ghost use Rattle.am_reports.specs.CompareInputs.{compare_places};
-ghost use Rattle.am_reports.specs.LaterStages.{outcome_stages};
-ghost use Rattle.am_reports.specs.Made.{AreDeclaredWhole};
-ghost use Rattle.am_reports.specs.Comparing.{compare_promise, IsComparison};
+ghost use Rattle.am_reports.specs.Comparing.{compare_promise};
 
 use crate::CompareInputs;
 use crate::all_outcomes::all_outcomes;
 use crate::compare_inputs::read_compared;
 use crate::configs::Configs;
-use am_config::Config;
-use am_labels::Space;
-use am_outcomes::{Changes, changes_text};
+use am_outcomes::changes_text;
 use am_universe::{Fault, Sink, answer_of_write, put_str};
 use std::alloc::Global;
 
@@ -52,37 +41,14 @@ pub fn compare<W: Sink>(
     ensures kept { IsKept (compare_promise inputs.now) W.taken W.failures out.old out.new result }
 {
     let mut read = read_compared(alloc, inputs)?;
-    let changes = changes_of_inputs(alloc, inputs, &mut read.space, &read.old, &read.new)?;
+    let (old, new) = (&read.old, &read.new);
+    let configs = Configs::Pair(old, new);
+    let outcomes = all_outcomes(alloc, inputs.ascii, &mut read.space, configs)?;
+    let Ok(changes) = changes_text(alloc, read.space.universe(), old, new, &outcomes) else {
+        return Err(Fault::memory(alloc));
+    };
     answer_of_write(
         alloc,
         put_str(out, changes.text.as_str()).and(Ok(changes.count)),
     )
-}
-
-/// Compares the configurations that were read.
-fn changes_of_inputs(
-    alloc: Global,
-    inputs: &CompareInputs<'_>,
-    space: &mut Space,
-    old: &Config,
-    new: &Config,
-) -> Result<Changes, Fault>
-    ensures whole { OnOk result (AcceptsCompareInputs inputs.now space.old
-        (config_view old.now) (config_view new.now)
-        → AreDeclaredWhole (alphabet_of inputs.now.ascii) space.old
-        (Pair (config_view old.now) (config_view new.now)) space.old.labels) }
-    ensures compares { IfOk result (λ changes. IsComparison inputs.now.ascii space.old
-        (config_view old.now) (config_view new.now) changes.count
-        (string_bytes changes.text)) }
-    ensures first { IfErr result (λ fault. AcceptsCompareInputs inputs.now space.old
-        (config_view old.now) (config_view new.now)
-        → IsFirstFault (outcome_stages (AcceptsCompare inputs.now) compare_places
-        (alphabet_of inputs.now.ascii)) fault) }
-{
-    let configs = Configs::Pair(old, new);
-    let outcomes = all_outcomes(alloc, inputs.ascii, inputs.universe, space, configs)?;
-    match changes_text(alloc, space.universe(), old, new, &outcomes) {
-        Ok(changes) => Ok(changes),
-        Err(_) => Err(Fault::memory(alloc)),
-    }
 }

@@ -38,13 +38,6 @@ impl<'a> Model for LintInputs<'a> {
 }
 
 impl<'a> LintInputs<'a> {
-    /// Whether there is a universe file.
-    pub(crate) fn has_universe(&self) -> bool
-        ensures { result ≡ is_some self.now.universe }
-    {
-        self.universe.is_some()
-    }
-
     /// Whether there is a file of alerts.
     pub(crate) fn has_alerts(&self) -> bool
         ensures { result ≡ is_some self.now.files.alerts }

@@ -70,9 +70,7 @@ fn lint_report(
         → IsFirstFault (later_stages inputs.now) fault) }
 {
     let alphabet = alphabet_of(inputs.is_ascii());
-    if inputs.has_universe() {
-        check_declared(alloc, alphabet, space, Configs::One(world.config()))?;
-    }
+    check_declared(alloc, alphabet, space, Configs::One(world.config()))?;
     space.declare(Universe::empty(alloc));
     let routes = route_section(alloc, inputs.is_ascii(), space, world.config())?;
     let rules = rule_section(alloc, alphabet, space, world.config().rules())?;

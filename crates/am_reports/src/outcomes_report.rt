@@ -1,22 +1,12 @@
 //! The command `outcomes`.
 
-ghost use Rattle.std.specs.Prelude.{◌≡◌, IfOk, IfErr, OnOk, string_bytes};
-ghost use Rattle.am_config.specs.ConfigView.{config_view};
-ghost use Rattle.am_eval.specs.Faults.{IsFirstFault};
 ghost use Rattle.am_eval.specs.Promise.{IsKept};
-ghost use Rattle.am_lint.specs.Findings.{alphabet_of};
-ghost use Rattle.am_reports.specs.Configurations.{One};
-ghost use Rattle.am_reports.specs.ReportInputs.{AcceptsReportInputs, AcceptsReport, report_places};
-ghost use Rattle.am_reports.specs.LaterStages.{outcome_stages};
-ghost use Rattle.am_reports.specs.Made.{AreDeclaredWhole};
-ghost use Rattle.am_reports.specs.OutcomesReport.{outcomes_promise, IsOutcomesReport};
+ghost use Rattle.am_reports.specs.OutcomesReport.{outcomes_promise};
 
 use crate::ReportInputs;
 use crate::all_outcomes::all_outcomes;
 use crate::configs::Configs;
 use crate::report_inputs::read_inputs;
-use am_config::Config;
-use am_labels::Space;
 use am_outcomes::outcomes_text;
 use am_universe::{Fault, Sink, answer_of_write, put_str};
 use std::alloc::Global;
@@ -52,30 +42,10 @@ pub fn outcomes<W: Sink>(alloc: Global, inputs: &ReportInputs<'_>, out: &mut W) 
     ensures kept { IsKept (outcomes_promise inputs.now) W.taken W.failures out.old out.new result }
 {
     let mut read = read_inputs(alloc, inputs)?;
-    let text = outcomes_of_inputs(alloc, inputs, &mut read.space, &read.config)?;
+    let configs = Configs::One(&read.config);
+    let outcomes = all_outcomes(alloc, inputs.ascii, &mut read.space, configs)?;
+    let Ok(text) = outcomes_text(alloc, read.space.universe(), &read.config, &outcomes) else {
+        return Err(Fault::memory(alloc));
+    };
     answer_of_write(alloc, put_str(out, text.as_str()))
-}
-
-/// Makes the report on the inputs that were read.
-fn outcomes_of_inputs(
-    alloc: Global,
-    inputs: &ReportInputs<'_>,
-    space: &mut Space,
-    config: &Config,
-) -> Result<String, Fault>
-    ensures whole { OnOk result (AcceptsReportInputs inputs.now space.old
-        (config_view config.now) → AreDeclaredWhole (alphabet_of inputs.now.ascii) space.old
-        (One (config_view config.now)) space.old.labels) }
-    ensures reports { IfOk result (λ text. IsOutcomesReport inputs.now.ascii space.old
-        (config_view config.now) (string_bytes text)) }
-    ensures first { IfErr result (λ fault. AcceptsReportInputs inputs.now space.old
-        (config_view config.now) → IsFirstFault (outcome_stages (AcceptsReport inputs.now)
-        report_places (alphabet_of inputs.now.ascii)) fault) }
-{
-    let configs = Configs::One(config);
-    let outcomes = all_outcomes(alloc, inputs.ascii, inputs.universe, space, configs)?;
-    match outcomes_text(alloc, space.universe(), config, &outcomes) {
-        Ok(text) => Ok(text),
-        Err(_) => Err(Fault::memory(alloc)),
-    }
 }

@@ -41,7 +41,7 @@ pub(crate) fn route_section(
     ensures labels { OnOk result (space.new.labels ≡ []) }
     ensures impossible { OnOk result (space.new.impossible ≡ space.old.impossible) }
     ensures refused { IfErr result (λ fault. fault.kind ≢ kinds.Memory
-        → IsRoutesRefusal ascii space.old (config_view config.now) fault.place
+        → IsRoutesRefusal ascii space.old.impossible (config_view config.now) fault.place
         (refusal_of fault)) }
 {
     let every = every_universe(alloc, ascii, space, config)?;
@@ -62,11 +62,11 @@ fn every_universe(
 ) -> Result<Option<Universe>, Fault>
     requires { space.now.labels ≡ [] }
     ensures some { IfOk result (λ universe. IfSome universe (λ u. (ascii ≡ false)
-        × StandsForAll Unicode space.now (One (config_view config.now)) u)) }
+        × StandsForAll Unicode space.now.impossible (One (config_view config.now)) u)) }
     ensures none { IfOk result (λ universe. IfNone universe (ascii ≡ true)) }
     ensures refused { IfErr result (λ fault. fault.kind ≢ kinds.Memory
-        → IsMadeRefusal (alphabet_of ascii) space.now (One (config_view config.now)) fault.place
-        (refusal_of fault)) }
+        → IsMadeRefusal (alphabet_of ascii) space.now.impossible (One (config_view config.now))
+        fault.place (refusal_of fault)) }
 {
     if ascii {
         return Ok(None);
@@ -84,8 +84,10 @@ fn section_over(
     ordinary: Universe,
     every: Option<Universe>,
 ) -> Result<Section, AllocError>
-    requires ordinary { StandsForAll Ascii space.old (One (config_view config.now)) ordinary }
-    requires every { IfSome every (StandsForAll Unicode space.old (One (config_view config.now))) }
+    requires ordinary { StandsForAll Ascii space.old.impossible (One (config_view config.now))
+        ordinary }
+    requires every { IfSome every
+        (StandsForAll Unicode space.old.impossible (One (config_view config.now))) }
     ensures says { IfOk result (λ section. SaysOfRoutes (is_none every) space.old
         (config_view config.now) section.findings section.notes section.lines) }
     ensures impossible { space.new.impossible ≡ space.old.impossible }

@@ -1,15 +1,21 @@
 -- The faults of the inputs come first, and the comparison is what is written.
-use Rattle.std.proofs.Common.{Ok, refl, string_bytes}
+use Rattle.std.proofs.Common.{Ok, refl, sym, string_bytes, subst}
 use Rattle.std.specs.Result.{result_and}
 use Rattle.am_json.specs.Reading.{refusal_of}
 use Rattle.am_config.specs.ConfigView.{config_view}
 use Rattle.am_eval.proofs.FirstFaults.{first_of_more}
 use Rattle.am_eval.proofs.Promises.{refused, written}
 use Rattle.am_lint.specs.Findings.{alphabet_of}
-use Rattle.am_reports.specs.CompareInputs.{compare_input_stages, AcceptsCompare, compare_places}
-use Rattle.am_reports.specs.LaterStages.{outcome_stages}
+use Rattle.am_reports.specs.AllOutcomes.{AreAllOutcomes}
+use Rattle.am_reports.specs.Configurations.{Pair, space_of}
+use Rattle.am_reports.specs.CompareInputs.{CompareInputs, compare_input_stages, AcceptsCompare}
+use Rattle.am_reports.specs.CompareInputs.{compare_places}
+use Rattle.am_reports.specs.LaterStages.{outcome_stages, IsOutcomesRefusal}
+use Rattle.am_reports.specs.Made.{AreDeclaredWhole}
 use Rattle.am_reports.specs.Comparing.{compare_promise}
+use Rattle.am_reports.proofs.ChangeLemmas.{compared}
 use Rattle.am_reports.proofs.InputStages.{first_behind_compare_inputs}
+use Rattle.am_reports.proofs.StageLemmas.{outcomes_first}
 use Rattle.am_reports.proofs.WrittenBeside.{told_beside, writes_beside}
 use Rattle.am_reports.proofs.comparing.compare.Goals as goal
 
@@ -25,37 +31,60 @@ returns-in_err-read g c =
           (refusal_of fault) (c.in_err-read.ensures.first remembered));
     }
 
-pub returns-in_err-changes : goal.returns-in_err-changes
-returns-in_err-changes g c =
-    let fault = c.in_err-changes.field-0.0 in
+pub returns-in_err-outcomes : goal.returns-in_err-outcomes
+returns-in_err-outcomes g c =
+    let fault = c.in_err-outcomes.field-0.0 in
     let inputs = c.args.inputs.now in
-    let read = c.in_ok-read.read in
+    let s = c.in_ok-read.read.space in
+    let old = config_view c.in_ok-read.read.old in
+    let new = config_view c.in_ok-read.read.new in
+    let says = AcceptsCompare inputs in
+    let a = alphabet_of inputs.ascii in
     let accepts = c.in_ok-read.ensures.accepts in
-    let later = outcome_stages (AcceptsCompare inputs) compare_places (alphabet_of inputs.ascii) in
     record {
-      kept = refused (compare_promise inputs) fault c.from_residual-in_err-changes.result refl
-          c.from_residual-in_err-changes.ensures.1
-          (λ remembered. first_behind_compare_inputs inputs read.space (config_view read.old)
-          (config_view read.new) later fault.place (refusal_of fault) accepts
-          (c.in_err-changes.ensures.first accepts remembered));
+      kept = refused (compare_promise inputs) fault c.from_residual-in_err-outcomes.result refl
+          c.from_residual-in_err-outcomes.ensures.1
+          (λ remembered. first_behind_compare_inputs inputs s old new
+          (outcome_stages says compare_places a) fault.place (refusal_of fault) accepts
+          (outcomes_first says a s (Pair old new) fault.place (refusal_of fault) accepts
+          (subst (λ (i : CompareInputs).
+          IsOutcomesRefusal (alphabet_of i.ascii) s (Pair old new) fault.place (refusal_of fault))
+          c.inputs.view_is (c.in_err-outcomes.ensures.refused remembered))));
     }
+
+pub changes_text-requires : goal.changes_text-requires
+changes_text-requires g c =
+    let u = c.all_outcomes.new.space.labels in (
+      space_of c.in_ok-read.read.space.impossible u,
+      sym c.universe.ensures.labels,
+      c.in_ok-outcomes.ensures.are.order,
+    )
 
 pub returns : goal.returns
 returns g c =
     let inputs = c.args.inputs.now in
-    let read = c.in_ok-read.read in
-    let changes = c.in_ok-changes.changes in
-    let accepts = c.in_ok-read.ensures.accepts in
+    let s = c.in_ok-read.read.space in
+    let old = config_view c.in_ok-read.read.old in
+    let new = config_view c.in_ok-read.read.new in
+    let after = c.all_outcomes.new.space in
+    let outcomes = c.in_ok-outcomes.outcomes in
+    let changes = c.in-Ok.changes in
+    let are = subst (λ (i : CompareInputs).
+    AreAllOutcomes i.ascii s (Pair old new) after.labels outcomes) c.inputs.view_is
+    c.in_ok-outcomes.ensures.are in
     record {
       kept = written (compare_promise inputs) changes.count (string_bytes changes.text)
           (result_and c.put_str.result (Ok changes.count)) c.answer_of_write.result
           (record {
-            space = read.space;
-            old = config_view read.old;
-            new = config_view read.new;
-            accepts = accepts;
-            whole = c.in_ok-changes.ensures.whole accepts;
-            compares = c.in_ok-changes.ensures.compares;
+            space = s;
+            old = old;
+            new = new;
+            accepts = c.in_ok-read.ensures.accepts;
+            whole = subst (λ (i : CompareInputs).
+                AreDeclaredWhole (alphabet_of i.ascii) s (Pair old new) s.labels)
+                c.inputs.view_is c.in_ok-outcomes.ensures.whole;
+            compares = compared inputs.ascii s old new after.labels outcomes are changes.count _
+                c.in-Ok.ensures.count (rw c.universe.ensures.labels at c.in-Ok.ensures.text);
           })
           (told_beside c.put_str.result changes.count)
           (writes_beside c.put_str.result changes.count

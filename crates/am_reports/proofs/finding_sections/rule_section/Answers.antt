@@ -1,15 +1,16 @@
 -- Each rule has a finding or none, and the positions that a finding names are in the rule.
 use Rattle.std.proofs.Common.{length, ap, ◌∙◌}
+use Rattle.std.proofs.lemmas.Slice.Zip.{AllZip-long}
 use Rattle.am_idle.specs.Rules.{IsRuleFinding}
 use Rattle.am_idle.specs.RuleText.{HasPositionsIfAny}
-use Rattle.am_reports.proofs.EachLine.{same_length, zip_so}
+use Rattle.am_reports.proofs.EachLine.{zip_so}
 use Rattle.am_idle.proofs.RuleAlerts.{positions_told}
 use Rattle.am_reports.proofs.finding_sections.rule_section.Goals as goal
 
 pub rule_lines-requires-clause-same : goal.rule_lines-requires-clause-same
 rule_lines-requires-clause-same c =
     ap length c.as_slice.ensures.value
-    ∙ same_length (IsRuleFinding c.args.alphabet c.args.space.now) c.args.rules.now
+    ∙ AllZip-long (IsRuleFinding c.args.alphabet c.args.space.now) c.args.rules.now
     c.in-Ok.found.items c.in-Ok.ensures.found
 
 pub rule_lines-requires-clause-each : goal.rule_lines-requires-clause-each

@@ -1,8 +1,8 @@
 -- A fault is the first one after those of the inputs; and what is said about the space without
 -- labels is true of the space that was read.
-use Rattle.std.proofs.Common.{◌≡◌, ◌∷◌, [], Bool, sym, ap, ◌∙◌, subst, false}
-use Rattle.std.specs.Prelude.{is_some}
+use Rattle.std.proofs.Common.{◌≡◌, List, ◌∷◌, [], Bool, ap, ◌∙◌, subst}
 use Rattle.am_universe.specs.declared.fault.Fault.{Fault}
+use Rattle.am_labels.specs.Matcher.{Condition}
 use Rattle.am_json.specs.Reading.{refusal_of}
 use Rattle.am_config.specs.ConfigFile.{Configuration}
 use Rattle.am_eval.specs.Faults.{IsFirstFault}
@@ -16,12 +16,9 @@ use Rattle.am_reports.specs.Sections.{Section, report_text, all_findings}
 use Rattle.am_reports.specs.Made.{IsRoutesRefusal, AreDeclaredWhole}
 use Rattle.am_reports.proofs.LintStages.{declared_refused, routes_refused, rules_refused}
 use Rattle.am_reports.proofs.LintStages.{silences_refused}
-use Rattle.am_reports.proofs.InputStages.{no_label}
-use Rattle.am_reports.proofs.RoutesAsked.{routes_refused_as, said_as}
 use Rattle.am_reports.proofs.linting.lint_report.Goals as goal
 use Rattle.am_reports.proofs.linting.lint_report.Goals.{After-alphabet_of-alphabet, After-declare, In_ok-routes}
-use Rattle.am_reports.proofs.linting.lint_report.Goals.{In_ok-rules, else-has_universe}
-use Rattle.am_reports.proofs.linting.lint_report.Goals.{then-has_universe+in_ok-check_declared}
+use Rattle.am_reports.proofs.linting.lint_report.Goals.{In_ok-rules, In_ok-check_declared}
 
 -- the alphabet of the alerts that count
 counted : (c : After-alphabet_of-alphabet)
@@ -34,7 +31,13 @@ IsFirst c f =
     AcceptsLintInputs c.args.inputs.now c.args.space.now c.args.world.now
     → IsFirstFault (later_stages c.args.inputs.now) f
 
--- the space after the section on routes, and after that on rules
+-- the space without its labels, at first, after the section on routes, and after that on rules
+cleared : (c : After-declare) → c.declare.new.self ≡ undeclared c.args.space.now
+cleared c = λ i. record {
+  labels = (c.declare.ensures.labels ∙ c.empty.ensures.no_label) i;
+  impossible = c.declare.ensures.impossible i;
+}
+
 routes_cleared : (c : In_ok-routes) → c.route_section.new.space ≡ undeclared c.args.space.now
 routes_cleared c = λ i. record {
   labels = c.in_ok-routes.ensures.labels i;
@@ -58,23 +61,12 @@ returns-in_err-check_declared-clause-first c =
     (rw (counted at, c.config.ensures.config) at (c.in_err-check_declared.ensures.refused remembered)))
 
 -- no label that the universe file declares lacks a value
-declared_whole : (c : After-declare)
-    → AcceptsLintInputs c.args.inputs.now c.args.space.now c.args.world.now
-    → AreDeclaredWhole (alphabet_of c.args.inputs.now.ascii) c.args.space.now
-    (One c.args.world.now.config) c.args.space.now.labels
-declared_whole c accepts =
-    let inputs = c.args.inputs.now in
-    let s = c.args.space.now in
-    elim c.if-has_universe.branch [
-      | then-has_universe+in_ok-check_declared w ↦
-          rw (c.alphabet_of-alphabet.ensures, c.is_ascii.ensures, w.config.ensures.config)
-          at w.in_ok-check_declared.ensures.whole
-      | else-has_universe w ↦
-          let none : is_some inputs.universe ≡ false =
-          sym c.has_universe.ensures ∙ w.if-has_universe.false in
-          subst (AreDeclaredWhole (alphabet_of inputs.ascii) s (One c.args.world.now.config))
-          (sym (no_label inputs.universe s none accepts.says_universe)) tt
-    ]
+declared_whole : (c : In_ok-check_declared) → AreDeclaredWhole
+    (alphabet_of c.args.inputs.now.ascii) c.args.space.now (One c.args.world.now.config)
+    c.args.space.now.labels
+declared_whole c =
+    rw (c.alphabet_of-alphabet.ensures, c.is_ascii.ensures, c.config.ensures.config)
+    at c.in_ok-check_declared.ensures.whole
 
 pub returns-in_err-routes-clause-first : goal.returns-in_err-routes-clause-first
 returns-in_err-routes-clause-first c =
@@ -86,13 +78,11 @@ returns-in_err-routes-clause-first c =
     handed_on (IsFirst at.After-alphabet_of-alphabet) fault c.from_residual-in_err-routes.result
     c.from_residual-in_err-routes.ensures.1
     (λ accepts remembered. routes_refused inputs s w fault.place (refusal_of fault) accepts
-    (declared_whole at.After-declare accepts)
-    (routes_refused_as inputs.ascii w.config c.declare.new.self s fault.place (refusal_of fault)
-    c.declare.ensures.impossible
-    (subst (λ (x : Bool × Configuration).
-    IsRoutesRefusal x.0 c.declare.new.self x.1 fault.place (refusal_of fault))
-    (λ i. (c.is_ascii-2.ensures i, c.config-2.ensures.config i))
-    (c.in_err-routes.ensures.refused remembered))))
+    (declared_whole at.In_ok-check_declared)
+    (subst (λ (x : Bool × List (List Condition) × Configuration).
+    IsRoutesRefusal x.0 x.1 x.2 fault.place (refusal_of fault))
+    (λ i. (c.is_ascii-2.ensures i, c.declare.ensures.impossible i, c.config-2.ensures.config i))
+    (c.in_err-routes.ensures.refused remembered)))
 
 pub returns-in_err-rules-clause-first : goal.returns-in_err-rules-clause-first
 returns-in_err-rules-clause-first c =
@@ -104,7 +94,7 @@ returns-in_err-rules-clause-first c =
     handed_on (IsFirst at.After-alphabet_of-alphabet) fault c.from_residual-in_err-rules.result
     c.from_residual-in_err-rules.ensures.1
     (λ accepts remembered. rules_refused c.args.inputs.now c.args.space.now w fault.place
-    (refusal_of fault) accepts (declared_whole at.After-declare accepts)
+    (refusal_of fault) accepts (declared_whole at.In_ok-check_declared)
     (rw (counted at.After-alphabet_of-alphabet, routes_cleared at.In_ok-routes, rules)
     at (c.in_err-rules.ensures.refused remembered)))
 
@@ -115,7 +105,7 @@ returns-in_err-silences-clause-first c =
     handed_on (IsFirst at.After-alphabet_of-alphabet) fault c.from_residual-in_err-silences.result
     c.from_residual-in_err-silences.ensures.1
     (λ accepts remembered. silences_refused c.args.inputs.now c.args.space.now c.args.world.now
-    fault.place (refusal_of fault) accepts (declared_whole at.After-declare accepts)
+    fault.place (refusal_of fault) accepts (declared_whole at.In_ok-check_declared)
     (rw (counted at.After-alphabet_of-alphabet, rules_cleared at.In_ok-rules)
     at (c.in_err-silences.ensures.refused remembered)))
 
@@ -131,12 +121,14 @@ returns-in-Ok-report_of-clause-reports c = λ accepts.
     let listed : c.rules.result.now ≡ w.config.rules =
     c.rules.ensures.rules ∙ ap (λ (x : Configuration). x.rules) c.config-3.ensures.config in
     record {
-      whole = declared_whole at.After-declare accepts;
+      whole = declared_whole at.In_ok-check_declared;
       reports = record {
         routes = routes;
-        says_of_routes = said_as c.args.inputs.now.ascii w.config c.declare.new.self
-            c.args.space.now routes.findings routes.notes routes.lines c.declare.ensures.impossible
-            (rw (c.is_ascii-2.ensures, c.config-2.ensures.config) at c.in_ok-routes.ensures.says);
+        says_of_routes = rw (
+          c.is_ascii-2.ensures,
+          c.config-2.ensures.config,
+          cleared at.After-declare,
+        ) at c.in_ok-routes.ensures.says;
         rules = rules;
         says_of_rules = rw (counts, routes_cleared at.In_ok-routes, listed)
             at c.in_ok-rules.ensures.says;

@@ -6,15 +6,18 @@ use Rattle.am_json.specs.Reading.{refusal_of}
 use Rattle.am_eval.proofs.FirstFaults.{handed_on}
 use Rattle.am_universe.specs.declared.kind.Kind.TheVariants as kinds
 use Rattle.am_universe.specs.Universe.{Label, IsUniverse}
+use Rattle.am_universe.proofs.LabelPairLemmas.{found_at}
 use Rattle.am_complete.specs.declared.label_state.LabelState.{LabelState}
 use Rattle.am_complete.specs.AskedLabel.{AskedLabel, IsAskedOf}
 use Rattle.am_complete.specs.LabelState.{IsSoAt}
+use Rattle.am_complete.specs.Complete.{impossible_conditions}
+use Rattle.am_complete.proofs.AmongMatchers.{last_among}
 use Rattle.am_complete.proofs.Pushed.{one_more_passes}
-use Rattle.am_reports.specs.Configurations.{routing_conditions, labels_of_routes}
+use Rattle.am_reports.specs.Configurations.{conditions_of_routes, routing_conditions}
+use Rattle.am_reports.specs.Configurations.{labels_of_routes}
 use Rattle.am_reports.specs.ConfigsView.{configurations_of}
 use Rattle.am_reports.specs.Made.{IsDeclaredRefusal, IsDeclaredWhole, IsStateRefusal}
-use Rattle.am_reports.proofs.RoutesAsked.{lists_decide}
-use Rattle.am_reports.proofs.DeclaredStates.{there_is, told_at, whole_by, refused_by}
+use Rattle.am_reports.proofs.DeclaredStates.{told_at, whole_by, refused_by}
 use Rattle.am_reports.proofs.made.check_declared.Goals as goal
 use Rattle.am_reports.proofs.made.check_declared.Goals.{After-index}
 
@@ -24,7 +27,7 @@ label_states-requires c =
     let k = configurations_of c.args.configs in (
       routing_conditions s k,
       rw (c.as_slice.ensures.value) c.in-Ok.ensures.asked,
-      lists_decide s k,
+      last_among (conditions_of_routes k) (impossible_conditions s.impossible),
     )
 
 -- the label at this position, and what is true of it
@@ -44,11 +47,11 @@ here c =
     c.as_slice.ensures.value ∙ c.in-Ok.ensures.labels in
     let of : IsAskedOf c.as_slice.result.now ms =
     rw (c.as_slice.ensures.value) c.in-Ok.ensures.asked in
-    let is : IsUniverse s.labels = rw (← c.universe.ensures.labels) c.len-i-end.ensures.universe in
+    let is : IsUniverse s.labels = rw (← c.universe-2.ensures.labels) c.len-i-end.ensures.universe in
     let within : i < length s.labels =
-    subst (λ (u : List Label). i < length u) c.universe.ensures.labels
+    subst (λ (u : List Label). i < length u) c.universe-2.ensures.labels
     (omega (arith, c.loop-i-test.true, c.len-i-end.ensures.len)) in
-    let l = there_is s.labels i within in
+    let l = found_at s.labels i within in
     let told = told_at c.args.alphabet s ms c.as_slice.result.now states i l.0 is
     c.in-Ok-label_states.ensures.names (c.in-Ok-label_states.ensures.each ms of) l.1 in
     let same : told.0 ≡ c.index.result.now =
@@ -83,7 +86,7 @@ loop-i-preserved c =
     let k = configurations_of c.args.configs in
     let a = c.args.alphabet in
     let l = here (goal.at.loop-i-preserved c).After-index in
-    let is : IsUniverse s.labels = rw (← c.universe.ensures.labels) c.len-i-end.ensures.universe in
+    let is : IsUniverse s.labels = rw (← c.universe-2.ensures.labels) c.len-i-end.ensures.universe in
     one_more_passes (IsDeclaredWhole a s k) s.labels c.loop-i.i l.0 l.1 c.loop-i.invariant
     (whole_by a s (routing_conditions s k) (labels_of_routes k s.impossible) l.0.name
     c.index.result.now.completeness is c.in_ok-check_state.ensures.settled l.3)

@@ -1,19 +1,21 @@
 -- What is made for the labels that the routes ask about, and the faults.
-use Rattle.std.proofs.Common.{◌≡◌, ◌≢◌, ◌<◌, List, [], ◌∷◌, length, Some, None, slice_get, inl, inr}
+use Rattle.std.proofs.Common.{◌≡◌, ◌<◌, List, [], ◌∷◌, length, Some, None, slice_get, inl, inr}
 use Rattle.std.proofs.Common.{refl, sym, ◌∙◌, subst}
-use Rattle.std.specs.List.{AllByRecursion}
 use Rattle.std.proofs.lemmas.Option.{slice_get_read}
 use Rattle.am_universe.specs.declared.kind.Kind.TheVariants as kinds
+use Rattle.am_universe.proofs.LabelPairLemmas.{at_place}
 use Rattle.am_labels.specs.Space.{Space}
 use Rattle.am_complete.specs.AskedLabel.{AskedLabel}
 use Rattle.am_complete.specs.Covering.{AddsNeeded}
+use Rattle.am_complete.specs.Complete.{impossible_conditions}
 use Rattle.am_complete.specs.Room.{HaveNoRoom, AreUnproved}
+use Rattle.am_complete.proofs.AmongMatchers.{last_among}
 use Rattle.am_universe_command.specs.Universes.{HaveRoomBut}
 use Rattle.am_universe_command.proofs.UniverseStages.{refused_here}
-use Rattle.am_reports.specs.Configurations.{routing_conditions, labels_of_routes}
+use Rattle.am_reports.specs.Configurations.{conditions_of_routes, routing_conditions}
+use Rattle.am_reports.specs.Configurations.{labels_of_routes}
 use Rattle.am_reports.specs.ConfigsView.{configurations_of}
 use Rattle.am_idle.proofs.MadeUniverses.{undeclared_is, of_room}
-use Rattle.am_reports.proofs.RoutesAsked.{lists_decide}
 use Rattle.am_reports.proofs.made.universe_for_routes.Goals as goal
 
 pub universe_beside-requires : goal.universe_beside-requires
@@ -22,7 +24,7 @@ universe_beside-requires c =
     let k = configurations_of c.args.configs in (
       routing_conditions s k,
       rw (c.as_slice.ensures.value) c.in-Ok.ensures.asked,
-      lists_decide s k,
+      last_among (conditions_of_routes k) (impossible_conditions s.impossible),
     )
 
 pub returns-in-Err-clause-refused : goal.returns-in-Err-clause-refused
@@ -46,12 +48,7 @@ returns-in-Err-clause-refused c = λ remembered.
       ),
     )
 
--- what is true of each element is true of the first; and an empty list has no first element
-all_first : {X : Type 0} (P : X → Type 0) (xs : List X) (x : X) → AllByRecursion P xs
-    → slice_get xs 0 ≡ Some x → P x
-all_first P [] x all at = cc at
-all_first P (y ∷ ys) x all at = let same : y ≡ x = cc at in subst P same all.0
-
+-- an empty list has no first element
 none_first : {X : Type 0} (xs : List X) → slice_get xs 0 ≡ None → xs ≡ []
 none_first [] none = refl
 none_first (x ∷ xs) none = cc none
@@ -73,7 +70,7 @@ returns-in-Some-clause-refused c = λ remembered.
     let first : slice_get made.unproved.items 0 ≡ Some position =
     sym (rw c.deref.ensures.value at c.in-Some.ensures.value) in
     let within : position < length c.in-Ok.asked.items =
-    all_first (λ i. i < length c.in-Ok.asked.items) made.unproved.items position
+    at_place (λ i. i < length c.in-Ok.asked.items) made.unproved.items 0 position
     (rw c.as_slice.ensures.value at is.within) first in
     let unproved : AreUnproved a s (labels_of_routes k s.impossible) made.unproved.items =
     rw asked at is.unproved in

@@ -1,14 +1,19 @@
 -- The faults of the inputs come first, and the report is what is written.
-use Rattle.std.proofs.Common.{refl, string_bytes}
+use Rattle.std.proofs.Common.{refl, sym, string_bytes, subst}
 use Rattle.am_json.specs.Reading.{refusal_of}
 use Rattle.am_config.specs.ConfigView.{config_view}
 use Rattle.am_eval.proofs.FirstFaults.{first_of_more}
 use Rattle.am_eval.proofs.Promises.{refused, written, nothing_told}
 use Rattle.am_lint.specs.Findings.{alphabet_of}
-use Rattle.am_reports.specs.ReportInputs.{report_input_stages, AcceptsReport, report_places}
-use Rattle.am_reports.specs.LaterStages.{outcome_stages}
+use Rattle.am_reports.specs.AllOutcomes.{AreAllOutcomes}
+use Rattle.am_reports.specs.Configurations.{One, space_of}
+use Rattle.am_reports.specs.ReportInputs.{ReportInputs, report_input_stages, AcceptsReport}
+use Rattle.am_reports.specs.ReportInputs.{report_places}
+use Rattle.am_reports.specs.LaterStages.{outcome_stages, IsOutcomesRefusal}
+use Rattle.am_reports.specs.Made.{AreDeclaredWhole}
 use Rattle.am_reports.specs.OutcomesReport.{outcomes_promise}
 use Rattle.am_reports.proofs.InputStages.{first_behind_report_inputs}
+use Rattle.am_reports.proofs.StageLemmas.{outcomes_first}
 use Rattle.am_reports.proofs.outcomes_report.outcomes.Goals as goal
 
 pub returns-in_err-read : goal.returns-in_err-read
@@ -23,35 +28,59 @@ returns-in_err-read g c =
           (refusal_of fault) (c.in_err-read.ensures.first remembered));
     }
 
-pub returns-in_err-text : goal.returns-in_err-text
-returns-in_err-text g c =
-    let fault = c.in_err-text.field-0.0 in
+pub returns-in_err-outcomes : goal.returns-in_err-outcomes
+returns-in_err-outcomes g c =
+    let fault = c.in_err-outcomes.field-0.0 in
     let inputs = c.args.inputs.now in
-    let read = c.in_ok-read.read in
+    let s = c.in_ok-read.read.space in
+    let config = config_view c.in_ok-read.read.config in
+    let says = AcceptsReport inputs in
+    let a = alphabet_of inputs.ascii in
     let accepts = c.in_ok-read.ensures.accepts in
-    let later = outcome_stages (AcceptsReport inputs) report_places (alphabet_of inputs.ascii) in
     record {
-      kept = refused (outcomes_promise inputs) fault c.from_residual-in_err-text.result refl
-          c.from_residual-in_err-text.ensures.1
-          (λ remembered. first_behind_report_inputs inputs read.space (config_view read.config)
-          later fault.place (refusal_of fault) accepts
-          (c.in_err-text.ensures.first accepts remembered));
+      kept = refused (outcomes_promise inputs) fault c.from_residual-in_err-outcomes.result refl
+          c.from_residual-in_err-outcomes.ensures.1
+          (λ remembered. first_behind_report_inputs inputs s config
+          (outcome_stages says report_places a) fault.place (refusal_of fault) accepts
+          (outcomes_first says a s (One config) fault.place (refusal_of fault) accepts
+          (subst (λ (i : ReportInputs).
+          IsOutcomesRefusal (alphabet_of i.ascii) s (One config) fault.place (refusal_of fault))
+          c.inputs.view_is (c.in_err-outcomes.ensures.refused remembered))));
     }
+
+pub outcomes_text-requires : goal.outcomes_text-requires
+outcomes_text-requires g c =
+    let u = c.all_outcomes.new.space.labels in (
+      space_of c.in_ok-read.read.space.impossible u,
+      sym c.universe.ensures.labels,
+      c.in_ok-outcomes.ensures.are.order,
+    )
 
 pub returns : goal.returns
 returns g c =
     let inputs = c.args.inputs.now in
-    let read = c.in_ok-read.read in
-    let accepts = c.in_ok-read.ensures.accepts in
+    let s = c.in_ok-read.read.space in
+    let config = config_view c.in_ok-read.read.config in
+    let after = c.all_outcomes.new.space in
+    let outcomes = c.in_ok-outcomes.outcomes in
     record {
-      kept = written (outcomes_promise inputs) tt (string_bytes c.in_ok-text.text)
+      kept = written (outcomes_promise inputs) tt (string_bytes c.in-Ok.text)
           c.put_str.result c.answer_of_write.result
           (record {
-            space = read.space;
-            configuration = config_view read.config;
-            accepts = accepts;
-            whole = c.in_ok-text.ensures.whole accepts;
-            reports = c.in_ok-text.ensures.reports;
+            space = s;
+            configuration = config;
+            accepts = c.in_ok-read.ensures.accepts;
+            whole = subst (λ (i : ReportInputs).
+                AreDeclaredWhole (alphabet_of i.ascii) s (One config) s.labels) c.inputs.view_is
+                c.in_ok-outcomes.ensures.whole;
+            reports = record {
+              labels = after.labels;
+              outcomes = outcomes;
+              are = subst (λ (i : ReportInputs).
+                  AreAllOutcomes i.ascii s (One config) after.labels outcomes) c.inputs.view_is
+                  c.in_ok-outcomes.ensures.are;
+              text = rw c.universe.ensures.labels at c.in-Ok.ensures.text;
+            };
           })
           (nothing_told c.put_str.result) (rw (← c.as_str.ensures.value) c.put_str.ensures.written)
           c.answer_of_write.ensures.answer;

@@ -9,10 +9,10 @@ use Rattle.am_reports.proofs.route_section.route_section.Goals as goal
 
 pub returns-in_err-ordinary-clause-refused : goal.returns-in_err-ordinary-clause-refused
 returns-in_err-ordinary-clause-refused c =
-    let s = c.args.space.now in
+    let lists = c.args.space.now.impossible in
     let config = config_view c.args.config.now in
     let fault = c.in_err-ordinary.field-0.0 in
     handed_on (λ f. f.kind ≢ kinds.Memory
-    → IsRoutesRefusal c.args.ascii s config f.place (refusal_of f)) fault
+    → IsRoutesRefusal c.args.ascii lists config f.place (refusal_of f)) fault
     c.from_residual-in_err-ordinary.result c.from_residual-in_err-ordinary.ensures.1
     (λ remembered. inr (c.in_err-ordinary.ensures.refused remembered))
