@@ -1,20 +1,14 @@
 -- Questions that are read one after another.
 use Rattle.std.proofs.Common.{◌≡◌, ◌+◌, ◌<◌, ℕ, zero, suc, List, [], ◌∷◌, ◌++◌, length, map, take}
 use Rattle.std.proofs.Common.{Some, refl, sym, subst, slice_get, get_or, codes, decimal, arith, Bor}
-use Rattle.std.specs.List.{AllByRecursion, AllZip}
+use Rattle.std.specs.List.{AllByRecursion}
+use Rattle.std.proofs.lemmas.Slice.Zip.{all_zipped_more}
 use Rattle.am_json.specs.Pointer.{Refusal}
 use Rattle.am_config.specs.ConfigFile.{Configuration}
 use Rattle.am_eval.specs.Question.{Question}
 use Rattle.am_questions.specs.QuestionText.{ReadsQuestion, QuestionRefusedFor}
 use Rattle.am_complete.proofs.Pushed.{one_longer}
 use Rattle.am_universe_command.specs.UniverseInputs.{ReadsQuestions, QuestionsRefusedFor}
-
-zip_push : {X Y : Type 0} (R : X → Y → Type 0) (xs : List X) (ys : List Y) (x : X) (y : Y)
-    → AllZip R xs ys → R x y → AllZip R (xs ++ x ∷ []) (ys ++ y ∷ [])
-zip_push R [] [] x y all last = (last, tt)
-zip_push R [] (z ∷ ys) x y all last = absurd all
-zip_push R (z ∷ xs) [] x y all last = absurd all
-zip_push R (z ∷ xs) (w ∷ ys) x y all last = (all.0, zip_push R xs ys x y all.1 last)
 
 -- the text at a position
 pub text_there : (texts : List (Bor (List ℕ))) (i : ℕ) (d : Bor (List ℕ)) → i < length texts
@@ -33,7 +27,7 @@ read_more c texts i text questions next question at so reads is =
     subst (λ (qs : List Question). ReadsQuestions c (take (i + 1) texts) qs) (sym is)
     (subst (λ (ts : List (List ℕ)). ReadsQuestions c ts (questions ++ question ∷ []))
     (one_longer texts i text at)
-    (zip_push (ReadsQuestion c) (take i texts) questions text question so reads))
+    (all_zipped_more (ReadsQuestion c) (take i texts) questions text question so reads))
 
 -- each of the texts so far is a question
 are_questions : (c : Configuration) (texts : List (List ℕ)) (questions : List Question)

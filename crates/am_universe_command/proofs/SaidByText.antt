@@ -6,7 +6,7 @@ use Rattle.std.proofs.lemmas.List.{length-map}
 use Rattle.std.specs.Str.{IsUtf8}
 use Rattle.std.proofs.lemmas.Str.{is_utf8-from_IsUtf8}
 use Rattle.json.specs.Json as json
-use Rattle.json.specs.Tree as tree
+use Rattle.json.specs.Tree.{depth, items_depth}
 use Rattle.json.proofs.Printed.Trees.{value-json_tokens}
 use Rattle.serde_json.specs.Data.{Data, null, string, array, object, Items, no_items, item}
 use Rattle.serde_json.specs.Data.{Members, no_members, member}
@@ -21,79 +21,85 @@ use Rattle.am_list_files.specs.UniverseFile.{FileSaysUniverse, SaysUniverse, Say
 use Rattle.am_list_files.specs.UniverseFile.{file_fields, AreTextsOfLists, HasImpossibleTexts}
 use Rattle.am_list_files.specs.UniverseFile.{FileHasImpossibleTexts}
 use Rattle.am_universe_command.specs.UniverseText.{universe_text}
-use Rattle.am_universe_command.proofs.TextTokens.{value_tree, values_tree, label_tree, labels_tree}
-use Rattle.am_universe_command.proofs.TextTokens.{as_values, universe_tree}
+use Rattle.am_universe_command.proofs.TextTokens.{trees, value_tree, label_tree, universe_tree}
 use Rattle.am_universe_command.proofs.TextTokens.{tokens-universe_text}
+
+-- ---- The value, as serde_json has it.
+
+-- things in an array, each as its value
+abbrev datas : {X : Type 0} → (X → Data) → List X → Items
+datas data_of [] = no_items
+datas data_of (x ∷ xs) = item (data_of x) (datas data_of xs)
 
 abbrev value_data : Option (List ℕ) → Data
 value_data None = null
 value_data (Some text) = string text
 
-abbrev values_data : Values → Items
-values_data [] = no_items
-values_data (v ∷ vs) = item (value_data v) (values_data vs)
-
 abbrev label_data : Label → Data
 label_data label = object
     (member (codes "name") (string label.name)
-    (member (codes "values") (array (values_data label.values)) no_members))
-
-abbrev labels_data : List Label → Items
-labels_data [] = no_items
-labels_data (label ∷ u) = item (label_data label) (labels_data u)
+    (member (codes "values") (array (datas value_data label.values)) no_members))
 
 -- the members are in the order of the bytes of their keys
 abbrev with_lists : List (List ℕ) → Members → Members
 with_lists [] members = members
 with_lists (text ∷ texts) members =
-    member (codes "impossible") (array (values_data (as_values (text ∷ texts)))) members
+    member (codes "impossible") (array (datas string (text ∷ texts))) members
 
 abbrev universe_data : List Label → List (List ℕ) → Data
 universe_data u texts =
-    object (with_lists texts (member (codes "labels") (array (labels_data u)) no_members))
+    object (with_lists texts (member (codes "labels") (array (datas label_data u)) no_members))
+
+module _ {X : Type 0} (tree : X → json.Json) (data_of : X → Data) where
+  each_of_tree : ((x : X) → of_json (tree x) ≡ Some (data_of x)) → (xs : List X)
+      → of_items (trees tree xs) ≡ Some (datas data_of xs)
+  each_of_tree each [] = refl
+  each_of_tree each (x ∷ xs) = rw (each x, each_of_tree each xs)
+
+  each_depth : (n : ℕ) → ((x : X) → depth (tree x) ≤ n) → (xs : List X)
+      → items_depth (trees tree xs) ≤ n
+  each_depth n each [] = omega arith
+  each_depth n each (x ∷ xs) = omega (arith, each x, each_depth n each xs)
+
+  each_said : (R : Data → X → Type 0) → ((x : X) → R (data_of x) x) → (xs : List X)
+      → AllZip R (item_list (datas data_of xs)) xs
+  each_said R each [] = tt
+  each_said R each (x ∷ xs) = (each x, each_said R each xs)
 
 value_of_tree : (v : Option (List ℕ)) → of_json (value_tree v) ≡ Some (value_data v)
 value_of_tree None = refl
 value_of_tree (Some text) = refl
 
-values_of_tree : (vs : Values) → of_items (values_tree vs) ≡ Some (values_data vs)
-values_of_tree [] = refl
-values_of_tree (v ∷ vs) = rw (value_of_tree v, values_of_tree vs)
-
 label_of_tree : (label : Label) → of_json (label_tree label) ≡ Some (label_data label)
-label_of_tree label = rw (values_of_tree label.values)
-
-labels_of_tree : (u : List Label) → of_items (labels_tree u) ≡ Some (labels_data u)
-labels_of_tree [] = refl
-labels_of_tree (label ∷ u) = rw (label_of_tree label, labels_of_tree u)
+label_of_tree label = rw (each_of_tree value_tree value_data value_of_tree label.values)
 
 universe_of_tree : (u : List Label) (texts : List (List ℕ))
     → of_json (universe_tree u texts) ≡ Some (universe_data u texts)
-universe_of_tree u [] = rw (labels_of_tree u)
-universe_of_tree u (text ∷ texts) = rw (labels_of_tree u, values_of_tree (as_values texts))
+universe_of_tree u [] = rw (each_of_tree label_tree label_data label_of_tree u)
+universe_of_tree u (text ∷ texts) =
+    rw (
+      each_of_tree label_tree label_data label_of_tree u,
+      each_of_tree json.string string (λ t. refl) texts,
+    )
 
 -- ---- It is not deep.
 
-value_depth : (v : Option (List ℕ)) → tree.depth (value_tree v) ≡ 0
-value_depth None = refl
-value_depth (Some text) = refl
+value_depth : (v : Option (List ℕ)) → depth (value_tree v) ≤ 0
+value_depth None = omega arith
+value_depth (Some text) = omega arith
 
-values_depth : (vs : Values) → tree.items_depth (values_tree vs) ≡ 0
-values_depth [] = refl
-values_depth (v ∷ vs) = rw (value_depth v, values_depth vs)
-
-labels_depth : (u : List Label) → tree.items_depth (labels_tree u) ≤ 2
-labels_depth [] = omega arith
-labels_depth (label ∷ u) =
-    let values = values_depth label.values in
-    let later = labels_depth u in
-    omega (arith, values, later)
+label_depth : (label : Label) → depth (label_tree label) ≤ 2
+label_depth label = omega (arith, each_depth value_tree value_data 0 value_depth label.values)
 
 universe_depth : (u : List Label) (texts : List (List ℕ))
-    → tree.depth (universe_tree u texts) ≤ max_depth
-universe_depth u [] = omega (arith, labels_depth u)
+    → depth (universe_tree u texts) ≤ max_depth
+universe_depth u [] = omega (arith, each_depth label_tree label_data 2 label_depth u)
 universe_depth u (text ∷ texts) =
-    omega (arith, labels_depth u, values_depth (as_values (text ∷ texts)))
+    omega (
+      arith,
+      each_depth label_tree label_data 2 label_depth u,
+      each_depth json.string string 0 (λ t. omega arith) texts,
+    )
 
 -- the value of the tokens of a whole text
 abbrev whole : Option (json.Json × List Token) → Option Data
@@ -113,25 +119,16 @@ value_said : (v : Option (List ℕ)) → SaysValue (value_data v) v
 value_said None = refl
 value_said (Some text) = refl
 
-values_said : (vs : Values) → AllZip SaysValue (item_list (values_data vs)) vs
-values_said [] = tt
-values_said (v ∷ vs) = (value_said v, values_said vs)
-
 label_said : (label : Label) → SaysLabel (label_data label) label
 label_said label = record {
   only = (_, refl, (inr refl, (inr refl, tt)));
   name = refl;
-  items = item_list (values_data label.values);
+  items = item_list (datas value_data label.values);
   is_array = refl;
-  values = values_said label.values;
+  values = each_said value_tree value_data SaysValue value_said label.values;
 }
 
-labels_said : (u : List Label) → AllZip SaysLabel (item_list (labels_data u)) u
-labels_said [] = tt
-labels_said (label ∷ u) = (label_said label, labels_said u)
-
-string_items : (texts : List (List ℕ))
-    → item_list (values_data (as_values texts)) ≡ map string texts
+string_items : (texts : List (List ℕ)) → item_list (datas string texts) ≡ map string texts
 string_items [] = refl
 string_items (text ∷ texts) = ap (λ ds. string text ∷ ds) (string_items texts)
 
@@ -147,7 +144,7 @@ only_file_fields u (text ∷ texts) = (_, refl, (inr refl, (inr refl, tt)))
 
 labels_are_items : (u : List Label) (texts : List (List ℕ))
     → option_and_then items_of (field (codes "labels") (universe_data u texts))
-    ≡ Some (item_list (labels_data u))
+    ≡ Some (item_list (datas label_data u))
 labels_are_items u [] = refl
 labels_are_items u (text ∷ texts) = refl
 
@@ -159,9 +156,9 @@ data_says : (u : List Label) (texts : List (List ℕ)) (lists : List (List Condi
     → SaysUniverse (universe_data u texts) (space_of u lists)
 data_says u texts lists is spell = record {
   only = only_file_fields u texts;
-  items = item_list (labels_data u);
+  items = item_list (datas label_data u);
   is_array = labels_are_items u texts;
-  labels = labels_said u;
+  labels = each_said label_tree label_data SaysLabel label_said u;
   is_universe = is;
   texts = map string texts;
   has_texts = texts_said u texts;
