@@ -2,14 +2,13 @@
 use Rattle.std.proofs.Common.{◌≡◌, ℕ, ◌-◌, ◌<◌, Bool, true, false, cond, ◌==◌, ◌&&◌, nat_eq, length}
 use Rattle.std.proofs.Common.{take, drop, List, [], ◌∷◌, ◌++◌, Option, Some, None, IsUtf8, refl, sym}
 use Rattle.std.proofs.Common.{arith, subst, append_assoc}
-use Rattle.std.proofs.Common.{inl, inr}
 use Rattle.std.specs.Prelude.{⊤}
 use Rattle.std.specs.List.{AllByRecursion, starts_with}
 use Rattle.std.proofs.lemmas.Bool.Decides.{nat_tests}
 use Rattle.json.specs.Token.{Token, begin_object, end_object, begin_array, end_array, key, string}
 use Rattle.json.specs.Token.{number, boolean, null, bad}
 use Rattle.json.specs.Text.{content, plain}
-use Rattle.json.specs.Word.{is_operator, is_space, head, ends_word, literal, number_before}
+use Rattle.json.specs.Word.{head, ends_word, literal, number_before}
 use Rattle.json.specs.Word.{after_number, word}
 use Rattle.json.specs.Ascii as ascii
 use Rattle.json.specs.Lex.{Lexeme, token, comma, colon, Class, quote, backslash, operator, space}

@@ -11,7 +11,8 @@ use Rattle.am_judged_lists.specs.Cube.{IsCubeOf, MaskedLabels, matches}
 use Rattle.am_first_sets.specs.PossibleChoices.{AreFound}
 use Rattle.am_first_sets.proofs.CubeTruth.{matches_where}
 use Rattle.am_first_sets.proofs.SolverLemmas.{some_choice}
-use Rattle.am_idle.specs.Extent.{HasSet, IsSetOf, MatchesNone, MatchesEach, MatchesOne, SparesOne}
+use Rattle.am_every_alert.specs.Deciding.{IsSetOf}
+use Rattle.am_idle.specs.Extent.{HasSet, MatchesNone, MatchesEach}
 
 -- what is asked of a choice: that a cube matches it, or that it does not
 abbrev pub asked : MaskedLabels → Bool → List ℕ → Bool
@@ -45,35 +46,31 @@ module _ (s : Space) (ms : List Condition) where
     has_if_found (Some b) so some =
         let r = some_choice b so.some in
         let met = so.each r.0 r.1 in
-        let choice = (are r.0).0 met.0 in
-        (r.0, choice, sym (says r.0 choice) ∙ (asked_is cube wanted r.0).0 met.1)
+        let choice = (are r.0).0 met.0 in (
+          label_set_of s.labels r.0,
+          (r.0, choice, refl),
+          sym (says r.0 choice) ∙ (asked_is cube wanted r.0).0 met.1,
+        )
 
     pub none_if_unfound : (found : Option (List (List Bool)))
         → IfNone found ((c : List ℕ) → Is c → asked cube wanted c ≡ false) → is_some found ≡ false
         → HasSet s ms wanted → ⊥
     none_if_unfound (Some b) so none has = absurd (cc)
-    none_if_unfound None so none (c, choice, matched) =
+    none_if_unfound None so none (set, (c, choice, is), matched) =
         both_ways (asked cube wanted c) (so c ((are c).1 choice))
-        ((asked_is cube wanted c).1 (says c choice ∙ matched))
+        ((asked_is cube wanted c).1
+        (says c choice ∙ ap (λ (x : LabelMap). all_hold x ms) (sym is) ∙ matched))
 
   -- ---- Which label sets of a space a list matches.
 
-  pub one_matched : HasSet s ms true → MatchesOne (IsSetOf s) ms
-  one_matched has = (label_set_of s.labels has.0, (has.0, has.1, refl), has.2)
-
-  pub one_spared : HasSet s ms false → SparesOne (IsSetOf s) ms
-  one_spared has = (label_set_of s.labels has.0, (has.0, has.1, refl), has.2)
-
   pub none_matched : (HasSet s ms true → ⊥) → MatchesNone (IsSetOf s) ms
   none_matched none set is = elim (cases_Bool (all_hold set ms)) [
-    | inl holds ↦
-        absurd (none (is.0, is.1, ap (λ (x : LabelMap). all_hold x ms) (sym is.2) ∙ holds))
+    | inl holds ↦ absurd (none (set, is, holds))
     | inr fails ↦ fails
   ]
 
   pub each_matched : (HasSet s ms false → ⊥) → MatchesEach (IsSetOf s) ms
   each_matched none set is = elim (cases_Bool (all_hold set ms)) [
     | inl holds ↦ holds
-    | inr fails ↦
-        absurd (none (is.0, is.1, ap (λ (x : LabelMap). all_hold x ms) (sym is.2) ∙ fails))
+    | inr fails ↦ absurd (none (set, is, fails))
   ]

@@ -10,7 +10,8 @@ use Rattle.am_complete.specs.AskedLabel.{IsAskedOf}
 use Rattle.am_asked.specs.Placed.{placed_at, placed_in_lists, is_named}
 use Rattle.am_asked.proofs.PlacedConditions.{conditions_of, of_lists}
 use Rattle.am_asked.proofs.AskedLemmas.{asked_from_gathered}
-use Rattle.am_idle.specs.Lists.{listed_conditions, deciding_conditions, placed_by_list}
+use Rattle.am_every_alert.specs.Deciding.{deciding_conditions}
+use Rattle.am_idle.specs.Lists.{listed_conditions, placed_by_list}
 use Rattle.am_idle.specs.Lists.{placed_by_lists, labels_of_lists}
 
 at_one_place : (origin : Origin) (ms : List Condition) → conditions_of (placed_at origin ms) ≡ ms
@@ -27,11 +28,12 @@ of_some i (ms ∷ lists) =
 
 -- the labels are those that the matchers ask about
 pub lists_asked : (s : Space) (lists : List (List Condition))
-    → IsAskedOf (labels_of_lists s lists) (deciding_conditions s lists)
+    → IsAskedOf (labels_of_lists s lists) (deciding_conditions s (listed_conditions lists))
 lists_asked s lists =
     let placed = placed_by_lists lists in
     let impossible = placed_in_lists s.impossible in
     let same = map-append (λ p. p.1) placed impossible
     ∙ (λ j. of_some 0 lists j ++ of_lists s.impossible j) in
-    asked_from_gathered (placed ++ impossible) (deciding_conditions s lists)
+    asked_from_gathered (placed ++ impossible)
+    (deciding_conditions s (listed_conditions lists))
     (ap (filter is_named) same)

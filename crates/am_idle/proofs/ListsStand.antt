@@ -1,71 +1,41 @@
--- What is true of the label sets of a universe that is made for some lists is true of every alert.
-use Rattle.std.proofs.Common.{◌≡◌, List, [], ◌∷◌, refl, sym, ◌∙◌, subst}
+-- How far a list reaches over the label sets of a universe that is made for it, it does over every
+-- alert.
+use Rattle.std.proofs.Common.{◌≡◌, Bool, true, false, List, [], ◌∷◌, sym, ◌∙◌}
 use Rattle.am_universe.specs.Universe.{Label}
-use Rattle.am_universe.specs.LabelSet.{LabelMap, label_set_of}
+use Rattle.am_universe.specs.LabelSet.{LabelMap}
 use Rattle.am_labels.specs.Matcher.{Condition, all_hold}
 use Rattle.am_labels.specs.Space.{Space}
 use Rattle.am_classes.specs.declared.alphabet.Alphabet.{Alphabet}
-use Rattle.am_complete.specs.Complete.{impossible_conditions}
-use Rattle.am_every_alert.specs.EveryAlert.{IsAlertOf, MeetsTheSame}
-use Rattle.am_every_alert.proofs.UniverseAlerts.{universe_alert}
-use Rattle.am_every_alert.proofs.SpaceAlerts.{space_choice}
-use Rattle.am_every_alert.proofs.SameFate.{front_met, rest_met, all_alike, same_possible}
+use Rattle.am_every_alert.specs.EveryAlert.{IsAlertOf}
+use Rattle.am_every_alert.specs.Deciding.{IsSetOf, space_of}
+use Rattle.am_every_alert.proofs.SpaceAlerts.{IsToldBy, each_over, some_over}
+use Rattle.am_every_alert.proofs.SameFate.{front_met, all_alike}
 use Rattle.am_idle.specs.declared.extent.Extent.{Extent}
 use Rattle.am_idle.specs.declared.extent.Extent.TheVariants as extent_is
-use Rattle.am_idle.specs.Lists.{listed_conditions, deciding_conditions, made_space}
-use Rattle.am_idle.specs.Lists.{StandsForLists}
-use Rattle.am_idle.specs.Extent.{IsSetOf, IsExtent, MatchesOne, SparesOne, MatchesNone, MatchesEach}
+use Rattle.am_idle.specs.Lists.{listed_conditions, StandsForLists}
+use Rattle.am_idle.specs.Extent.{IsExtent}
 
-module _ (a : Alphabet) (s : Space) (u : List Label) where
-  -- the space of the universe
+module _ (a : Alphabet) (s : Space) (u : List Label) (ms : List Condition)
+    (h : StandsForLists a s (ms ∷ []) u) where
   abbrev made : Space
-  made = made_space s u
+  made = space_of s.impossible u
 
-  module _ (lists : List (List Condition)) (h : StandsForLists a s lists u) where
-    pub alert_of_set : (set : LabelMap) → IsSetOf made set → IsAlertOf a s set
-    alert_of_set set is =
-        subst (λ (x : LabelMap). IsAlertOf a s x) (sym is.2)
-        (universe_alert a u is.0 h.universe h.over, is.1.1)
+  abbrev asked : List Condition
+  asked = listed_conditions (ms ∷ [])
 
-    pub set_of_alert : (alert : LabelMap) → IsAlertOf a s alert
-        → (set : LabelMap) × IsSetOf made set × MeetsTheSame (listed_conditions lists) set alert
-    set_of_alert alert is =
-        let listed = listed_conditions lists in
-        let impossible = impossible_conditions s.impossible in
-        let r = space_choice a made (deciding_conditions s lists) alert h.universe h.complete is
-        in
-        let set = label_set_of u r.0 in
-        let possible = same_possible set alert s.impossible
-        (rest_met set alert listed impossible r.2) in
-        (set, (r.0, (r.1, possible ∙ is.1), refl), front_met set alert listed impossible r.2)
+  -- the list matches a label set, or it does not
+  abbrev Tells : Bool → LabelMap → Type 0
+  Tells b set = all_hold set ms ≡ b
 
-  -- ---- One list.
+  told : (b : Bool) → IsToldBy asked (Tells b)
+  told b x y met is = sym (all_alike x y ms (front_met x y ms [] met)) ∙ is
 
-  module _ (ms : List Condition) (h : StandsForLists a s (ms ∷ []) u) where
-    abbrev one : List (List Condition)
-    one = ms ∷ []
-
-    alike : (set alert : LabelMap) → MeetsTheSame (listed_conditions one) set alert
-        → all_hold set ms ≡ all_hold alert ms
-    alike set alert met = all_alike set alert ms (front_met set alert ms [] met)
-
-    none_over : MatchesNone (IsSetOf made) ms → MatchesNone (IsAlertOf a s) ms
-    none_over none alert is =
-        let r = set_of_alert one h alert is in sym (alike r.0 alert r.2) ∙ none r.0 r.1
-
-    each_over : MatchesEach (IsSetOf made) ms → MatchesEach (IsAlertOf a s) ms
-    each_over each alert is =
-        let r = set_of_alert one h alert is in sym (alike r.0 alert r.2) ∙ each r.0 r.1
-
-    one_over : MatchesOne (IsSetOf made) ms → MatchesOne (IsAlertOf a s) ms
-    one_over some = (some.0, alert_of_set one h some.0 some.1, some.2)
-
-    spared_over : SparesOne (IsSetOf made) ms → SparesOne (IsAlertOf a s) ms
-    spared_over some = (some.0, alert_of_set one h some.0 some.1, some.2)
-
-    -- the list reaches as far over every alert as over the label sets of the universe
-    pub extent_over : (extent : Extent) → IsExtent (IsSetOf made) ms extent
-        → IsExtent (IsAlertOf a s) ms extent
-    extent_over extent_is.NoAlert is = none_over is
-    extent_over extent_is.EachAlert is = (one_over is.0, each_over is.1)
-    extent_over extent_is.SomeAlerts is = (one_over is.0, spared_over is.1)
+  pub extent_over : (extent : Extent) → IsExtent (IsSetOf made) ms extent
+      → IsExtent (IsAlertOf a s) ms extent
+  extent_over extent_is.NoAlert none = each_over a made asked h (Tells false) (told false) none
+  extent_over extent_is.EachAlert (one, each) = (
+    some_over a made asked h (Tells true) one,
+    each_over a made asked h (Tells true) (told true) each,
+  )
+  extent_over extent_is.SomeAlerts (one, spared) =
+      (some_over a made asked h (Tells true) one, some_over a made asked h (Tells false) spared)

@@ -30,12 +30,12 @@ use Rattle.am_judged_lists.proofs.ListLemmas.{all_pass, some_passes}
 use Rattle.am_classes.specs.declared.alphabet.Alphabet.{Alphabet}
 use Rattle.am_complete.specs.Complete.{impossible_conditions}
 use Rattle.am_every_alert.specs.EveryAlert.{IsAlertOf, MeetsTheSame}
-use Rattle.am_every_alert.proofs.UniverseAlerts.{universe_alert}
-use Rattle.am_every_alert.proofs.SpaceAlerts.{space_choice}
+use Rattle.am_every_alert.specs.Deciding.{deciding_conditions, space_of}
+use Rattle.am_every_alert.proofs.SpaceAlerts.{space_choice, alert_of_set}
 use Rattle.am_every_alert.proofs.SameFate.{front_met, rest_met, all_alike, same_possible}
 use Rattle.am_idle.specs.declared.rules.IdleReason.{IdleReason}
 use Rattle.am_idle.specs.declared.rules.IdleReason.TheVariants as reason_is
-use Rattle.am_idle.specs.Lists.{listed_conditions, deciding_conditions, made_space}
+use Rattle.am_idle.specs.Lists.{listed_conditions}
 use Rattle.am_idle.specs.Lists.{StandsForLists}
 use Rattle.am_idle.specs.RuleChoices.{labels_named, AreMeeting, IsFoundOf}
 use Rattle.am_idle.specs.RuleText.{HasPositionsIfAny}
@@ -345,19 +345,22 @@ module _ (rule : Rule) where
     module _ (u : List Label)
         (stands : StandsForLists a s (rule.source ∷ rule.target ∷ []) u) where
       abbrev made : Space
-      made = made_space s u
+      made = space_of s.impossible u
 
       abbrev lists : List (List Condition)
       lists = rule.source ∷ rule.target ∷ []
 
+      abbrev listed : List Condition
+      listed = listed_conditions lists
+
       abbrev MeetsListed : LabelMap → LabelMap → Type 0
-      MeetsListed set alert = MeetsTheSame (listed_conditions lists) set alert
+      MeetsListed set alert = MeetsTheSame listed set alert
 
       alerts_meet : (x y : LabelMap) → AreMeeting made rule.equal x y → MayMeet a s rule x y
       alerts_meet x y (c, d, first, second, same, is, also) =
           rw (is, also) (
-            (universe_alert a u c stands.universe stands.over, first.1),
-            (universe_alert a u d stands.universe stands.over, second.1),
+            alert_of_set a made listed stands (label_set_of u c) (c, first, refl),
+            alert_of_set a made listed stands (label_set_of u d) (d, second, refl),
             equal_values u stands.universe rule.equal c d first.0 second.0 same,
           )
 
@@ -365,9 +368,8 @@ module _ (rule : Rule) where
           → (p : LabelMap) × (q : LabelMap) × AreMeeting made rule.equal p q × MeetsListed p x
           × MeetsListed q y
       sets_meet x y (first, second, equal) =
-          let listed = listed_conditions lists in
           let impossible = impossible_conditions s.impossible in
-          let deciding = deciding_conditions s lists in
+          let deciding = deciding_conditions s listed in
           let one = space_choice a made deciding x stands.universe stands.complete first in
           let two = space_choice a made deciding y stands.universe stands.complete second in
           let c = one.0 in

@@ -117,13 +117,6 @@ positions_ascend test from (x ∷ xs) =
     let r = positions_out test (from + 1) xs j there in omega (arith, r.2)))
     (positions_ascend test (from + 1) xs)
 
--- ---- One more item.
-
-pub all_pushed : {X : Type 0} (P : X → Type 0) (xs : List X) (x : X) → AllByRecursion P xs → P x
-    → AllByRecursion P (xs ++ x ∷ [])
-all_pushed P [] x all new = (new, tt)
-all_pushed P (y ∷ xs) x all new = (all.0, all_pushed P xs x all.1 new)
-
 -- ---- Literals by their positions.
 
 unchanged_at : (n i : ℕ) (ks : List Candidate) → i ≢ n

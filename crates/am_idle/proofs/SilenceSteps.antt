@@ -1,11 +1,12 @@
 -- Silences one after another: what holds for those before a position, and for the one that is
 -- there.
-use Rattle.std.proofs.Common.{◌≡◌, ◌<◌, ◌+◌, ℕ, zero, suc, List, [], ◌∷◌, ◌++◌, length, take, Some}
-use Rattle.std.proofs.Common.{Bool, true, false, refl, sym, ap, ◌∙◌, subst, slice_get, inl, inr, arith}
+use Rattle.std.proofs.Common.{◌≡◌, ◌+◌, ℕ, List, [], ◌∷◌, ◌++◌, take, Some}
+use Rattle.std.proofs.Common.{Bool, true, false, refl, sym, ap, ◌∙◌, subst, slice_get, inl, inr}
 use Rattle.std.specs.Prelude.{◌&&◌}
 use Rattle.std.specs.List.{AllZip, list_any}
 use Rattle.std.proofs.lemmas.Bool.{cases_Bool}
 use Rattle.std.proofs.lemmas.Option.{same_Some}
+use Rattle.std.proofs.lemmas.Slice.Zip.{all_zipped_more}
 use Rattle.am_universe.specs.LabelSet.{LabelMap}
 use Rattle.am_labels.specs.Matcher.{Condition}
 use Rattle.am_labels.specs.Space.{Space}
@@ -16,19 +17,6 @@ use Rattle.am_idle.specs.Extent.{IsExtent}
 
 -- ---- Lists.
 
-pub item_there : {X : Type 0} (xs : List X) (i : ℕ) → i < length xs
-    → (x : X) × (slice_get xs i ≡ Some x)
-item_there [] i lt = absurd (omega (arith, lt))
-item_there (x ∷ xs) zero lt = (x, refl)
-item_there (x ∷ xs) (suc i) lt = item_there xs i (omega (arith, lt))
-
-zip_push : {A B : Type 0} (R : A → B → Type 0) (xs : List A) (ys : List B) (x : A) (y : B)
-    → AllZip R xs ys → R x y → AllZip R (xs ++ x ∷ []) (ys ++ y ∷ [])
-zip_push R [] [] x y all last = (last, tt)
-zip_push R [] (z ∷ ys) x y all last = absurd all
-zip_push R (z ∷ xs) [] x y all last = absurd all
-zip_push R (z ∷ xs) (w ∷ ys) x y all last = (all.0, zip_push R xs ys x y all.1 last)
-
 -- what holds for two lists before a position, and at it, holds before the next position
 pub zip_more : {A B : Type 0} (R : A → B → Type 0) (xs : List A) (i : ℕ) (x : A) (y : B)
     (ys zs : List B) → slice_get xs i ≡ Some x → zs ≡ ys ++ y ∷ [] → AllZip R (take i xs) ys
@@ -36,7 +24,7 @@ pub zip_more : {A B : Type 0} (R : A → B → Type 0) (xs : List A) (i : ℕ) (
 zip_more R xs i x y ys zs at is all last =
     subst (AllZip R (take (i + 1) xs)) (sym is)
     (subst (λ (ws : List _). AllZip R ws (ys ++ y ∷ [])) (one_longer xs i x at)
-    (zip_push R (take i xs) ys x y all last))
+    (all_zipped_more R (take i xs) ys x y all last))
 
 any_pushed : {X : Type 0} (test : X → Bool) (xs : List X) (x : X) → list_any test xs ≡ false
     → test x ≡ false → list_any test (xs ++ x ∷ []) ≡ false

@@ -11,26 +11,20 @@ use Rattle.am_classes.specs.declared.alphabet.Alphabet.{Alphabet}
 use Rattle.am_complete.specs.declared.origin.Origin.{Origin}
 use Rattle.am_complete.specs.declared.origin.Origin.TheVariants as origin_is
 use Rattle.am_complete.specs.AskedLabel.{AskedLabel, asked_labels}
-use Rattle.am_complete.specs.Complete.{IsSpaceComplete, impossible_conditions}
-use Rattle.am_complete.specs.Covering.{HasTextsOver, CoversEachBut}
+use Rattle.am_complete.specs.Covering.{CoversEachBut}
 use Rattle.am_complete.specs.Room.{HaveNoRoom, AreUnproved}
 use Rattle.am_asked.specs.Placed.{placed_at, placed_in_lists}
+use Rattle.am_every_alert.specs.Deciding.{StandsFor, space_of}
 
 -- A space in which the same is impossible as in the given one, and no label is declared.
 abbrev pub undeclared : Space → Space
-undeclared s = record { labels = []; impossible = s.impossible }
+undeclared s = space_of s.impossible []
 
 -- ---- What is asked.
 
 -- The matchers of some lists.
 abbrev pub listed_conditions : List (List Condition) → List Condition
 listed_conditions lists = flat_map (λ ms. ms) lists
-
--- The matchers that decide: those of some lists, and those that say what is impossible.
--- Source: own choice.
--- Example: for the list `team="db"`, if nothing is impossible, it is this matcher alone.
-abbrev pub deciding_conditions : Space → List (List Condition) → List Condition
-deciding_conditions s lists = listed_conditions lists ++ impossible_conditions s.impossible
 
 -- The matchers of some lists, each with the position of its list as its origin, as if the list were
 -- a rule. No fault shows this origin.
@@ -49,21 +43,15 @@ labels_of_lists s lists = asked_labels (placed_by_lists lists ++ placed_in_lists
 
 -- ---- What is made.
 
--- A space in which the same is impossible as in the given one, with the labels of a universe.
-abbrev pub made_space : Space → List Label → Space
-made_space s u = record { labels = u; impossible = s.impossible }
-
 -- A universe stands for every alert over an alphabet, for some lists and the impossible lists of a
 -- space: it is complete for all these lists, and its texts are over the alphabet.
 -- Source: own choice.
 -- Example: for the list `team="db"`, over each alphabet, if nothing is impossible, a universe does
 -- if it has only the label `team`, which may be absent or `db`. It does not if `team` is always
 -- `db`.
-pub record StandsForLists (a : Alphabet) (s : Space) (lists : List (List Condition))
-    (u : List Label) : Type 0 where
-  pub universe : IsUniverse u
-  pub complete : IsSpaceComplete a (made_space s u) (deciding_conditions s lists)
-  pub over : HasTextsOver a u
+abbrev pub StandsForLists : Alphabet → Space → List (List Condition) → List Label → Type 0
+StandsForLists a s lists u =
+    StandsFor a (space_of s.impossible u) (listed_conditions lists)
 
 -- No universe is made, because there is no room for the labels that are asked about.
 -- Source: own choice.

@@ -11,7 +11,8 @@ ghost use Rattle.am_eval.specs.Silencing.{is_active, hides, at_instant};
 ghost use Rattle.am_classes.specs.declared.alphabet.Alphabet.{Alphabet};
 ghost use Rattle.am_every_alert.specs.EveryAlert.{IsAlertOf, MeetsTheSame};
 ghost use Rattle.am_idle.specs.declared.silences.SilenceFinding.TheVariants as finding_is;
-ghost use Rattle.am_idle.specs.Lists.{listed_conditions, made_space, StandsForLists};
+ghost use Rattle.am_every_alert.specs.Deciding.{space_of};
+ghost use Rattle.am_idle.specs.Lists.{listed_conditions, StandsForLists};
 ghost use Rattle.am_idle.specs.Silences.{IsSilenceFinding};
 ghost use Rattle.am_idle.specs.declared.rules.IdleReason.{IdleReason};
 ghost use Rattle.am_idle.specs.Rules.{MayMeet, IsWhyNone, IsIdle};
@@ -22,11 +23,11 @@ ghost use Rattle.am_idle.specs.Rules.{MayMeet, IsWhyNone, IsIdle};
 pub fn a_universe_for_lists_stands_for_every_alert()
     ensures choice { (a : Alphabet) (s : Space) (lists : List (List Condition)) (u : List Label)
         (alert : LabelMap) → StandsForLists a s lists u → IsAlertOf a s alert
-        → (choice : List ℕ) × IsChoiceOf (made_space s u) choice
+        → (choice : List ℕ) × IsChoiceOf (space_of s.impossible u) choice
         × MeetsTheSame (listed_conditions lists) (label_set_of u choice) alert }
     ensures alert { (a : Alphabet) (s : Space) (lists : List (List Condition)) (u : List Label)
-        (choice : List ℕ) → StandsForLists a s lists u → IsChoiceOf (made_space s u) choice
-        → IsAlertOf a s (label_set_of u choice) }
+        (choice : List ℕ) → StandsForLists a s lists u
+        → IsChoiceOf (space_of s.impossible u) choice → IsAlertOf a s (label_set_of u choice) }
 {}
 
 /// An idle silence hides no alert of the space over the alphabet, at any instant. A silence that is

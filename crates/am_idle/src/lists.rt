@@ -7,7 +7,8 @@
 ghost use Rattle.std.specs.Prelude.{◌≡◌, ◌≢◌, [], map, IfOk, IfErr, OnOk, fold};
 ghost use Rattle.am_universe.specs.declared.kind.Kind.TheVariants as kinds;
 ghost use Rattle.am_complete.specs.AskedLabel.{IsAskedOf, with_asked};
-ghost use Rattle.am_idle.specs.Lists.{deciding_conditions, placed_by_lists, labels_of_lists};
+ghost use Rattle.am_every_alert.specs.Deciding.{deciding_conditions};
+ghost use Rattle.am_idle.specs.Lists.{listed_conditions, placed_by_lists, labels_of_lists};
 ghost use Rattle.am_idle.specs.Lists.{StandsForLists, IsRefusalForLists};
 
 use am_asked::{visit_lists, visit_matchers};
@@ -51,7 +52,7 @@ fn asked_by_lists<'m>(
     space: &'m Space,
 ) -> Result<Vec<AskedLabel<'m>>, AllocError>
     ensures asked { IfOk result (λ labels. IsAskedOf labels.items
-        (deciding_conditions space.now (map (λ list. list.now) lists.now))) }
+        (deciding_conditions space.now (listed_conditions (map (λ list. list.now) lists.now)))) }
     ensures labels { IfOk result (λ labels. labels.items
         ≡ labels_of_lists space.now (map (λ list. list.now) lists.now)) }
 {

@@ -12,7 +12,7 @@ use Rattle.serde_json.specs.Data.{Data, null, string, array, object, Items, no_i
 use Rattle.serde_json.specs.Data.{Members, no_members, member}
 use Rattle.serde_json.specs.Read.{read, max_depth, of_json, of_items}
 use Rattle.json.specs.Token.{Token}
-use Rattle.am_universe.specs.Universe.{Label, Values, IsUniverse}
+use Rattle.am_universe.specs.Universe.{Label, IsUniverse}
 use Rattle.am_json.specs.Json.{json_of, field, items_of, item_list, HasOnlyFields}
 use Rattle.am_json.specs.declared.limits.TheConstants.{MAX_FILE_BYTES}
 use Rattle.am_labels.specs.Matcher.{Condition}

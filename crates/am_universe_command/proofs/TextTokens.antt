@@ -12,7 +12,7 @@ use Rattle.json.specs.Json as json
 use Rattle.json.specs.Tree.{json_tokens, items_tokens, members_tokens}
 use Rattle.json.proofs.Printed.Numbers.{in_word-ended}
 use Rattle.json.proofs.Printed.Strings.{content-escape, lex-escape}
-use Rattle.am_universe.specs.Universe.{Label, Values}
+use Rattle.am_universe.specs.Universe.{Label}
 use Rattle.am_report_texts.specs.Separated.{texts_behind}
 use Rattle.am_universe_command.specs.UniverseText.{value_text, values_text, label_text, lists_text}
 use Rattle.am_universe_command.specs.UniverseText.{impossible_text, universe_text}

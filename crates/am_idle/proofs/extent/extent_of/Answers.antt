@@ -1,8 +1,8 @@
 -- What holds over the universe that is made holds over every alert.
 use Rattle.std.proofs.Common.{◌≡◌, subst}
 use Rattle.am_labels.specs.Space.{Space}
-use Rattle.am_idle.specs.Lists.{made_space}
-use Rattle.am_idle.specs.Extent.{IsExtent, IsSetOf}
+use Rattle.am_every_alert.specs.Deciding.{IsSetOf, space_of}
+use Rattle.am_idle.specs.Extent.{IsExtent}
 use Rattle.am_idle.proofs.ListsStand.{extent_over}
 use Rattle.am_idle.proofs.extent.extent_of.Goals as goal
 
@@ -12,7 +12,7 @@ returns-clause-extent c =
     let u = c.in_ok-universe.universe in
     let ms = c.args.matchers.now in
     let extent = c.in_ok-extent.field-0 in
-    let declared : c.declare.new.self ≡ made_space s u =
+    let declared : c.declare.new.self ≡ space_of s.impossible u =
     λ i. record {
       labels = c.declare.ensures.labels i;
       impossible = c.declare.ensures.impossible i;

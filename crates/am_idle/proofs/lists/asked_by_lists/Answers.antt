@@ -3,7 +3,8 @@ use Rattle.std.proofs.Common.{◌≡◌, [], sym, subst, refl, List, map}
 use Rattle.std.proofs.lemmas.List.Sums.{fold-append}
 use Rattle.am_complete.specs.AskedLabel.{AskedLabel, IsAskedOf, with_asked}
 use Rattle.am_asked.specs.Placed.{placed_in_lists}
-use Rattle.am_idle.specs.Lists.{deciding_conditions, placed_by_lists, labels_of_lists}
+use Rattle.am_every_alert.specs.Deciding.{deciding_conditions}
+use Rattle.am_idle.specs.Lists.{listed_conditions, placed_by_lists, labels_of_lists}
 use Rattle.am_idle.proofs.ListsAsked.{lists_asked}
 use Rattle.am_idle.proofs.lists.asked_by_lists.Goals as goal
 
@@ -21,7 +22,8 @@ returns c =
       fold-append with_asked [] (placed_by_lists lists) (placed_in_lists s.impossible),
     ) refl in
     record {
-      asked = subst (λ (labels : List AskedLabel). IsAskedOf labels (deciding_conditions s lists))
-          (sym is) (lists_asked s lists);
+      asked = subst (λ (labels : List AskedLabel).
+          IsAskedOf labels (deciding_conditions s (listed_conditions lists))) (sym is)
+          (lists_asked s lists);
       labels = is;
     }

@@ -9,7 +9,8 @@ use Rattle.am_complete.specs.Complete.{impossible_conditions}
 use Rattle.am_complete.specs.Covering.{CoversEachBut}
 use Rattle.am_complete.specs.Room.{HaveNoRoom, AreUnproved}
 use Rattle.am_complete.proofs.AmongMatchers.{last_among}
-use Rattle.am_idle.specs.Lists.{listed_conditions, deciding_conditions, labels_of_lists}
+use Rattle.am_every_alert.specs.Deciding.{deciding_conditions}
+use Rattle.am_idle.specs.Lists.{listed_conditions, labels_of_lists}
 use Rattle.am_idle.proofs.MadeUniverses.{undeclared_is, of_room}
 use Rattle.am_idle.proofs.lists.universe_for_lists.Goals as goal
 
@@ -17,7 +18,7 @@ pub universe_beside-requires : goal.universe_beside-requires
 universe_beside-requires c =
     let s = c.args.space.now in
     let lists : List (List Condition) = map (λ list. list.now) c.args.lists.now in (
-      deciding_conditions s lists,
+      deciding_conditions s (listed_conditions lists),
       rw (c.as_slice.ensures.value) c.in_ok-asked.ensures.asked,
       last_among (listed_conditions lists) (impossible_conditions s.impossible),
     )

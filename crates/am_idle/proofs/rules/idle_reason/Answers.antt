@@ -2,7 +2,8 @@
 use Rattle.std.proofs.Common.{◌≡◌, subst, List, [], ◌∷◌}
 use Rattle.am_labels.specs.Matcher.{Condition}
 use Rattle.am_labels.specs.Space.{Space}
-use Rattle.am_idle.specs.Lists.{made_space, StandsForLists}
+use Rattle.am_every_alert.specs.Deciding.{space_of}
+use Rattle.am_idle.specs.Lists.{StandsForLists}
 use Rattle.am_idle.specs.RuleChoices.{AreMeeting, IsFoundOf}
 use Rattle.am_idle.proofs.RuleAlerts.{found_over, positions_told}
 use Rattle.am_idle.proofs.rules.idle_reason.Goals as goal
@@ -14,7 +15,7 @@ returns-clause-finding c =
     let u = c.in_ok-universe.universe in
     let rule = c.args.rule.now in
     let finding = c.in_ok-reason.field-0 in
-    let declared : c.declare.new.self ≡ made_space s u =
+    let declared : c.declare.new.self ≡ space_of s.impossible u =
     λ i. record {
       labels = c.declare.ensures.labels i;
       impossible = c.declare.ensures.impossible i;

@@ -1,10 +1,10 @@
 use Rattle.std.proofs.Common.{refl, sym, ap, subst, ◌∙◌, [], ◌∷◌, ◌++◌, ◌≡◌, true, List, append_assoc, append-nil}
 use Rattle.std.proofs.lemmas.List.{take_all}
+use Rattle.am_universe.proofs.DistinctLists.{all_push}
 use Rattle.am_judged_lists.specs.Cube.{MaskedLabels}
 use Rattle.am_report_texts.proofs.PieceSteps.{item_here}
 use Rattle.am_first_sets.specs.declared.candidate.Candidate.{Candidate}
 use Rattle.am_idle.specs.RuleChoices.{AreWantedFor}
-use Rattle.am_idle.proofs.RuleLiterals.{all_pushed}
 use Rattle.am_idle.proofs.SilenceSteps.{zip_more}
 use Rattle.am_idle.proofs.sides.push_literals.Goals as goal
 
@@ -23,7 +23,7 @@ loop-i-preserved c =
           ∙ append_assoc c.args.literals.now.items so.0 (k ∷ []),
       zip_more (λ (d : MaskedLabels) (l : Candidate). (l.cube.now ≡ d) × (l.wanted ≡ true)) cubes
           c.loop-i.i cube k so.0 (so.0 ++ k ∷ []) at refl so.2 (refl, refl),
-      all_pushed (λ (l : Candidate). l.named ≡ true) so.0 k so.3 refl,
+      all_push (λ (l : Candidate). l.named ≡ true) so.0 k so.3 refl,
     )
 
 pub returns : goal.returns

@@ -1,9 +1,10 @@
 -- One more silence, or the first that is refused.
 use Rattle.std.proofs.Common.{◌<◌, length, ap, ◌∙◌, subst, arith}
+use Rattle.am_universe.proofs.LabelPairLemmas.{found_at}
 use Rattle.am_labels.specs.Space.{Space}
 use Rattle.am_complete.proofs.Pushed.{one_more_passes}
 use Rattle.am_idle.specs.Silences.{IsSilenceFinding, IsAccepted, IsSilenceRefused}
-use Rattle.am_idle.proofs.SilenceSteps.{item_there, zip_more, same_space}
+use Rattle.am_idle.proofs.SilenceSteps.{zip_more, same_space}
 use Rattle.am_idle.proofs.silences.find_silences.Goals as goal
 
 pub returns-in-Err-clause-refused : goal.returns-in-Err-clause-refused
@@ -16,7 +17,7 @@ returns-in-Err-clause-refused c = λ remembered.
       ap length c.silences.ensures.silences,
       c.loop-i-test.true,
     ) in
-    let at = item_there w.silences c.loop-i.i lt in
+    let at = found_at w.silences c.loop-i.i lt in
     record {
       silence = at.0;
       there = at.1;
@@ -43,7 +44,7 @@ loop-i-preserved c =
       ap length c.silences.ensures.silences,
       c.loop-i-test.true,
     ) in
-    let at = item_there w.silences i lt in
+    let at = found_at w.silences i lt in
     let same = same_space c.loop-i.space s kept.labels c.requires kept.impossible in
     let is : IsSilenceFinding a s w given at.0 finding =
     subst (λ (t : Space). IsSilenceFinding a t w given at.0 finding) same
