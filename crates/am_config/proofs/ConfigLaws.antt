@@ -50,7 +50,7 @@ unfolding route_form
 route_stops names zero parent before d = search all_stop
 route_stops names (suc left) parent before d =
     let deeper : (above : Option ℕ) (n : ℕ) (e : Data)
-        → StopsAtFirst (route_form names left above n e) = λ above n e. route_stops names left above n e
+    → StopsAtFirst (route_form names left above n e) = λ above n e. route_stops names left above n e
     in
     search (all_stop, fields_stop, deeper) depth 20
 

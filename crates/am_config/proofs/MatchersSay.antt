@@ -391,9 +391,12 @@ optional_texts_decide is_root key d =
       | inr (v, there, (items, are, said)) ↦ (items, inr (rw there are), said)
     ])
     (λ ms _ (items, has, said). elim has [
-      | inl (absent, none) ↦ inl (absent, no_texts ms said.lists
-          (subst (λ (ds : List Data). AllZip SaysMatcherText ds said.lists) none said.texts)
-          said.joined)
+      | inl (absent, none) ↦ inl (
+        absent,
+        no_texts ms said.lists
+            (subst (λ (ds : List Data). AllZip SaysMatcherText ds said.lists) none said.texts)
+            said.joined,
+      )
       | inr are ↦ inr (option_and_then_some items_of (field key d) items are
           (λ v there is. (v, there, (items, is, said))))
     ])
@@ -437,8 +440,7 @@ matchers_decide fields is_root d =
     (optional_pairs_decide is_root d texts few root Equal fields.equalities)
     (λ equal few root. optional_pairs_decide is_root d equal few root Matches fields.patterns)))
     (λ all adds.
-    let (front, _, (items, has, texts), (equal, patterns, equals, matches, two), is) = adds.says in
-    (
+    let (front, _, (items, has, texts), (equal, patterns, equals, matches, two), is) = adds.says in (
       record {
         items = items;
         is_array = has;

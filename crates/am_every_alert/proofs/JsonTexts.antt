@@ -26,8 +26,7 @@ beside_ascii front x xs small u =
     let i = length front in
     let within : i < length bs = omega (arith, length-append front (x ∷ xs)) in
     let here : get_or bs i 0 < 128 = omega (arith, get_or_at front x xs 0 i refl) in
-    let next : length (front ++ x ∷ []) ≡ i + 1 = omega (arith, length-append front (x ∷ [])) in
-    (
+    let next : length (front ++ x ∷ []) ≡ i + 1 = omega (arith, length-append front (x ∷ [])) in (
       subst IsUtf8 (take_at front (x ∷ xs) i refl)
           (IsUtf8-take bs i u (IsCharBoundary-before_ascii bs i within here)),
       subst IsUtf8

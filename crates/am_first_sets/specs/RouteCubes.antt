@@ -56,8 +56,8 @@ KnowsRoutes u c routes =
     (choice : List ℕ) → IsWhole (sizes u) choice → AreCubesOf u choice c.root routes
 
 -- Whether an alert gets from a route down to the route at a path, by two tests of cubes: whether it
--- matches, and whether it does not. It gets past a sibling that has `continue` or does not match. At
--- the end it may match no child, or nothing more is asked.
+-- matches, and whether it does not. It gets past a sibling that has `continue` or does not match.
+-- At the end it may match no child, or nothing more is asked.
 module _ (matched unmatched : MaskedLabels → Bool) where
   abbrev pub gets_past : RouteCubes → Bool
   gets_past r = (out-RouteCubes r).continues || unmatched (out-RouteCubes r).cube

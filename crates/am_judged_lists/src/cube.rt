@@ -159,8 +159,8 @@ impl Cube {
         Ok(())
     }
 
-    /// Makes the cube that matches a pair of choices over this number of labels exactly if this cube
-    /// matches one side of it. Fails only if memory runs out.
+    /// Makes the cube that matches a pair of choices over this number of labels exactly if this
+    /// cube matches one side of it. Fails only if memory runs out.
     ///
     /// The mask of a label becomes that of its place. If a label has a mask but no side has the
     /// label, the cube permits no choice.

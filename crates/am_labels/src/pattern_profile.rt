@@ -110,7 +110,11 @@ fn inside_piece(byte: u8, after: &[u8]) -> Piece
 {
     if byte == b'[' {
         let named = named_class_len(after);
-        return Piece::of(named.unwrap_or(0), ClassContext::InsideClass, named.is_none());
+        return Piece::of(
+            named.unwrap_or(0),
+            ClassContext::InsideClass,
+            named.is_none(),
+        );
     }
     if byte == b']' {
         return Piece::of(0, ClassContext::OutsideClass, false);

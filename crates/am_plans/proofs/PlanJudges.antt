@@ -20,7 +20,7 @@ use Rattle.am_judged_lists.specs.declared.certainty.Certainty.TheVariants.{May, 
 use Rattle.am_judged_lists.specs.Certainty.{passes, other}
 use Rattle.am_plans.specs.Verdicts.{kleene_not, verdict_of_question, verdict_of_space, verdict_of}
 use Rattle.am_plans.specs.PlanView.{truth_by, possible_by, is_answer_by, verdict_of_truths}
-use Rattle.am_plans.specs.PlanView.{judged_verdict, judged_truth, IsJudgeOver}
+use Rattle.am_plans.specs.PlanView.{judged_verdict, judged_truth, IsJudgeIn}
 use Rattle.am_plans.proofs.Kleene.{passes_not, passes_and, passes_each, from_passes}
 use Rattle.am_plans.proofs.Soundness.{none_matches, verdict_says_truth, judges}
 
@@ -70,7 +70,7 @@ module _ (s : Space) (w : World) (q : Question) (world : WorldLists) (question :
       → judged_truth world question impossible c ≡ is_answer s w q c
   truth_is c whole = ap is_yes (verdict_is c whole.0) ∙ verdict_says_truth s w q c whole
 
-  pub is_judge : AreSizes (sizes s.labels) → IsJudgeOver s.labels world question impossible
+  pub is_judge : AreSizes (sizes s.labels) → IsJudgeIn s.labels world question impossible
   is_judge =
       judges s w q (judged_truth world question impossible)
       (judged_verdict world question impossible) truth_is verdict_is

@@ -44,7 +44,7 @@ abbrev pub judged_truth : WorldLists → QuestionLists → List MaskedLabels →
 judged_truth world question impossible c = is_yes (judged_verdict world question impossible c)
 
 -- These truths and verdicts meet the laws of a judge, over these labels.
-abbrev pub IsJudgeOver : List Label → WorldLists → QuestionLists → List MaskedLabels → Type 0
-IsJudgeOver u world question impossible =
+abbrev pub IsJudgeIn : List Label → WorldLists → QuestionLists → List MaskedLabels → Type 0
+IsJudgeIn u world question impossible =
     IsJudge (sizes u) (judged_truth world question impossible)
     (judged_verdict world question impossible)

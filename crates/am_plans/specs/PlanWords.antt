@@ -25,4 +25,4 @@ abbrev pub plan_truth : Plan → List ℕ → Bool
 plan_truth plan = judged_truth plan.world plan.question plan.impossible
 
 pub plan_is_judge : (plan : Plan) → IsJudge (plan_sizes plan) (plan_truth plan) (plan_verdict plan)
-plan_is_judge plan = plan.is_judge
+plan_is_judge plan = plan.judges

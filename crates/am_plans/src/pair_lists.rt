@@ -99,12 +99,7 @@ impl PairLists {
 
 /// Whether the source side of a pair does not match. If the pair does not require this, or there is
 /// no such side, the result is `true`.
-fn side_fails(
-    sources: &[Cube],
-    side: PairSide,
-    certainty: Certainty,
-    prefix: &Choice,
-) -> bool
+fn side_fails(sources: &[Cube], side: PairSide, certainty: Certainty, prefix: &Choice) -> bool
     ensures { result ≡ side_fails prefix.now certainty sources.now side }
 {
     if !side.both {

@@ -31,7 +31,7 @@ ghost use Rattle.am_universe.specs.Choice.{admits, IsWhole};
 ghost use Rattle.am_eval.specs.Question.{is_answer};
 ghost use Rattle.am_eval.specs.QuestionView.{question_view};
 ghost use Rattle.am_plans.specs.Verdicts.{verdict_of};
-ghost use Rattle.am_plans.specs.PlanView.{is_answer_by, IsJudgeOver};
+ghost use Rattle.am_plans.specs.PlanView.{is_answer_by, IsJudgeIn};
 
 use crate::question_lists::QuestionLists;
 use crate::world_lists::WorldLists;
@@ -54,8 +54,7 @@ pub struct Plan<'a> {
     world: WorldLists,
     question: QuestionLists<'a>,
     impossible: Table,
-    ghost is_judge: { IsJudgeOver space.now.labels world question impossible }
-        by { Prim.hlevel props },
+    ghost judges: { IsJudgeIn space.now.labels world question impossible } by { Prim.hlevel props },
 }
 
 impl<'a> Plan<'a> {

@@ -94,7 +94,5 @@ fn gets_past(siblings: &[RouteCubes], certainty: Certainty, prefix: &Choice) -> 
     ensures { result ≡ list_all (gets_past (holds_at prefix.now certainty)
         (fails_at prefix.now certainty)) siblings.now }
 {
-    siblings
-        .iter()
-        .all(|sibling| sibling.continues || certainty.fails(&sibling.cube, prefix))
+    siblings.iter().all(|sibling| sibling.continues || certainty.fails(&sibling.cube, prefix))
 }

@@ -27,7 +27,7 @@ cubes c prefix admitted =
 
 pub invariant_of-result : goal.invariant_of-result
 invariant_of-result c = record {
-  is_judge = is_judge c.args.space.now c.args.world.now (question_view c.args.question.now)
+  judges = is_judge c.args.space.now c.args.world.now (question_view c.args.question.now)
       c.in_ok-world.world c.in_ok-question.question c.in_ok-impossible.impossible (exact c) (cubes c)
       (subst (λ (u : List Label). AreSizes (sizes u)) c.universe-universe.ensures.labels
       (sizes_of_universe c.universe-universe.result.now c.len.ensures.universe));
