@@ -10,9 +10,9 @@ use Rattle.am_universe.proofs.ListLemmas.{IsIn-from_Contains, Contains-from_IsIn
 use Rattle.am_universe.proofs.Members.{item_at, numbered_at}
 use Rattle.am_labels.proofs.Passing.{passes_from_kept, kept_from_passes}
 use Rattle.am_eval.specs.World.{World}
-use Rattle.am_eval.specs.Files.{Files}
+use Rattle.am_files.specs.Files.{Files}
 use Rattle.am_eval.specs.Question.{Question, satisfies}
-use Rattle.am_eval.proofs.AcceptedInputs.{one_world}
+use Rattle.am_files.proofs.AcceptedInputs.{one_world}
 use Rattle.am_eval.proofs.PairLemmas.{Numbers, numbers_ascend}
 use Rattle.am_questions.specs.QuestionText.{ReadsQuestion}
 use Rattle.am_questions.proofs.OneMeaning.{one_question}

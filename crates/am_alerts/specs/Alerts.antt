@@ -2,10 +2,10 @@
 use Rattle.std.specs.Prelude.{◌≡◌, ℕ, List, [], ◌∷◌, ◌++◌, Option, unwrap_or, codes, ⊤}
 use Rattle.am_eval.specs.World.{World}
 use Rattle.am_eval.specs.Question.{Question}
-use Rattle.am_eval.specs.Faults.{Stage}
-use Rattle.am_eval.specs.Promise.{Promise}
-use Rattle.am_eval.specs.Files.{Files, config_of}
-use Rattle.am_eval.specs.AcceptedWorld.{AcceptsWorld, world_stages}
+use Rattle.am_files.specs.Faults.{Stage}
+use Rattle.am_files.specs.Promise.{Promise}
+use Rattle.am_files.specs.Files.{Files, config_of}
+use Rattle.am_files.specs.AcceptedWorld.{AcceptsWorld, world_stages}
 use Rattle.am_questions.specs.QuestionText.{ReadsQuestion}
 use Rattle.am_questions.specs.QuestionStages.{question_stage}
 use Rattle.am_alerts.specs.SilenceIds.{ids_of_file}

@@ -6,7 +6,7 @@ ghost use Rattle.std.specs.List.Sorted.{IsStrictlySortedBy};
 ghost use Rattle.std.specs.Ordering.{nat_cmp};
 ghost use Rattle.am_universe.specs.LabelSet.{LabelMap};
 ghost use Rattle.am_eval.specs.World.{World};
-ghost use Rattle.am_eval.specs.Files.{Files};
+ghost use Rattle.am_files.specs.Files.{Files};
 ghost use Rattle.am_eval.specs.Question.{Question, satisfies};
 ghost use Rattle.am_alerts.specs.AlertLines.{asked_alerts};
 ghost use Rattle.am_alerts.specs.Alerts.{ReportsAlerts};

@@ -1,7 +1,7 @@
 ghost use Rattle.std.specs.Prelude.{◌≡◌, [], option_copied, IfOk, IfErr};
 ghost use Rattle.am_universe.specs.declared.place.Place.TheVariants as places;
 ghost use Rattle.am_json.specs.Reading.{IsRefusalAt};
-ghost use Rattle.am_eval.specs.Promise.{IsKept};
+ghost use Rattle.am_files.specs.Promise.{IsKept};
 ghost use Rattle.am_eval.specs.QuestionView.{question_view};
 ghost use Rattle.am_config.specs.ConfigView.{config_view};
 ghost use Rattle.am_questions.specs.QuestionText.{ReadsQuestion, QuestionRefusedFor};
@@ -11,7 +11,8 @@ use crate::finding::find_asked;
 use crate::line_text::write_lines;
 use crate::silence_ids::SilenceIds;
 use am_config::Config;
-use am_eval::{Files, Question, read_world};
+use am_eval::Question;
+use am_files::{Files, read_world};
 use am_questions::parse_question;
 use am_universe::{Fault, Place, Sink, answer_of_write};
 use std::alloc::Global;

@@ -7,7 +7,7 @@ ghost use Rattle.am_search.specs.Start.{IsStart};
 use crate::texts::Refusal;
 use am_case_runner::Problem;
 use am_command_line::{Request, parse_command_line};
-use am_eval::Files;
+use am_files::Files;
 use am_questions::{AcceptedInputs, fingerprint, read_inputs};
 use am_search::Page;
 use std::alloc::Global;

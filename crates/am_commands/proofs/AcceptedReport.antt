@@ -6,8 +6,8 @@ use Rattle.am_universe.specs.declared.place.Place.{Place}
 use Rattle.am_labels.specs.Space.{Space}
 use Rattle.am_json.specs.Pointer.{Refusal}
 use Rattle.am_config.specs.ConfigFile.{Configuration}
-use Rattle.am_eval.specs.Faults.{IsFirstFaultOfCall, universe_stage, config_stage}
-use Rattle.am_eval.proofs.AcceptedInputs.{by_stage, universe_accepted, config_accepted}
+use Rattle.am_files.specs.Faults.{IsFirstFaultOfCall, universe_stage, config_stage}
+use Rattle.am_files.proofs.AcceptedInputs.{by_stage, universe_accepted, config_accepted}
 use Rattle.am_commands.specs.Reports.{AcceptsReport, report_stages}
 
 pub report_accepted : (universe_file config_file : List ℕ) (s : Space) (c : Configuration)

@@ -8,7 +8,7 @@ use Rattle.am_labels.specs.Space.{Space}
 use Rattle.am_list_files.specs.UniverseFile.{FileSaysUniverse}
 use Rattle.am_eval.specs.World.{World}
 use Rattle.am_eval.specs.Question.{Question, is_answer}
-use Rattle.am_eval.proofs.AcceptedInputs.{one_space}
+use Rattle.am_files.proofs.AcceptedInputs.{one_space}
 use Rattle.am_search.specs.declared.start.Start.{Start}
 use Rattle.am_search.specs.Start.{choices_from}
 use Rattle.am_search.specs.Page.{start_after}

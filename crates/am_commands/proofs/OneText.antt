@@ -3,7 +3,7 @@ use Rattle.std.proofs.Common.{◌≡◌, ℕ, List, Option, subst, arith}
 use Rattle.std.proofs.lemmas.Grind.{common_steps}
 use Rattle.am_labels.specs.Space.{Space}
 use Rattle.am_config.specs.ConfigFile.{Configuration}
-use Rattle.am_eval.proofs.AcceptedInputs.{one_space, one_configuration}
+use Rattle.am_files.proofs.AcceptedInputs.{one_space, one_configuration}
 use Rattle.am_search.specs.declared.trailer.Trailer.{Trailer}
 use Rattle.am_search.specs.PageText.{page_text}
 use Rattle.am_coverage.specs.Report.{IsRoutesReport, IsReceiversReport}

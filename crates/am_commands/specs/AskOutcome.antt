@@ -6,7 +6,7 @@ use Rattle.am_universe.specs.declared.limits.TheConstants.{MAX_LABELS}
 use Rattle.am_universe.specs.Universe.{sizes}
 use Rattle.am_labels.specs.Space.{Space}
 use Rattle.am_eval.specs.World.{World}
-use Rattle.am_eval.specs.Promise.{Promise}
+use Rattle.am_files.specs.Promise.{Promise}
 use Rattle.am_eval.specs.Question.{Question, is_answer}
 use Rattle.am_eval.specs.QuestionView.{question_view}
 use Rattle.am_search.specs.declared.start.Start.{Start}

@@ -1,2 +1,3 @@
 pub mod AskOutcome
 pub mod Reports
+pub mod Explanation

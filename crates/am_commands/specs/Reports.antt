@@ -3,8 +3,8 @@ use Rattle.std.specs.Prelude.{ℕ, List, [], ◌∷◌, ⊤}
 use Rattle.am_labels.specs.Space.{Space}
 use Rattle.am_list_files.specs.UniverseFile.{FileSaysUniverse}
 use Rattle.am_config.specs.ConfigFile.{Configuration, FileSaysConfig}
-use Rattle.am_eval.specs.Faults.{Stage, universe_stage, config_stage}
-use Rattle.am_eval.specs.Promise.{Promise}
+use Rattle.am_files.specs.Faults.{Stage, universe_stage, config_stage}
+use Rattle.am_files.specs.Promise.{Promise}
 use Rattle.am_coverage.specs.Report.{IsRoutesReport, IsReceiversReport}
 
 -- The files are accepted: they say the space and the configuration.

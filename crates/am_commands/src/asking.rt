@@ -2,11 +2,11 @@ ghost use Rattle.std.specs.Prelude.{◌<◌, IfSome};
 ghost use Rattle.am_universe.specs.declared.limits.TheConstants.{MAX_LABELS};
 ghost use Rattle.am_universe.specs.Universe.{sizes};
 ghost use Rattle.am_questions.specs.Inputs.{inputs_of};
-ghost use Rattle.am_eval.specs.Promise.{IsKept};
+ghost use Rattle.am_files.specs.Promise.{IsKept};
 ghost use Rattle.am_search.specs.Start.{IsStart};
 ghost use Rattle.am_commands.specs.AskOutcome.{ask_promise, page_promise};
 
-use am_eval::Files;
+use am_files::Files;
 use am_plans::Plan;
 use am_questions::{AcceptedInputs, read_inputs};
 use am_search::{Answers, Page, Trailer, write_page};

@@ -1,8 +1,9 @@
 ghost use Rattle.std.specs.Prelude.{[], ◌∷◌, map};
-ghost use Rattle.am_eval.specs.Promise.{IsKept};
-ghost use Rattle.am_eval.specs.Explanation.{explain_promise};
+ghost use Rattle.am_files.specs.Promise.{IsKept};
+ghost use Rattle.am_commands.specs.Explanation.{explain_promise};
 
-use am_eval::{Files, explanation_of, read_set, read_world, write_explanation};
+use crate::explanation::{explanation_of, write_explanation};
+use am_files::{Files, read_set, read_world};
 use am_universe::{Fault, Sink, answer_of_write};
 use std::alloc::Global;
 

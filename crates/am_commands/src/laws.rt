@@ -1,6 +1,6 @@
 //! Facts about the definitions alone: each is the contract of a function with an empty body.
 ghost use Rattle.std.specs.Prelude.{◌≡◌, ◌≤◌, ◌<◌, ◌++◌, ℕ, List, [], Some, None, Option, IfSome};
-ghost use Rattle.std.specs.Prelude.{length};
+ghost use Rattle.std.specs.Prelude.{length, ◌↔◌, IsTrue, Contains, codes};
 ghost use Rattle.std.specs.List.{flat_map};
 ghost use Rattle.am_universe.specs.declared.kind.Kind.TheVariants as kinds;
 ghost use Rattle.am_universe.specs.declared.limits.TheConstants.{MAX_LABELS};
@@ -13,7 +13,7 @@ ghost use Rattle.am_list_files.specs.UniverseFile.{FileSaysUniverse};
 ghost use Rattle.am_config.specs.ConfigFile.{Configuration};
 ghost use Rattle.am_eval.specs.World.{World};
 ghost use Rattle.am_eval.specs.Question.{Question, is_answer, answers};
-ghost use Rattle.am_eval.specs.Faults.{IsFirstFaultOfCall};
+ghost use Rattle.am_files.specs.Faults.{IsFirstFaultOfCall};
 ghost use Rattle.am_search.specs.declared.start.Start.{Start};
 ghost use Rattle.am_search.specs.declared.start.Start.TheVariants.{At, After};
 ghost use Rattle.am_search.specs.declared.trailer.Trailer.{Trailer};
@@ -33,6 +33,24 @@ ghost use Rattle.am_commands.specs.AskOutcome.{Asked, IsAskedOf, AreAskedInARow,
 ghost use Rattle.am_commands.specs.AskOutcome.{AnswersInputs};
 ghost use Rattle.am_commands.specs.Reports.{ReportsFiles, AcceptsReport, report_stages};
 ghost use Rattle.am_coverage.specs.Report.{IsRoutesReport, IsReceiversReport};
+ghost use Rattle.am_universe.specs.LabelSet.{LabelMap};
+ghost use Rattle.am_labels.specs.ParsedLabelSet.{WordsSpellSet};
+ghost use Rattle.am_config.specs.Path.{leads_through};
+ghost use Rattle.am_eval.specs.Routing.{ends, receivers};
+ghost use Rattle.am_commands.specs.Explanation.{explain_stages, ExplainsSet, inhibited_line};
+ghost use Rattle.am_files.specs.Files.{Files};
+ghost use Rattle.am_files.specs.AcceptedWorld.{AcceptsWorld};
+ghost use Rattle.am_classes.specs.declared.alphabet.Alphabet.{Alphabet};
+ghost use Rattle.am_classes.specs.declared.alphabet.Alphabet.TheVariants.{Unicode};
+ghost use Rattle.am_complete.specs.Complete.{IsSpaceComplete};
+ghost use Rattle.am_complete.specs.Covering.{HasTextsOver};
+ghost use Rattle.am_coverage.specs.declared.coverage.RouteCoverage.TheVariants as route_is;
+ghost use Rattle.am_coverage.specs.declared.coverage.ReceiverCoverage.TheVariants as receiver_is;
+ghost use Rattle.am_coverage.specs.Coverage.{IsDead, IsNeverEntered, IsUnmatched, route_coverage};
+ghost use Rattle.am_coverage.specs.Coverage.{receiver_coverage};
+ghost use Rattle.am_every_alert.specs.EveryAlert.{IsAlertOf, NoAlertEndsAt, NoAlertEnters};
+ghost use Rattle.am_every_alert.specs.EveryAlert.{NoAlertGoesTo};
+ghost use Rattle.am_every_alert.specs.Deciding.{coverage_conditions};
 
 /// The answers from the first choice on are all answers to the question.
 pub fn answers_from_the_first_choice_on_are_all()
@@ -165,4 +183,88 @@ pub fn accepted_files_have_no_fault()
         (place : Place) (refusal : Refusal) → AcceptsReport universe_file config_file s c
         → IsFirstFaultOfCall (report_stages universe_file config_file) place refusal
         → refusal.kind ≡ kinds.Pattern }
+{}
+
+/// Inputs of `explain` that are accepted have no first fault, except a pattern that the engine may
+/// refuse.
+pub fn accepted_inputs_of_explain_have_no_fault()
+    ensures pattern { (inputs : Files) (words : List (List ℕ)) (w : World) (s : LabelMap)
+        (place : Place) (refusal : Refusal) → AcceptsWorld inputs w → WordsSpellSet words s
+        → IsFirstFaultOfCall (explain_stages inputs words) place refusal
+        → refusal.kind ≡ kinds.Pattern }
+{}
+
+/// Inputs that are accepted fix the world, and what `explain` writes of a label set. Its line for a
+/// rule and a firing alert that inhibit the set has the rule first.
+pub fn an_explanation_is_one_text()
+    ensures world { (inputs : Files) (w x : World) → AcceptsWorld inputs w
+        → AcceptsWorld inputs x → w ≡ x }
+    ensures one { (inputs : Files) (words : List (List ℕ)) (explanation other : List ℕ)
+        → ExplainsSet inputs words explanation → ExplainsSet inputs words other
+        → explanation ≡ other }
+    ensures rule_first { inhibited_line (1, 0) ≡ codes "inhibited 1 0\n" }
+{}
+
+/// No alert of a complete space ends at a dead route, none ends at or below a route that is never
+/// entered, and none goes to an unmatched receiver. The space is complete, over the alphabet of the
+/// alert, for the matchers of the routes and the impossible lists.
+pub fn a_dead_route_of_a_complete_universe_has_no_alert()
+    ensures dead { (a : Alphabet) (s : Space) (c : Configuration) (path : List ℕ)
+        → IsUniverse s.labels → IsSpaceComplete a s (coverage_conditions s c)
+        → IsDead s c path → NoAlertEndsAt a s c path }
+    ensures never_entered { (a : Alphabet) (s : Space) (c : Configuration) (path : List ℕ)
+        → IsUniverse s.labels → IsSpaceComplete a s (coverage_conditions s c)
+        → IsNeverEntered s c path → NoAlertEnters a s c path }
+    ensures unmatched { (a : Alphabet) (s : Space) (c : Configuration) (receiver : ℕ)
+        → IsUniverse s.labels → IsSpaceComplete a s (coverage_conditions s c)
+        → IsUnmatched s c receiver → NoAlertGoesTo a s c receiver }
+{}
+
+/// Some alert ends at each route that is reported as live, some ends below each that is reported as
+/// entered, and some goes to each receiver that is reported as live, also if the universe is not
+/// complete. The alert is over each alphabet that the universe's texts are over.
+pub fn a_route_is_live_in_any_universe()
+    ensures live { (a : Alphabet) (s : Space) (c : Configuration) (path choice : List ℕ)
+        → IsUniverse s.labels → HasTextsOver a s.labels
+        → route_coverage s c path ≡ route_is.Live choice
+        → (alert : LabelMap) × IsAlertOf a s alert × Contains (ends alert c) path }
+    ensures entered { (a : Alphabet) (s : Space) (c : Configuration) (path : List ℕ)
+        → IsUniverse s.labels → HasTextsOver a s.labels
+        → route_coverage s c path ≡ route_is.Entered
+        → (alert : LabelMap) × (end : List ℕ) × IsAlertOf a s alert × Contains (ends alert c) end
+        × IsTrue (leads_through path end) }
+    ensures receiver { (a : Alphabet) (s : Space) (c : Configuration) (receiver : ℕ)
+        (choice : List ℕ) → IsUniverse s.labels → HasTextsOver a s.labels
+        → receiver_coverage s c receiver ≡ receiver_is.Live choice
+        → (alert : LabelMap) × IsAlertOf a s alert × Contains (receivers alert c) receiver }
+{}
+
+/// In a universe file that is complete over Unicode, a route is dead exactly if no possible alert
+/// ends there. It is never entered exactly if none ends there or below it, and a receiver is
+/// unmatched exactly if none goes to it. An alert may have any labels with any names; it is
+/// possible unless an impossible list matches it. The same holds over each alphabet that the texts
+/// of a universe are over. So in a universe with texts of printable ASCII alone, which is complete
+/// over ASCII, a route is dead exactly if no possible alert with such values ends there.
+pub fn over_a_complete_universe_dead_is_exact()
+    ensures dead { (universe_file path : List ℕ) (s : Space) (c : Configuration)
+        → FileSaysUniverse universe_file s → IsSpaceComplete Unicode s (coverage_conditions s c)
+        → (IsDead s c path ↔ NoAlertEndsAt Unicode s c path) }
+    ensures never_entered { (universe_file path : List ℕ) (s : Space) (c : Configuration)
+        → FileSaysUniverse universe_file s → IsSpaceComplete Unicode s (coverage_conditions s c)
+        → (IsNeverEntered s c path ↔ NoAlertEnters Unicode s c path) }
+    ensures unmatched { (universe_file : List ℕ) (s : Space) (c : Configuration) (receiver : ℕ)
+        → FileSaysUniverse universe_file s → IsSpaceComplete Unicode s (coverage_conditions s c)
+        → (IsUnmatched s c receiver ↔ NoAlertGoesTo Unicode s c receiver) }
+    ensures dead_over { (a : Alphabet) (s : Space) (c : Configuration) (path : List ℕ)
+        → IsUniverse s.labels → HasTextsOver a s.labels
+        → IsSpaceComplete a s (coverage_conditions s c)
+        → (IsDead s c path ↔ NoAlertEndsAt a s c path) }
+    ensures never_entered_over { (a : Alphabet) (s : Space) (c : Configuration) (path : List ℕ)
+        → IsUniverse s.labels → HasTextsOver a s.labels
+        → IsSpaceComplete a s (coverage_conditions s c)
+        → (IsNeverEntered s c path ↔ NoAlertEnters a s c path) }
+    ensures unmatched_over { (a : Alphabet) (s : Space) (c : Configuration) (receiver : ℕ)
+        → IsUniverse s.labels → HasTextsOver a s.labels
+        → IsSpaceComplete a s (coverage_conditions s c)
+        → (IsUnmatched s c receiver ↔ NoAlertGoesTo a s c receiver) }
 {}

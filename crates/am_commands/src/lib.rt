@@ -9,7 +9,7 @@
 #![tactic(auto)]
 
 // Items of the crates below: the inputs, how a page ends, and how a fault is written.
-pub use am_eval::Files;
+pub use am_files::Files;
 pub use am_questions::fingerprint;
 pub use am_search::{Page, Trailer};
 pub use am_universe::{status, write_fault};
@@ -17,6 +17,7 @@ pub use am_universe::{status, write_fault};
 // The commands.
 mod asking;
 mod explaining;
+mod explanation;
 mod reporting;
 
 pub use asking::ask;

@@ -1,7 +1,7 @@
 ghost use Rattle.std.specs.Prelude.{IfOk, IfErr};
 ghost use Rattle.am_config.specs.ConfigView.{config_view};
-ghost use Rattle.am_eval.specs.Faults.{IsFirstFault};
-ghost use Rattle.am_eval.specs.Promise.{IsKept};
+ghost use Rattle.am_files.specs.Faults.{IsFirstFault};
+ghost use Rattle.am_files.specs.Promise.{IsKept};
 ghost use Rattle.am_commands.specs.Reports.{AcceptsReport, report_stages, dead_promise};
 ghost use Rattle.am_commands.specs.Reports.{receivers_promise};
 

@@ -13,13 +13,8 @@ pub mod RoutingExamples
 pub mod QuestionSeen
 pub mod FlatEnds
 pub mod AbsentParts
-pub mod FirstFaults
-pub mod Promises
 pub mod SimpleParts
 pub mod SiblingLaws
-pub mod SetRefusals
-pub mod AcceptedInputs
-pub mod OneExplanation
 pub mod SomeWay
 pub mod RoutePathLaws
 pub mod RouteConditions

@@ -11,9 +11,3 @@ pub mod Tree
 pub mod Question
 pub mod QuestionView
 pub mod Conditions
-pub mod Files
-pub mod AskedInstant
-pub mod Faults
-pub mod Promise
-pub mod AcceptedWorld
-pub mod Explanation

@@ -11,11 +11,6 @@ ghost use Rattle.am_universe.specs.Universe.{sizes};
 ghost use Rattle.am_universe.specs.LabelSet.{LabelMap, label_set_of, value_of};
 ghost use Rattle.am_labels.specs.Matcher.{all_hold, Condition, condition_holds};
 ghost use Rattle.am_labels.specs.Space.{Space, IsChoiceOf};
-ghost use Rattle.am_universe.specs.declared.kind.Kind.{Kind};
-ghost use Rattle.am_universe.specs.declared.kind.Kind.TheVariants as kinds;
-ghost use Rattle.am_universe.specs.declared.place.Place.{Place};
-ghost use Rattle.am_labels.specs.ParsedLabelSet.{WordsSpellSet, SetWordsRefusedFor};
-ghost use Rattle.am_json.specs.Pointer.{Refusal};
 ghost use Rattle.am_config.specs.ConfigFile.{RouteTree, Configuration, IsConfig, matchers_of};
 ghost use Rattle.am_config.specs.ConfigFile.{children_of, continues_of, receiver_of, Rule};
 ghost use Rattle.am_config.specs.Path.{route_at, list_of};
@@ -25,8 +20,8 @@ ghost use Rattle.am_eval.specs.Tree.{Not, And, Or};
 ghost use Rattle.am_eval.specs.declared.property.Property.TheVariants.{Any, Silenced, Inhibited};
 ghost use Rattle.am_eval.specs.declared.reach.Reach.{Reach};
 ghost use Rattle.am_eval.specs.declared.reach.Reach.TheVariants.{Ends, Enters};
-ghost use Rattle.am_eval.specs.Question.{Simple, Is, Receiver, Route, Braces, holds_of};
-ghost use Rattle.am_eval.specs.Question.{Question, satisfies, answers, is_answer};
+ghost use Rattle.am_eval.specs.Question.{Simple, Is, Receiver, Route, Braces, holds_of, Question};
+ghost use Rattle.am_eval.specs.Question.{satisfies, answers, is_answer};
 ghost use Rattle.am_eval.specs.Routing.{ends, receivers, ends_at, MatchesAt, EndsThere};
 ghost use Rattle.am_eval.specs.RoutingExamples.{worked, Has, severity_critical};
 ghost use Rattle.am_list_files.specs.SilencesFile.{Silence};
@@ -39,10 +34,6 @@ ghost use Rattle.am_eval.specs.Inhibition.{pair_inhibits};
 ghost use Rattle.am_eval.specs.Pairs.{pairs_of};
 ghost use Rattle.am_eval.specs.InhibitionExample.{inhibiting_world, two_rules_world};
 ghost use Rattle.am_eval.specs.InhibitionExample.{severity_warning, severity_any};
-ghost use Rattle.am_eval.specs.Explanation.{inhibited_line, explain_stages, ExplainsSet};
-ghost use Rattle.am_eval.specs.Files.{Files};
-ghost use Rattle.am_eval.specs.AcceptedWorld.{AcceptsWorld};
-ghost use Rattle.am_eval.specs.Faults.{IsFirstFaultOfCall};
 ghost use Rattle.am_eval.specs.Conditions.{literal_holds, some_way_holds, conditions_of};
 
 /// Every alert ends somewhere, because the top-level route matches every label set.
@@ -298,7 +289,6 @@ pub fn without_alerts_or_rules_nothing_is_inhibited()
 /// The rules go from `critical` to `warning` for the same team; from `critical` to `warning` for
 /// the same region, which neither alert has; from any severity to any; and from any severity to
 /// `warning`. Of two rules, the second inhibits a warning of the team, by the alert at position 0.
-/// The line that says so has the rule first.
 pub fn an_example_of_inhibition()
     ensures same_team { (s : LabelMap) → Has s (codes "db") (codes "warning")
         → is_inhibited (inhibiting_world severity_critical severity_warning (codes "team")) s
@@ -316,7 +306,6 @@ pub fn an_example_of_inhibition()
         → is_inhibited (inhibiting_world severity_any severity_warning (codes "team")) s ≡ true }
     ensures which { (s : LabelMap) → Has s (codes "db") (codes "warning")
         → inhibitors two_rules_world s ≡ (1, 0) ∷ [] }
-    ensures told { inhibited_line (1, 0) ≡ codes "inhibited 1 0\n" }
 {}
 
 /// A simple part of a question is true of an alert exactly if its condition is.
@@ -344,35 +333,6 @@ pub fn answers_are_the_choices_that_satisfy()
 pub fn answers_ascend()
     ensures ascending { (s : Space) (w : World) (question : Question)
         → IsStrictlySortedBy (slice_cmp nat_cmp) (answers s w question) }
-{}
-
-/// Words that spell a label set are not refused.
-///
-/// Words are refused with at most one kind other than `Pattern`, which the engine decides.
-pub fn a_set_is_not_read_and_refused()
-    ensures accepted { (words : List (List ℕ)) (set : LabelMap) (kind : Kind)
-        → WordsSpellSet words set → SetWordsRefusedFor words kind → ⊥ }
-    ensures one { (words : List (List ℕ)) (kind other : Kind) → SetWordsRefusedFor words kind
-        → SetWordsRefusedFor words other → kind ≢ kinds.Pattern → other ≢ kinds.Pattern
-        → kind ≡ other }
-{}
-
-/// Inputs of `explain` that are accepted have no first fault, except a pattern that the engine may
-/// refuse.
-pub fn accepted_inputs_of_explain_have_no_fault()
-    ensures pattern { (inputs : Files) (words : List (List ℕ)) (w : World) (s : LabelMap)
-        (place : Place) (refusal : Refusal) → AcceptsWorld inputs w → WordsSpellSet words s
-        → IsFirstFaultOfCall (explain_stages inputs words) place refusal
-        → refusal.kind ≡ kinds.Pattern }
-{}
-
-/// Inputs that are accepted fix the world, and what `explain` writes of a label set.
-pub fn an_explanation_is_one_text()
-    ensures world { (inputs : Files) (w x : World) → AcceptsWorld inputs w
-        → AcceptsWorld inputs x → w ≡ x }
-    ensures one { (inputs : Files) (words : List (List ℕ)) (explanation other : List ℕ)
-        → ExplainsSet inputs words explanation → ExplainsSet inputs words other
-        → explanation ≡ other }
 {}
 
 /// The limit on the pairs of a world.

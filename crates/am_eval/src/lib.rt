@@ -3,9 +3,7 @@
 //!
 //! [`ends`] returns the routes that handle an alert, and [`receivers_of`] their receivers. A
 //! [`World`] has silences and firing alerts too: [`silenced_by`] returns the silences that hide an
-//! alert, and [`inhibited_by`] what inhibits it. [`read_world`] reads a world from its [`Files`].
-//! An [`Explanation`] says where one label set goes and why, and a [`Question`] asks about any
-//! label set.
+//! alert, and [`inhibited_by`] what inhibits it. A [`Question`] asks about any label set.
 #![tactic(auto)]
 
 // Limits.
@@ -26,18 +24,6 @@ pub use inhibition::inhibited_by;
 pub use pair::Pair;
 pub use silencing::silenced_by;
 pub use world::World;
-
-// Reading a world, and a label set.
-mod files;
-mod world_inputs;
-
-pub use files::Files;
-pub use world_inputs::{read_set, read_timeless_world, read_world};
-
-// Why a label set goes where it goes.
-mod explanation;
-
-pub use explanation::{Explanation, explanation_of, write_explanation};
 
 // Questions.
 mod property;

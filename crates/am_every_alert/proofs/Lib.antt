@@ -11,4 +11,3 @@ pub mod CompleteExample
 pub mod JsonTokens
 pub mod JsonData
 pub mod RoomLemmas
-pub mod EveryAlert

@@ -3,8 +3,7 @@
 //! A complete universe stands for every alert. For each label a value is chosen that is alike to
 //! the alert's text, so each matcher has the same truth on both. All else follows by induction over
 //! lists, routes, silences and pairs.
-ghost use Rattle.std.specs.Prelude.{◌≡◌, ◌≢◌, ◌↔◌, ℕ, List, [], ◌∷◌, ◌++◌, ℤ, Contains, IsTrue};
-ghost use Rattle.std.specs.Prelude.{IsFalse};
+ghost use Rattle.std.specs.Prelude.{◌≡◌, ◌≢◌, ℕ, List, [], ◌∷◌, ◌++◌, ℤ, Contains, IsTrue, IsFalse};
 ghost use Rattle.std.specs.List.{AllByRecursion};
 ghost use Rattle.am_universe.specs.Universe.{Label, IsUniverse, sizes};
 ghost use Rattle.am_universe.specs.Choice.{IsWhole};
@@ -13,7 +12,6 @@ ghost use Rattle.am_labels.specs.Matcher.{Condition};
 ghost use Rattle.am_labels.specs.Space.{is_possible, Space, IsChoiceOf};
 ghost use Rattle.am_list_files.specs.UniverseFile.{FileSaysUniverse};
 ghost use Rattle.am_config.specs.ConfigFile.{Configuration};
-ghost use Rattle.am_config.specs.Path.{leads_through};
 ghost use Rattle.am_eval.specs.RoutingExamples.{team_db};
 ghost use Rattle.am_eval.specs.World.{World};
 ghost use Rattle.am_eval.specs.Routing.{ends, receivers};
@@ -30,13 +28,8 @@ ghost use Rattle.am_complete.specs.Room.{HaveNoRoom};
 ghost use Rattle.am_complete.specs.Covering.{HasTextsOver, KeepsLabels};
 ghost use Rattle.am_asked.specs.Asked.{route_conditions, rule_conditions, equal_conditions};
 ghost use Rattle.am_asked.specs.Asked.{silence_conditions, world_conditions, questions_conditions};
-ghost use Rattle.am_coverage.specs.declared.coverage.RouteCoverage.TheVariants as route_is;
-ghost use Rattle.am_coverage.specs.declared.coverage.ReceiverCoverage.TheVariants as receiver_is;
-ghost use Rattle.am_coverage.specs.Coverage.{IsDead, IsNeverEntered, IsUnmatched, route_coverage};
-ghost use Rattle.am_coverage.specs.Coverage.{receiver_coverage};
 ghost use Rattle.am_every_alert.specs.EveryAlert.{IsAlert, IsAlertOf, MeetsTheSame};
-ghost use Rattle.am_every_alert.specs.EveryAlert.{HaveTheSameFate, NoAlertEndsAt, NoAlertEnters};
-ghost use Rattle.am_every_alert.specs.EveryAlert.{NoAlertGoesTo};
+ghost use Rattle.am_every_alert.specs.EveryAlert.{HaveTheSameFate};
 ghost use Rattle.am_every_alert.specs.Deciding.{coverage_conditions, asked_conditions};
 ghost use Rattle.am_every_alert.specs.CompleteExample.{team_universe, db_or_absent, db_alone};
 ghost use Rattle.am_every_alert.specs.CompleteExample.{team_not_db, db_alone_possible};
@@ -114,70 +107,6 @@ pub fn every_alert_of_a_space_ends_as_a_choice_does()
         → (choice : List ℕ) × IsChoiceOf s choice
         × (ends (label_set_of s.labels choice) c ≡ ends alert c)
         × (receivers (label_set_of s.labels choice) c ≡ receivers alert c) }
-{}
-
-/// No alert of a complete space ends at a dead route, none ends at or below a route that is never
-/// entered, and none goes to an unmatched receiver. The space is complete, over the alphabet of the
-/// alert, for the matchers of the routes and the impossible lists.
-pub fn a_dead_route_of_a_complete_universe_has_no_alert()
-    ensures dead { (a : Alphabet) (s : Space) (c : Configuration) (path : List ℕ)
-        → IsUniverse s.labels → IsSpaceComplete a s (coverage_conditions s c)
-        → IsDead s c path → NoAlertEndsAt a s c path }
-    ensures never_entered { (a : Alphabet) (s : Space) (c : Configuration) (path : List ℕ)
-        → IsUniverse s.labels → IsSpaceComplete a s (coverage_conditions s c)
-        → IsNeverEntered s c path → NoAlertEnters a s c path }
-    ensures unmatched { (a : Alphabet) (s : Space) (c : Configuration) (receiver : ℕ)
-        → IsUniverse s.labels → IsSpaceComplete a s (coverage_conditions s c)
-        → IsUnmatched s c receiver → NoAlertGoesTo a s c receiver }
-{}
-
-/// Some alert ends at each route that is reported as live, some ends below each that is reported as
-/// entered, and some goes to each receiver that is reported as live, also if the universe is not
-/// complete. The alert is over each alphabet that the universe's texts are over.
-pub fn a_route_is_live_in_any_universe()
-    ensures live { (a : Alphabet) (s : Space) (c : Configuration) (path choice : List ℕ)
-        → IsUniverse s.labels → HasTextsOver a s.labels
-        → route_coverage s c path ≡ route_is.Live choice
-        → (alert : LabelMap) × IsAlertOf a s alert × Contains (ends alert c) path }
-    ensures entered { (a : Alphabet) (s : Space) (c : Configuration) (path : List ℕ)
-        → IsUniverse s.labels → HasTextsOver a s.labels
-        → route_coverage s c path ≡ route_is.Entered
-        → (alert : LabelMap) × (end : List ℕ) × IsAlertOf a s alert × Contains (ends alert c) end
-        × IsTrue (leads_through path end) }
-    ensures receiver { (a : Alphabet) (s : Space) (c : Configuration) (receiver : ℕ)
-        (choice : List ℕ) → IsUniverse s.labels → HasTextsOver a s.labels
-        → receiver_coverage s c receiver ≡ receiver_is.Live choice
-        → (alert : LabelMap) × IsAlertOf a s alert × Contains (receivers alert c) receiver }
-{}
-
-/// In a universe file that is complete over Unicode, a route is dead exactly if no possible alert
-/// ends there. It is never entered exactly if none ends there or below it, and a receiver is
-/// unmatched exactly if none goes to it. An alert may have any labels with any names; it is
-/// possible unless an impossible list matches it. The same holds over each alphabet that the texts
-/// of a universe are over. So in a universe with texts of printable ASCII alone, which is complete
-/// over ASCII, a route is dead exactly if no possible alert with such values ends there.
-pub fn over_a_complete_universe_dead_is_exact()
-    ensures dead { (universe_file path : List ℕ) (s : Space) (c : Configuration)
-        → FileSaysUniverse universe_file s → IsSpaceComplete Unicode s (coverage_conditions s c)
-        → (IsDead s c path ↔ NoAlertEndsAt Unicode s c path) }
-    ensures never_entered { (universe_file path : List ℕ) (s : Space) (c : Configuration)
-        → FileSaysUniverse universe_file s → IsSpaceComplete Unicode s (coverage_conditions s c)
-        → (IsNeverEntered s c path ↔ NoAlertEnters Unicode s c path) }
-    ensures unmatched { (universe_file : List ℕ) (s : Space) (c : Configuration) (receiver : ℕ)
-        → FileSaysUniverse universe_file s → IsSpaceComplete Unicode s (coverage_conditions s c)
-        → (IsUnmatched s c receiver ↔ NoAlertGoesTo Unicode s c receiver) }
-    ensures dead_over { (a : Alphabet) (s : Space) (c : Configuration) (path : List ℕ)
-        → IsUniverse s.labels → HasTextsOver a s.labels
-        → IsSpaceComplete a s (coverage_conditions s c)
-        → (IsDead s c path ↔ NoAlertEndsAt a s c path) }
-    ensures never_entered_over { (a : Alphabet) (s : Space) (c : Configuration) (path : List ℕ)
-        → IsUniverse s.labels → HasTextsOver a s.labels
-        → IsSpaceComplete a s (coverage_conditions s c)
-        → (IsNeverEntered s c path ↔ NoAlertEnters a s c path) }
-    ensures unmatched_over { (a : Alphabet) (s : Space) (c : Configuration) (receiver : ℕ)
-        → IsUniverse s.labels → HasTextsOver a s.labels
-        → IsSpaceComplete a s (coverage_conditions s c)
-        → (IsUnmatched s c receiver ↔ NoAlertGoesTo a s c receiver) }
 {}
 
 /// A question that is true of an alert of a complete space has an answer with the same fate. So a

@@ -1,5 +1,5 @@
 use am_command_line::Request;
-use am_eval::Files;
+use am_files::Files;
 
 /// A request, and the bytes of its files.
 #[derive(Drop)]

@@ -2,7 +2,8 @@
 
 use crate::matchers::add_question_matchers;
 use crate::notes::Notes;
-use am_eval::{Files, Property, Question};
+use am_eval::{Property, Question};
+use am_files::Files;
 use am_universe::Universe;
 use std::alloc::{AllocError, Global};
 

@@ -5,7 +5,7 @@ use Rattle.std.specs.Prelude.{nat_lt}
 use Rattle.am_universe.specs.declared.fault.Fault.{Fault}
 use Rattle.am_command_line.specs.declared.command_line.Request.{Request}
 use Rattle.am_questions.specs.Inputs.{Inputs}
-use Rattle.am_eval.specs.Promise.{Promise, IsKept}
+use Rattle.am_files.specs.Promise.{Promise, IsKept}
 use Rattle.am_commands.specs.AskOutcome.{ask_promise}
 use Rattle.am_notes.specs.declared.call.Call.{Call}
 use Rattle.am_program.specs.Requests.{finds_nothing, finds, owed}

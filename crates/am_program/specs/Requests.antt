@@ -9,9 +9,9 @@ use Rattle.am_command_line.specs.StepsView.{step_count}
 use Rattle.am_command_line.specs.declared.command_line.InputFiles.{InputFiles}
 use Rattle.am_command_line.specs.declared.command_line.Request.{Request}
 use Rattle.am_command_line.specs.declared.command_line.Request.TheVariants as requests
-use Rattle.am_eval.specs.Files.{Files, config_of}
-use Rattle.am_eval.specs.Explanation.{explain_promise}
-use Rattle.am_eval.specs.Promise.{Promise}
+use Rattle.am_files.specs.Files.{Files, config_of}
+use Rattle.am_commands.specs.Explanation.{explain_promise}
+use Rattle.am_files.specs.Promise.{Promise}
 use Rattle.am_notes.specs.declared.call.Call.{Call}
 use Rattle.am_commands.specs.AskOutcome.{ask_promise}
 use Rattle.am_commands.specs.Reports.{dead_promise, receivers_promise}

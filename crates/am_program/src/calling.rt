@@ -5,7 +5,7 @@ ghost use Rattle.std.specs.Prelude.{Err, false, nat_lt};
 ghost use Rattle.std.specs.Int.NonZero.{non_zero_u64_get};
 ghost use Rattle.am_universe.specs.declared.limits.TheConstants.{MAX_LABELS};
 ghost use Rattle.am_command_line.specs.StepsView.{step_count};
-ghost use Rattle.am_eval.specs.Promise.{IsKept};
+ghost use Rattle.am_files.specs.Promise.{IsKept};
 ghost use Rattle.am_program.specs.Requests.{bytes_if_any, bytes_or_none, files_of, promise_of};
 ghost use Rattle.am_program.specs.Requests.{alphabet_of, kept_universe, report_inputs};
 
@@ -13,7 +13,7 @@ use am_alerts::alerts;
 use am_classes::Alphabet;
 use am_command_line::{InputFiles, Request, Steps};
 use am_commands::{ask, dead, explain_words, receivers};
-use am_eval::Files;
+use am_files::Files;
 use am_notes::Call;
 use am_reports::{CompareInputs, LintInputs, ReportInputs, compare, lint, outcomes};
 use am_search::Page;

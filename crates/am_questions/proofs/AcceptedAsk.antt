@@ -10,11 +10,11 @@ use Rattle.am_json.specs.Pointer.{Refusal}
 use Rattle.am_config.specs.ConfigFile.{Configuration}
 use Rattle.am_eval.specs.World.{World}
 use Rattle.am_eval.specs.Question.{Question}
-use Rattle.am_eval.specs.Files.{config_of}
-use Rattle.am_eval.specs.Faults.{IsFirstFaultOfCall, universe_stage}
-use Rattle.am_eval.specs.AcceptedWorld.{world_stages}
-use Rattle.am_eval.proofs.AcceptedInputs.{by_stage, world_accepted, universe_accepted, one_space}
-use Rattle.am_eval.proofs.AcceptedInputs.{one_configuration}
+use Rattle.am_files.specs.Files.{config_of}
+use Rattle.am_files.specs.Faults.{IsFirstFaultOfCall, universe_stage}
+use Rattle.am_files.specs.AcceptedWorld.{world_stages}
+use Rattle.am_files.proofs.AcceptedInputs.{by_stage, world_accepted, universe_accepted, one_space}
+use Rattle.am_files.proofs.AcceptedInputs.{one_configuration}
 use Rattle.am_search.specs.declared.start.Start.{Start}
 use Rattle.am_questions.specs.QuestionText.{QuestionRefusedFor}
 use Rattle.am_search.proofs.TokenTexts.{sizes_of_universe}

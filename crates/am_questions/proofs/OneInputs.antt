@@ -4,7 +4,7 @@ use Rattle.am_universe.specs.Universe.{Label, IsUniverse}
 use Rattle.am_labels.specs.Space.{Space}
 use Rattle.am_eval.specs.World.{World}
 use Rattle.am_eval.specs.Question.{Question}
-use Rattle.am_eval.proofs.AcceptedInputs.{one_space, one_world}
+use Rattle.am_files.proofs.AcceptedInputs.{one_space, one_world}
 use Rattle.am_search.specs.declared.start.Start.{Start}
 use Rattle.am_search.proofs.TokenTexts.{sizes_of_universe}
 use Rattle.am_search.proofs.TokenForms.{same_start}

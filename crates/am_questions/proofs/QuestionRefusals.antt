@@ -9,7 +9,7 @@ use Rattle.am_universe.specs.declared.kind.Kind.TheVariants as kinds
 use Rattle.am_config.specs.ConfigFile.{Configuration}
 use Rattle.am_eval.specs.Tree.{Tree}
 use Rattle.am_eval.specs.Question.{Question}
-use Rattle.am_eval.proofs.SetRefusals.{words_accepted, words_kind}
+use Rattle.am_files.proofs.SetRefusals.{words_accepted, words_kind}
 use Rattle.am_questions.specs.declared.limits.TheConstants.{MAX_LEXEMES}
 use Rattle.am_questions.specs.Lexemes.{Lexeme}
 use Rattle.am_questions.specs.Grammar.{Written, WrittenIs, WrittenReceiver, WrittenRoute}

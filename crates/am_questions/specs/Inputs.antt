@@ -5,11 +5,11 @@ use Rattle.am_labels.specs.Space.{Space}
 use Rattle.am_list_files.specs.UniverseFile.{FileSaysUniverse}
 use Rattle.am_search.specs.declared.start.Start.{Start}
 use Rattle.am_search.specs.declared.page.Page.{Page}
-use Rattle.am_eval.specs.Files.{Files, config_of}
+use Rattle.am_files.specs.Files.{Files, config_of}
 use Rattle.am_eval.specs.World.{World}
-use Rattle.am_eval.specs.AcceptedWorld.{AcceptsWorld, world_stages}
+use Rattle.am_files.specs.AcceptedWorld.{AcceptsWorld, world_stages}
 use Rattle.am_eval.specs.Question.{Question}
-use Rattle.am_eval.specs.Faults.{Stage, universe_stage}
+use Rattle.am_files.specs.Faults.{Stage, universe_stage}
 use Rattle.am_fingerprint.specs.Fingerprint.{fingerprint_of}
 use Rattle.am_questions.specs.QuestionText.{ReadsQuestion}
 use Rattle.am_questions.specs.AskedStart.{AsksStart}

@@ -7,7 +7,7 @@ use Rattle.am_list_files.specs.UniverseFile.{FileSaysUniverse}
 use Rattle.am_config.specs.ConfigFile.{Configuration, FileSaysConfig}
 use Rattle.am_search.specs.declared.start.Start.{Start}
 use Rattle.am_eval.specs.Question.{Question}
-use Rattle.am_eval.specs.Faults.{Stage}
+use Rattle.am_files.specs.Faults.{Stage}
 use Rattle.am_questions.specs.QuestionText.{ReadsQuestion, QuestionRefusedFor}
 use Rattle.am_questions.specs.AskedStart.{AsksStart, StartRefusedFor}
 

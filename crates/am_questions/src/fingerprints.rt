@@ -1,7 +1,7 @@
 ghost use Rattle.std.specs.Prelude.{◌≡◌};
 ghost use Rattle.am_questions.specs.Inputs.{files_fingerprint};
 
-use am_eval::Files;
+use am_files::Files;
 use am_fingerprint::Parts;
 
 /// The fingerprint of the inputs of a question.

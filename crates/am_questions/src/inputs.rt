@@ -4,14 +4,15 @@ ghost use Rattle.am_json.specs.Reading.{IsRefusalAt};
 ghost use Rattle.am_universe.specs.Universe.{sizes};
 ghost use Rattle.am_search.specs.Start.{IsStart};
 ghost use Rattle.am_eval.specs.QuestionView.{question_view};
-ghost use Rattle.am_eval.specs.Faults.{IsFirstFault};
+ghost use Rattle.am_files.specs.Faults.{IsFirstFault};
 ghost use Rattle.am_questions.specs.Inputs.{inputs_of, AcceptsInputs, ask_stages};
 ghost use Rattle.am_questions.specs.Inputs.{inputs_fingerprint};
 ghost use Rattle.am_questions.specs.AskedStart.{AsksStart, StartRefusedFor};
 
 use crate::fingerprints::fingerprint;
 use crate::names::parse_question;
-use am_eval::{Files, Question, World, read_world};
+use am_eval::{Question, World};
+use am_files::{Files, read_world};
 use am_labels::Space;
 use am_list_files::read_universe;
 use am_search::{Page, Start, parse_token};

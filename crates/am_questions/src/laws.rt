@@ -10,7 +10,7 @@ ghost use Rattle.am_json.specs.Pointer.{Refusal};
 ghost use Rattle.am_search.specs.declared.start.Start.{Start};
 ghost use Rattle.am_eval.specs.Question.{Question};
 ghost use Rattle.am_eval.specs.World.{World};
-ghost use Rattle.am_eval.specs.Faults.{IsFirstFaultOfCall};
+ghost use Rattle.am_files.specs.Faults.{IsFirstFaultOfCall};
 ghost use Rattle.am_questions.specs.declared.limits.TheConstants.{MAX_LEXEMES};
 ghost use Rattle.am_questions.specs.Lexemes.{Lexeme, SpellsLexemes};
 ghost use Rattle.am_questions.specs.Grammar.{Written, IsQuestion, StandInOrder};

@@ -4,7 +4,7 @@ use Rattle.am_universe.specs.declared.place.Place.{Place}
 use Rattle.am_labels.specs.Space.{Space}
 use Rattle.am_json.specs.Pointer.{Refusal}
 use Rattle.am_config.specs.ConfigFile.{Configuration}
-use Rattle.am_eval.specs.Faults.{Stage, IsFirstFaultOfCall}
+use Rattle.am_files.specs.Faults.{Stage, IsFirstFaultOfCall}
 use Rattle.am_reports.specs.ReportInputs.{ReportInputs, AcceptsReportInputs, report_input_stages}
 use Rattle.am_reports.specs.CompareInputs.{CompareInputs, AcceptsCompareInputs}
 use Rattle.am_reports.specs.CompareInputs.{compare_input_stages}

@@ -4,8 +4,8 @@ use Rattle.am_universe.specs.declared.place.Place.{Place}
 use Rattle.am_labels.specs.Space.{Space}
 use Rattle.am_json.specs.Pointer.{Refusal}
 use Rattle.am_eval.specs.World.{World}
-use Rattle.am_eval.specs.Faults.{Stage, IsFirstFaultOfCall}
-use Rattle.am_eval.proofs.FirstFaults.{first_behind_world}
+use Rattle.am_files.specs.Faults.{Stage, IsFirstFaultOfCall}
+use Rattle.am_files.proofs.FirstFaults.{first_behind_world}
 use Rattle.am_classes.specs.declared.alphabet.Alphabet.{Alphabet}
 use Rattle.am_classes.specs.declared.alphabet.Alphabet.TheVariants.{Ascii}
 use Rattle.am_lint.specs.Findings.{alphabet_of}

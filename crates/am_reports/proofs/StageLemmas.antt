@@ -6,7 +6,7 @@ use Rattle.am_universe.proofs.ListLemmas.{IsIn, Contains-from_IsIn}
 use Rattle.am_universe.proofs.Members.{in_at}
 use Rattle.am_labels.specs.Space.{Space}
 use Rattle.am_json.specs.Pointer.{Refusal}
-use Rattle.am_eval.specs.Faults.{Stage, IsFirstFaultOfCall}
+use Rattle.am_files.specs.Faults.{Stage, IsFirstFaultOfCall}
 use Rattle.am_classes.specs.declared.alphabet.Alphabet.{Alphabet}
 use Rattle.am_reports.specs.Configurations.{Configurations, labels_of_routes}
 use Rattle.am_reports.specs.LaterStages.{later_stage, place_stages, declared_stages, made_stages}

@@ -5,7 +5,7 @@ use Rattle.am_universe.specs.Universe.{Label}
 use Rattle.am_universe.specs.LabelSet.{LabelMap, label_set_of}
 use Rattle.am_labels.specs.Space.{Space}
 use Rattle.am_config.specs.ConfigFile.{Configuration}
-use Rattle.am_eval.specs.Promise.{Promise}
+use Rattle.am_files.specs.Promise.{Promise}
 use Rattle.am_eval.specs.Routing.{receivers}
 use Rattle.am_lint.specs.Findings.{alphabet_of, Counts}
 use Rattle.am_outcomes.specs.Outcomes.{fate, same_fate}

@@ -7,7 +7,7 @@ use Rattle.am_universe.specs.Universe.{Label}
 use Rattle.am_labels.specs.Matcher.{Condition}
 use Rattle.am_labels.specs.Space.{Space}
 use Rattle.am_json.specs.Pointer.{Refusal, refusal_here}
-use Rattle.am_eval.specs.Faults.{Stage}
+use Rattle.am_files.specs.Faults.{Stage}
 use Rattle.am_classes.specs.declared.alphabet.Alphabet.{Alphabet}
 use Rattle.am_outcomes.specs.Ways.{HaveManyWays}
 use Rattle.am_reports.specs.Configurations.{Configurations, each_of, space_of}

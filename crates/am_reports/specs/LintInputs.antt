@@ -2,10 +2,10 @@
 -- own.)
 use Rattle.std.specs.Prelude.{◌≡◌, ℕ, List, ◌∷◌, Bool, Option}
 use Rattle.am_labels.specs.Space.{Space}
-use Rattle.am_eval.specs.Files.{Files}
+use Rattle.am_files.specs.Files.{Files}
 use Rattle.am_eval.specs.World.{World}
-use Rattle.am_eval.specs.AcceptedWorld.{AcceptsWorld, world_stages}
-use Rattle.am_eval.specs.Faults.{Stage}
+use Rattle.am_files.specs.AcceptedWorld.{AcceptsWorld, world_stages}
+use Rattle.am_files.specs.Faults.{Stage}
 use Rattle.am_universe_command.specs.UniverseInputs.{SaysUniverseIfAny, universe_stage_if_any}
 use Rattle.am_reports.specs.Configurations.{Configurations, One, Pair}
 

@@ -5,8 +5,8 @@ use Rattle.am_universe.specs.declared.place.Place.TheVariants as places
 use Rattle.am_labels.specs.Space.{Space}
 use Rattle.am_json.specs.Pointer.{Refusal}
 use Rattle.am_eval.specs.World.{World}
-use Rattle.am_eval.specs.Faults.{Stage}
-use Rattle.am_eval.specs.Promise.{Promise}
+use Rattle.am_files.specs.Faults.{Stage}
+use Rattle.am_files.specs.Promise.{Promise}
 use Rattle.am_classes.specs.declared.alphabet.Alphabet.TheVariants.{Ascii}
 use Rattle.am_lint.specs.Findings.{alphabet_of}
 use Rattle.am_lint.specs.Report.{SaysOfRoutes}

@@ -3,7 +3,7 @@ use Rattle.std.specs.Prelude.{◌≡◌, ℕ, List, ◌++◌, Bool, ⊤}
 use Rattle.am_universe.specs.Universe.{Label}
 use Rattle.am_labels.specs.Space.{Space}
 use Rattle.am_config.specs.ConfigFile.{Configuration}
-use Rattle.am_eval.specs.Promise.{Promise}
+use Rattle.am_files.specs.Promise.{Promise}
 use Rattle.am_lint.specs.Findings.{alphabet_of}
 use Rattle.am_outcomes.specs.OutcomeText.{outcomes_text}
 use Rattle.am_reports.specs.Configurations.{One}

@@ -5,7 +5,7 @@ use Rattle.am_universe.specs.declared.place.Place.{Place}
 use Rattle.am_universe.specs.declared.place.Place.TheVariants as places
 use Rattle.am_labels.specs.Space.{Space}
 use Rattle.am_config.specs.ConfigFile.{Configuration, FileSaysConfig}
-use Rattle.am_eval.specs.Faults.{Stage, config_stage}
+use Rattle.am_files.specs.Faults.{Stage, config_stage}
 use Rattle.am_universe_command.specs.UniverseInputs.{SaysUniverseIfAny, universe_stage_if_any}
 use Rattle.am_reports.specs.Configurations.{Configurations, One, Pair}
 

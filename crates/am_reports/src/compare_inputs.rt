@@ -5,7 +5,7 @@ ghost use Rattle.am_json.specs.Reading.{IsRefusalAt};
 ghost use Rattle.am_config.specs.ConfigView.{config_view};
 ghost use Rattle.am_config.specs.ConfigFile.{FileSaysConfig};
 ghost use Rattle.am_config.specs.ConfigForm.{ConfigFileRefusedFor};
-ghost use Rattle.am_eval.specs.Faults.{IsFirstFault};
+ghost use Rattle.am_files.specs.Faults.{IsFirstFault};
 ghost use Rattle.am_reports.specs.CompareInputs.{AcceptsCompareInputs, compare_input_stages};
 
 use am_config::{Config, read_config};

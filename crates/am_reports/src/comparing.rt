@@ -1,6 +1,6 @@
 //! The command `compare`.
 
-ghost use Rattle.am_eval.specs.Promise.{IsKept};
+ghost use Rattle.am_files.specs.Promise.{IsKept};
 ghost use Rattle.am_reports.specs.Comparing.{compare_promise};
 
 use crate::CompareInputs;

@@ -1,10 +1,11 @@
 //! The inputs of `lint`.
 
 ghost use Rattle.std.specs.Prelude.{◌≡◌, is_some, IfOk, IfErr};
-ghost use Rattle.am_eval.specs.Faults.{IsFirstFault};
+ghost use Rattle.am_files.specs.Faults.{IsFirstFault};
 ghost use Rattle.am_reports.specs.LintInputs.{AcceptsLintInputs, lint_input_stages};
 
-use am_eval::{Files, World, read_world};
+use am_eval::World;
+use am_files::{Files, read_world};
 use am_labels::Space;
 use am_universe::Fault;
 use am_universe_command::read_universe_if_any;

@@ -1,8 +1,8 @@
 //! The command `lint`.
 
 ghost use Rattle.std.specs.Prelude.{IfOk, IfErr, string_bytes};
-ghost use Rattle.am_eval.specs.Faults.{IsFirstFault};
-ghost use Rattle.am_eval.specs.Promise.{IsKept};
+ghost use Rattle.am_files.specs.Faults.{IsFirstFault};
+ghost use Rattle.am_files.specs.Promise.{IsKept};
 ghost use Rattle.am_reports.specs.LintInputs.{AcceptsLintInputs};
 ghost use Rattle.am_reports.specs.Linting.{lint_promise, IsLinted, later_stages};
 

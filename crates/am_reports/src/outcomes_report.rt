@@ -1,6 +1,6 @@
 //! The command `outcomes`.
 
-ghost use Rattle.am_eval.specs.Promise.{IsKept};
+ghost use Rattle.am_files.specs.Promise.{IsKept};
 ghost use Rattle.am_reports.specs.OutcomesReport.{outcomes_promise};
 
 use crate::ReportInputs;

@@ -2,7 +2,7 @@
 
 ghost use Rattle.std.specs.Prelude.{◌≡◌, IfOk, IfErr, option_copied};
 ghost use Rattle.am_config.specs.ConfigView.{config_view};
-ghost use Rattle.am_eval.specs.Faults.{IsFirstFault};
+ghost use Rattle.am_files.specs.Faults.{IsFirstFault};
 ghost use Rattle.am_reports.specs.ReportInputs.{AcceptsReportInputs, report_input_stages};
 
 use am_config::{Config, read_config};

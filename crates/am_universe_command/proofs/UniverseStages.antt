@@ -7,12 +7,12 @@ use Rattle.am_universe.specs.declared.place.Place.TheVariants as places
 use Rattle.am_labels.specs.Space.{Space}
 use Rattle.am_json.specs.Pointer.{Refusal, refusal_here}
 use Rattle.am_json.specs.Reading.{refusal_of}
-use Rattle.am_eval.specs.Faults.{Stage, IsFirstFaultOfCall}
-use Rattle.am_eval.specs.AcceptedWorld.{timeless_stages}
-use Rattle.am_eval.specs.Files.{config_of}
+use Rattle.am_files.specs.Faults.{Stage, IsFirstFaultOfCall}
+use Rattle.am_files.specs.AcceptedWorld.{timeless_stages}
+use Rattle.am_files.specs.Files.{config_of}
 use Rattle.am_eval.specs.Question.{Question}
 use Rattle.am_eval.specs.World.{World}
-use Rattle.am_eval.proofs.FirstFaults.{first_behind_timeless}
+use Rattle.am_files.proofs.FirstFaults.{first_behind_timeless}
 use Rattle.am_complete.specs.declared.origin.Origin.{Origin}
 use Rattle.am_complete.specs.declared.origin.Origin.TheVariants as origin_is
 use Rattle.am_universe_command.specs.declared.universe_form.UniverseForm.{UniverseForm}

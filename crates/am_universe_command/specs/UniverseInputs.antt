@@ -9,11 +9,11 @@ use Rattle.am_json.specs.Pointer.{Refusal}
 use Rattle.am_list_files.specs.UniverseFile.{FileSaysUniverse, FileHasImpossibleTexts}
 use Rattle.am_list_files.specs.UniverseForm.{UniverseFileRefusedFor}
 use Rattle.am_config.specs.ConfigFile.{Configuration, FileSaysConfig}
-use Rattle.am_eval.specs.Files.{Files, config_of}
+use Rattle.am_files.specs.Files.{Files, config_of}
 use Rattle.am_eval.specs.World.{World}
 use Rattle.am_eval.specs.Question.{Question}
-use Rattle.am_eval.specs.AcceptedWorld.{AcceptsFiles, timeless_stages}
-use Rattle.am_eval.specs.Faults.{Stage}
+use Rattle.am_files.specs.AcceptedWorld.{AcceptsFiles, timeless_stages}
+use Rattle.am_files.specs.Faults.{Stage}
 use Rattle.am_questions.specs.QuestionText.{ReadsQuestion, QuestionRefusedFor}
 
 -- The bytes of a universe file, if there is one; the other files; and the texts of questions.

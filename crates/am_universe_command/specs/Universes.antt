@@ -16,8 +16,8 @@ use Rattle.am_list_files.specs.UniverseFile.{FileSaysUniverse, AreTextsOfLists}
 use Rattle.am_list_files.specs.UniverseFile.{FileHasImpossibleTexts}
 use Rattle.am_eval.specs.World.{World}
 use Rattle.am_eval.specs.Question.{Question}
-use Rattle.am_eval.specs.Faults.{Stage}
-use Rattle.am_eval.specs.Promise.{Promise}
+use Rattle.am_files.specs.Faults.{Stage}
+use Rattle.am_files.specs.Promise.{Promise}
 use Rattle.am_classes.specs.declared.alphabet.Alphabet.{Alphabet}
 use Rattle.am_complete.specs.declared.label_state.LabelState.{LabelState}
 use Rattle.am_complete.specs.declared.origin.Origin.{Origin}

@@ -2,7 +2,7 @@
 
 ghost use Rattle.std.specs.Prelude.{◌≡◌, map, option_map, string_bytes, IfOk};
 ghost use Rattle.am_eval.specs.QuestionView.{question_view};
-ghost use Rattle.am_eval.specs.Promise.{IsKept};
+ghost use Rattle.am_files.specs.Promise.{IsKept};
 ghost use Rattle.am_universe_command.specs.Universes.{IsCheckOf, alerts_if_any, check_promise};
 
 use crate::UniverseInputs;

@@ -8,7 +8,7 @@ ghost use Rattle.am_json.specs.Reading.{IsRefusalAt};
 ghost use Rattle.am_list_files.specs.UniverseFile.{AreTextsOfLists};
 ghost use Rattle.am_config.specs.ConfigView.{config_view};
 ghost use Rattle.am_eval.specs.QuestionView.{question_view};
-ghost use Rattle.am_eval.specs.Faults.{IsFirstFault};
+ghost use Rattle.am_files.specs.Faults.{IsFirstFault};
 ghost use Rattle.am_questions.specs.QuestionText.{ReadsQuestion, QuestionRefusedFor};
 ghost use Rattle.am_universe_command.specs.UniverseInputs.{SaysUniverseIfAny, UniverseRefusedFor};
 ghost use Rattle.am_universe_command.specs.UniverseInputs.{HasListsIfAny, ReadsQuestions};
@@ -18,7 +18,8 @@ ghost use Rattle.am_universe_command.specs.UniverseInputs.{universe_input_stages
 
 use crate::UniverseInputs;
 use am_config::Config;
-use am_eval::{Question, World, read_timeless_world};
+use am_eval::{Question, World};
+use am_files::read_timeless_world;
 use am_labels::Space;
 use am_list_files::read_universe_with_texts;
 use am_questions::parse_question;

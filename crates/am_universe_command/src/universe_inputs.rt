@@ -1,4 +1,4 @@
-use am_eval::Files;
+use am_files::Files;
 use std::marker::Model;
 
 /// The inputs for which a universe is made or checked.

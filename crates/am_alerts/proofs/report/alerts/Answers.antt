@@ -8,11 +8,11 @@ use Rattle.am_config.specs.ConfigView.{config_view}
 use Rattle.am_eval.specs.World.{World}
 use Rattle.am_eval.specs.Question.{Question}
 use Rattle.am_eval.specs.QuestionView.{question_view}
-use Rattle.am_eval.specs.Files.{Files, config_of}
-use Rattle.am_eval.specs.Faults.{Stage}
-use Rattle.am_eval.specs.AcceptedWorld.{world_stages}
-use Rattle.am_eval.proofs.FirstFaults.{first_of_more, first_behind_world}
-use Rattle.am_eval.proofs.Promises.{refused, written, nothing_told}
+use Rattle.am_files.specs.Files.{Files, config_of}
+use Rattle.am_files.specs.Faults.{Stage}
+use Rattle.am_files.specs.AcceptedWorld.{world_stages}
+use Rattle.am_files.proofs.FirstFaults.{first_of_more, first_behind_world}
+use Rattle.am_files.proofs.Promises.{refused, written, nothing_told}
 use Rattle.am_questions.specs.QuestionStages.{question_stage}
 use Rattle.am_questions.specs.QuestionText.{ReadsQuestion, QuestionRefusedFor}
 use Rattle.am_alerts.specs.declared.finding.Found.{Found}

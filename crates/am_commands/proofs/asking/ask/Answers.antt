@@ -1,7 +1,7 @@
 -- What was read is accepted, and what is owed after reading is what is owed for the inputs.
 use Rattle.std.proofs.Common.{refl}
 use Rattle.am_questions.specs.Inputs.{inputs_of}
-use Rattle.am_eval.proofs.Promises.{refused, kept_as}
+use Rattle.am_files.proofs.Promises.{refused, kept_as}
 use Rattle.am_commands.specs.AskOutcome.{ask_promise, page_promise}
 use Rattle.am_commands.proofs.AskedPages.{page_of_read}
 use Rattle.am_commands.proofs.asking.ask.Goals as goal

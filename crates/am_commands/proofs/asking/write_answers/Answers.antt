@@ -3,7 +3,7 @@ use Rattle.std.proofs.Common.{◌≡◌, refl, ap, ◌∙◌}
 use Rattle.am_universe.specs.Universe.{sizes}
 use Rattle.am_labels.specs.Space.{Space}
 use Rattle.am_eval.specs.QuestionView.{question_view}
-use Rattle.am_eval.proofs.Promises.{written, told_as}
+use Rattle.am_files.proofs.Promises.{written, told_as}
 use Rattle.am_search.specs.AnswersView.{answers_page}
 use Rattle.am_search.specs.PageText.{page_text}
 use Rattle.am_search.proofs.WalkBudgets.{page_is}

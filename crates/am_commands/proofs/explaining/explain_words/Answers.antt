@@ -8,11 +8,11 @@ use Rattle.am_eval.specs.World.{World}
 use Rattle.am_eval.specs.Routing.{ends}
 use Rattle.am_eval.specs.Silencing.{silencers}
 use Rattle.am_eval.specs.Inhibition.{inhibitors}
-use Rattle.am_eval.specs.Explanation.{explanation_text, explain_promise}
-use Rattle.am_eval.specs.Faults.{set_stage}
-use Rattle.am_eval.specs.AcceptedWorld.{world_stages}
-use Rattle.am_eval.proofs.FirstFaults.{first_of_more, first_behind_world}
-use Rattle.am_eval.proofs.Promises.{refused, written, nothing_told}
+use Rattle.am_commands.specs.Explanation.{explanation_text, explain_promise}
+use Rattle.am_files.specs.Faults.{set_stage}
+use Rattle.am_files.specs.AcceptedWorld.{world_stages}
+use Rattle.am_files.proofs.FirstFaults.{first_of_more, first_behind_world}
+use Rattle.am_files.proofs.Promises.{refused, written, nothing_told}
 use Rattle.am_commands.proofs.explaining.explain_words.Goals as goal
 
 -- the text of what was found

@@ -4,7 +4,7 @@ use Rattle.std.proofs.lemmas.Grind.{common_steps}
 use Rattle.am_config.specs.ConfigView.{config_view}
 use Rattle.am_coverage.specs.CoverageView.{found_view}
 use Rattle.am_coverage.proofs.ReportFacts.{routes_reported}
-use Rattle.am_eval.proofs.Promises.{refused, written, nothing_told}
+use Rattle.am_files.proofs.Promises.{refused, written, nothing_told}
 use Rattle.am_commands.specs.Reports.{dead_promise}
 use Rattle.am_commands.proofs.reporting.dead.Goals as goal
 

@@ -5,7 +5,7 @@ use Rattle.std.proofs.lemmas.List.FromFn.{length-map-range_with_len}
 use Rattle.std.proofs.lemmas.Grind.{common_steps}
 use Rattle.am_config.specs.ConfigView.{config_view}
 use Rattle.am_coverage.proofs.ReportFacts.{receivers_reported}
-use Rattle.am_eval.proofs.Promises.{refused, written, nothing_told}
+use Rattle.am_files.proofs.Promises.{refused, written, nothing_told}
 use Rattle.am_commands.specs.Reports.{receivers_promise}
 use Rattle.am_commands.proofs.reporting.receivers.Goals as goal
 

@@ -1,5 +1,4 @@
-use Rattle.std.proofs.Common.{refl, arith}
-use Rattle.std.proofs.lemmas.Fmt.{decimal_digit}
+use Rattle.std.proofs.Common.{refl}
 use Rattle.am_eval.proofs.InhibitionExample.{firing_severity, firing_team, firing_region}
 use Rattle.am_eval.proofs.laws.an_example_of_inhibition.Goals as goal
 
@@ -11,5 +10,4 @@ returns c = record {
   two_sided = λ s has. rw (has.0, has.1, firing_severity, firing_team) refl;
   one_sided = λ s has. rw (has.0, has.1, firing_severity, firing_team) refl;
   which = λ s has. rw (has.0, has.1, firing_severity, firing_team) refl;
-  told = rw (decimal_digit 1 (omega arith), decimal_digit 0 (omega arith)) refl;
 }

@@ -2,8 +2,8 @@
 use Rattle.std.proofs.Common.{◌≡◌, map}
 use Rattle.std.specs.Prelude.{option_copied, Some}
 use Rattle.am_questions.specs.Inputs.{Inputs}
-use Rattle.am_eval.specs.Explanation.{explain_promise}
-use Rattle.am_eval.specs.Files.{config_of}
+use Rattle.am_commands.specs.Explanation.{explain_promise}
+use Rattle.am_files.specs.Files.{config_of}
 use Rattle.am_commands.specs.AskOutcome.{ask_promise}
 use Rattle.am_commands.specs.Reports.{dead_promise, receivers_promise}
 use Rattle.am_alerts.specs.Alerts.{alerts_promise}

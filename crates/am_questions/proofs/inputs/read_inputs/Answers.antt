@@ -4,12 +4,12 @@ use Rattle.am_universe.specs.declared.kind.Kind.TheVariants as kinds
 use Rattle.am_json.specs.Reading.{refusal_of}
 use Rattle.am_eval.specs.QuestionView.{question_view}
 use Rattle.am_questions.specs.QuestionText.{QuestionRefusedFor, ReadsQuestion}
-use Rattle.am_eval.specs.Faults.{Stage, IsFirstFault}
+use Rattle.am_files.specs.Faults.{Stage, IsFirstFault}
 use Rattle.am_questions.specs.QuestionStages.{question_stage, token_stage}
-use Rattle.am_eval.specs.Files.{config_of}
+use Rattle.am_files.specs.Files.{config_of}
 use Rattle.am_questions.specs.Inputs.{Inputs, inputs_of, inputs_fingerprint, ask_stages}
-use Rattle.am_eval.specs.AcceptedWorld.{world_stages}
-use Rattle.am_eval.proofs.FirstFaults.{first_of_more, first_behind_world, handed_on}
+use Rattle.am_files.specs.AcceptedWorld.{world_stages}
+use Rattle.am_files.proofs.FirstFaults.{first_of_more, first_behind_world, handed_on}
 use Rattle.am_questions.proofs.HasFingerprint.{asked_is_start}
 use Rattle.am_questions.proofs.PartLemmas.{parts_unwritten}
 use Rattle.am_questions.proofs.inputs.read_inputs.Goals as goal

@@ -6,7 +6,7 @@ use Rattle.am_universe.specs.declared.fault.Fault.{Fault}
 use Rattle.am_universe.specs.Universe.{Label}
 use Rattle.am_labels.specs.Space.{Space}
 use Rattle.am_json.specs.Reading.{refusal_of}
-use Rattle.am_eval.proofs.FirstFaults.{handed_on}
+use Rattle.am_files.proofs.FirstFaults.{handed_on}
 use Rattle.am_lint.specs.Findings.{alphabet_of}
 use Rattle.am_outcomes.specs.Outcomes.{outcomes_of}
 use Rattle.am_outcomes.specs.Ways.{HaveManyWays}

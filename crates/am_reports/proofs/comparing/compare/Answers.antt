@@ -3,8 +3,8 @@ use Rattle.std.proofs.Common.{Ok, refl, sym, string_bytes, subst}
 use Rattle.std.specs.Result.{result_and}
 use Rattle.am_json.specs.Reading.{refusal_of}
 use Rattle.am_config.specs.ConfigView.{config_view}
-use Rattle.am_eval.proofs.FirstFaults.{first_of_more}
-use Rattle.am_eval.proofs.Promises.{refused, written}
+use Rattle.am_files.proofs.FirstFaults.{first_of_more}
+use Rattle.am_files.proofs.Promises.{refused, written}
 use Rattle.am_lint.specs.Findings.{alphabet_of}
 use Rattle.am_reports.specs.AllOutcomes.{AreAllOutcomes}
 use Rattle.am_reports.specs.Configurations.{Pair, space_of}

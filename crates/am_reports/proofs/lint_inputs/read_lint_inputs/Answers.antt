@@ -1,8 +1,8 @@
 -- If the universe file is accepted, the first fault is that of the world.
 use Rattle.std.proofs.Common.{inr, subst}
 use Rattle.am_json.specs.Reading.{refusal_of}
-use Rattle.am_eval.specs.Faults.{IsFirstFault, IsFirstFaultOfCall}
-use Rattle.am_eval.proofs.FirstFaults.{handed_on}
+use Rattle.am_files.specs.Faults.{IsFirstFault, IsFirstFaultOfCall}
+use Rattle.am_files.proofs.FirstFaults.{handed_on}
 use Rattle.am_reports.specs.LintInputs.{LintInputs, lint_input_stages}
 use Rattle.am_reports.proofs.lint_inputs.read_lint_inputs.Goals as goal
 

@@ -3,8 +3,8 @@ use Rattle.std.proofs.Common.{Ok, refl, string_bytes}
 use Rattle.std.specs.Prelude.{nat_lt}
 use Rattle.std.specs.Result.{result_and}
 use Rattle.am_json.specs.Reading.{refusal_of}
-use Rattle.am_eval.proofs.FirstFaults.{first_of_more}
-use Rattle.am_eval.proofs.Promises.{refused, written}
+use Rattle.am_files.proofs.FirstFaults.{first_of_more}
+use Rattle.am_files.proofs.Promises.{refused, written}
 use Rattle.am_reports.specs.LintInputs.{lint_input_stages}
 use Rattle.am_reports.specs.Linting.{lint_promise, later_stages}
 use Rattle.am_reports.proofs.LintStages.{first_behind_lint_inputs}

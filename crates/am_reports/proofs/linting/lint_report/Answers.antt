@@ -5,8 +5,8 @@ use Rattle.am_universe.specs.declared.fault.Fault.{Fault}
 use Rattle.am_labels.specs.Matcher.{Condition}
 use Rattle.am_json.specs.Reading.{refusal_of}
 use Rattle.am_config.specs.ConfigFile.{Configuration}
-use Rattle.am_eval.specs.Faults.{IsFirstFault}
-use Rattle.am_eval.proofs.FirstFaults.{handed_on}
+use Rattle.am_files.specs.Faults.{IsFirstFault}
+use Rattle.am_files.proofs.FirstFaults.{handed_on}
 use Rattle.am_lint.specs.Findings.{alphabet_of}
 use Rattle.am_idle.specs.Lists.{undeclared}
 use Rattle.am_reports.specs.Configurations.{One}

@@ -3,7 +3,7 @@ use Rattle.std.proofs.Common.{◌≡◌, ◌≢◌, ◌<◌, ℕ, List, length, 
 use Rattle.std.proofs.Common.{sym, ◌∙◌, subst, arith}
 use Rattle.std.proofs.lemmas.Option.{get_or_from_slice_get}
 use Rattle.am_json.specs.Reading.{refusal_of}
-use Rattle.am_eval.proofs.FirstFaults.{handed_on}
+use Rattle.am_files.proofs.FirstFaults.{handed_on}
 use Rattle.am_universe.specs.declared.kind.Kind.TheVariants as kinds
 use Rattle.am_universe.specs.Universe.{Label, IsUniverse}
 use Rattle.am_universe.proofs.LabelPairLemmas.{found_at}

@@ -2,8 +2,8 @@
 use Rattle.std.proofs.Common.{refl, sym, string_bytes, subst}
 use Rattle.am_json.specs.Reading.{refusal_of}
 use Rattle.am_config.specs.ConfigView.{config_view}
-use Rattle.am_eval.proofs.FirstFaults.{first_of_more}
-use Rattle.am_eval.proofs.Promises.{refused, written, nothing_told}
+use Rattle.am_files.proofs.FirstFaults.{first_of_more}
+use Rattle.am_files.proofs.Promises.{refused, written, nothing_told}
 use Rattle.am_lint.specs.Findings.{alphabet_of}
 use Rattle.am_reports.specs.AllOutcomes.{AreAllOutcomes}
 use Rattle.am_reports.specs.Configurations.{One, space_of}

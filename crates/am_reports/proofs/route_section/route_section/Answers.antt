@@ -3,7 +3,7 @@ use Rattle.std.proofs.Common.{◌≢◌, inr}
 use Rattle.am_universe.specs.declared.kind.Kind.TheVariants as kinds
 use Rattle.am_json.specs.Reading.{refusal_of}
 use Rattle.am_config.specs.ConfigView.{config_view}
-use Rattle.am_eval.proofs.FirstFaults.{handed_on}
+use Rattle.am_files.proofs.FirstFaults.{handed_on}
 use Rattle.am_reports.specs.Made.{IsRoutesRefusal}
 use Rattle.am_reports.proofs.route_section.route_section.Goals as goal
 

@@ -1,8 +1,8 @@
 -- The faults of the inputs come first, and what was found is what is written.
 use Rattle.std.proofs.Common.{Bool, is_some, refl, string_bytes, subst, ap, map, ◌∙◌}
-use Rattle.am_eval.specs.Files.{Files}
+use Rattle.am_files.specs.Files.{Files}
 use Rattle.am_eval.specs.QuestionView.{question_view}
-use Rattle.am_eval.proofs.Promises.{refused, written, nothing_told}
+use Rattle.am_files.proofs.Promises.{refused, written, nothing_told}
 use Rattle.am_universe_command.specs.UniverseInputs.{UniverseInputs}
 use Rattle.am_universe_command.specs.Universes.{IsCheckOf, check_promise}
 use Rattle.am_universe_command.proofs.CheckFacts.{is_there}

@@ -2,8 +2,8 @@
 use Rattle.std.proofs.Common.{refl, string_bytes, map}
 use Rattle.am_json.specs.Reading.{refusal_of}
 use Rattle.am_eval.specs.QuestionView.{question_view}
-use Rattle.am_eval.proofs.FirstFaults.{first_of_more}
-use Rattle.am_eval.proofs.Promises.{refused, written, nothing_told}
+use Rattle.am_files.proofs.FirstFaults.{first_of_more}
+use Rattle.am_files.proofs.Promises.{refused, written, nothing_told}
 use Rattle.am_universe_command.specs.UniverseInputs.{universe_input_stages}
 use Rattle.am_universe_command.specs.Universes.{universe_promise, made_stages}
 use Rattle.am_universe_command.proofs.UniverseStages.{first_behind_inputs}

@@ -4,7 +4,7 @@ use Rattle.am_universe.specs.declared.place.Place.TheVariants as places
 use Rattle.am_json.specs.Reading.{refusal_of, IsRefusalAt}
 use Rattle.am_config.specs.ConfigView.{config_view}
 use Rattle.am_eval.specs.QuestionView.{question_view}
-use Rattle.am_eval.proofs.FirstFaults.{handed_on}
+use Rattle.am_files.proofs.FirstFaults.{handed_on}
 use Rattle.am_universe_command.specs.UniverseInputs.{QuestionsRefusedFor}
 use Rattle.am_universe_command.proofs.ReadQuestions.{refused_next, read_more, text_there}
 use Rattle.am_universe_command.proofs.read_inputs.read_questions.Goals as goal

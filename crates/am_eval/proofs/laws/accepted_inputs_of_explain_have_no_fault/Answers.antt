@@ -1,5 +1,0 @@
-use Rattle.am_eval.proofs.AcceptedInputs.{explained_accepted}
-use Rattle.am_eval.proofs.laws.accepted_inputs_of_explain_have_no_fault.Goals as goal
-
-pub returns : goal.returns
-returns c = record { pattern = explained_accepted }

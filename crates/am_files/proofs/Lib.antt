@@ -1,0 +1,4 @@
+pub mod FirstFaults
+pub mod Promises
+pub mod SetRefusals
+pub mod AcceptedInputs

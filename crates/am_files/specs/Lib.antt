@@ -1,0 +1,5 @@
+pub mod Files
+pub mod AskedInstant
+pub mod Faults
+pub mod Promise
+pub mod AcceptedWorld
