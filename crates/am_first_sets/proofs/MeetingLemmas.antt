@@ -1,7 +1,7 @@
 -- Choices that wanted cubes match and unwanted ones do not.
-use Rattle.std.proofs.Common.{◌≡◌, ◌↔◌, ℕ, ◌<◌, Bool, false, ◌&&◌, List, [], ◌∷◌}
+use Rattle.std.proofs.Common.{◌≡◌, ◌↔◌, ℕ, ◌<◌, Bool, true, false, not, ◌&&◌, List, [], ◌∷◌, ◌++◌}
 use Rattle.std.proofs.Common.{Option, Some, Bor, None, Result, Ok, Err, IfOk, IfSome, IfNone, length, take, drop, get_or, slice_get}
-use Rattle.std.proofs.Common.{refl, ap, sym, ◌∙◌, inl, inr}
+use Rattle.std.proofs.Common.{refl, ap, sym, ◌∙◌, subst, inl, inr}
 use Rattle.std.specs.Prelude.{IsTrue}
 use Rattle.std.specs.List.{find, list_all}
 use Rattle.std.proofs.lemmas.Bool.{and_parts, and_from, and_left, cases_Bool, both_ways, false_from_ne_true}
@@ -13,8 +13,11 @@ use Rattle.am_judged_lists.specs.Cube.{MaskedLabels, matches}
 use Rattle.am_judged_lists.specs.Boxes.{IsInBox}
 use Rattle.am_first_sets.specs.declared.possible_choices.PossibleChoices.{PossibleChoices}
 use Rattle.am_first_sets.specs.Meeting.{all_match, meets_cubes, is_possible_by}
+use Rattle.am_first_sets.specs.declared.candidate.Candidate.{Candidate}
+use Rattle.am_first_sets.specs.Literals.{meets, wanted_of, unwanted_of}
 use Rattle.am_first_sets.specs.PossibleChoices.{IsPossible, AreFound, AreChoicesOf}
-use Rattle.am_first_sets.specs.Solving.{avoids, IsAnswer, NoneAvoids, IsTestOf}
+use Rattle.am_first_sets.specs.Solving.{avoids, marked, IsAnswer, NoneAvoids, IsTestOf}
+use Rattle.am_first_sets.proofs.SolverLemmas.{avoids_marked}
 use Rattle.am_first_sets.proofs.FirstPossible.{find_none, found_alike}
 
 -- ---- One wanted cube more.
@@ -33,6 +36,28 @@ wanted_none Start old wanted i cube c low read before misses start =
     ]
 
 -- ---- What the search finds.
+
+-- the cubes against which a search goes: those that are unwanted, and others, which say what is
+-- possible
+pub against_both : (unwanted more cubes : List (Bor MaskedLabels)) (c : List ℕ) (possible : Bool)
+    → cubes ≡ unwanted ++ more → avoids more c ≡ possible
+    → avoids cubes c ≡ (avoids unwanted c && possible)
+against_both unwanted more cubes c possible are e =
+    ap (λ (xs : List (Bor MaskedLabels)). avoids xs c) are
+    ∙ list_all-append (λ (x : Bor MaskedLabels). not (matches x.now c)) unwanted more
+    ∙ ap (λ b. avoids unwanted c && b) e
+
+-- of the unwanted ones those that are marked are enough, if of all they are
+pub marked_front : (ms : List Bool) (unwanted more : List (Bor MaskedLabels)) (c : List ℕ)
+    → avoids (marked ms unwanted) c ≡ true → avoids more c ≡ true
+    → avoids (marked ms (unwanted ++ more)) c ≡ true
+marked_front ms [] more c e rest = avoids_marked ms more c rest
+marked_front [] (x ∷ unwanted) more c e rest = refl
+marked_front (true ∷ ms) (x ∷ unwanted) more c e rest =
+    let parts = and_parts (not (matches x.now c)) (avoids (marked ms unwanted) c) e in
+    and_from (not (matches x.now c)) (avoids (marked ms (unwanted ++ more)) c) parts.0
+    (marked_front ms unwanted more c parts.1 rest)
+marked_front (false ∷ ms) (x ∷ unwanted) more c e rest = marked_front ms unwanted more c e rest
 
 module _ (p : PossibleChoices) (wanted unwanted cubes : List (Bor MaskedLabels))
     (b : List (List Bool)) (box : (c : List ℕ) → IsInBox b c ↔ IsInBox p.all c × IsTrue (all_match wanted c))
@@ -65,6 +90,10 @@ module _ (p : PossibleChoices) (wanted unwanted cubes : List (Bor MaskedLabels))
   none_meets none c possible = false_from_ne_true (meets_cubes wanted unwanted c) (λ met.
       let r = (asked_is c).0 (possible, met) in both_ways (avoids cubes c) (none c r.0) r.1)
 
+  pub found_meets : (c : List ℕ) × IsInBox b c × IsTrue (avoids cubes c)
+      → (c : List ℕ) × IsPossible p c × IsTrue (meets_cubes wanted unwanted c)
+  found_meets h = let r = (asked_is h.0).1 (h.1, h.2) in (h.0, r.0, r.1)
+
   -- so this is what is asked of a choice of a space
   pub is_test : (s : Space) → AreChoicesOf s p
       → IsTestOf (sizes s.labels) (λ c. meets_cubes wanted unwanted c && is_possible_choice s c) b cubes
@@ -78,6 +107,21 @@ module _ (p : PossibleChoices) (wanted unwanted cubes : List (Bor MaskedLabels))
             let r = (asked_is c).1 h in
             and_from met possible r.1 (sym (are.possible c whole) ∙ r.0.1),
       )
+
+-- no choice meets the cubes that were used
+pub none_meets_marked : (p : PossibleChoices) (wanted unwanted more cubes : List (Bor MaskedLabels))
+    (b : List (List Bool)) (ms : List Bool)
+    → ((c : List ℕ) → IsInBox b c ↔ IsInBox p.all c × IsTrue (all_match wanted c))
+    → cubes ≡ unwanted ++ more
+    → ((c : List ℕ) → avoids more c ≡ is_possible_by p.impossible.items c)
+    → NoneAvoids b (marked ms cubes) → (c : List ℕ) → IsPossible p c
+    → meets_cubes wanted (marked ms unwanted) c ≡ false
+none_meets_marked p wanted unwanted more cubes b ms box are rest none c possible =
+    false_from_ne_true (meets_cubes wanted (marked ms unwanted) c) (λ met.
+    let parts = and_parts (all_match wanted c) (avoids (marked ms unwanted) c) met in
+    both_ways (avoids (marked ms cubes) c) (none c ((box c).1 (possible.0, parts.0)))
+    (subst (λ (xs : List (Bor MaskedLabels)). avoids (marked ms xs) c ≡ true) (sym are)
+    (marked_front ms unwanted more c parts.1 (rest c ∙ possible.1))))
 
 -- the possible choices are those of the space
 pub choices_of : (s : Space) (p : PossibleChoices) → AreChoicesOf s p → (c : List ℕ)
@@ -121,3 +165,30 @@ if_none_more (Ok (Some a)) P Q so h = tt
 pub any_first : (cs : List (List ℕ)) → find (meets_cubes [] []) cs ≡ slice_get cs 0
 any_first [] = refl
 any_first (c ∷ cs) = refl
+
+-- ---- Literals.
+
+-- a choice meets the named literals exactly if it meets their cubes
+pub by_cubes : (c : List ℕ) (ks : List Candidate)
+    → meets_cubes (wanted_of ks) (unwanted_of ks) c ≡ meets c ks
+by_cubes c [] = refl
+by_cubes c (k ∷ ks) = elim (cases_Bool k.named) [
+  | inl named ↦ elim (cases_Bool k.wanted) [
+    | inl wanted ↦
+        rw (named, wanted) (and_apart (matches k.cube.now c) (all_match (wanted_of ks) c)
+        (avoids (unwanted_of ks) c) ∙ ap (λ b. matches k.cube.now c && b) (by_cubes c ks))
+    | inr unwanted ↦
+        rw (named, unwanted) (and_between (all_match (wanted_of ks) c) (not (matches k.cube.now c))
+        (avoids (unwanted_of ks) c) ∙ ap (λ b. not (matches k.cube.now c) && b) (by_cubes c ks))
+  ]
+  | inr unnamed ↦ rw unnamed (by_cubes c ks)
+]
+  where
+    and_apart : (a b d : Bool) → ((a && b) && d) ≡ (a && (b && d))
+    and_apart true b d = refl
+    and_apart false b d = refl
+
+    and_between : (a b d : Bool) → (a && (b && d)) ≡ (b && (a && d))
+    and_between true b d = refl
+    and_between false true d = refl
+    and_between false false d = refl

@@ -1,22 +1,24 @@
 -- Literals that are named or not, one after another.
-use Rattle.std.proofs.Common.{◌≡◌, ◌<◌, ◌≤◌, ◌+◌, ℕ, zero, suc, List, [], ◌∷◌, Bool, true, false}
-use Rattle.std.proofs.Common.{not, ◌||◌, Some, None, IsTrue, refl, sym, ap, ◌∙◌, subst, inl, inr}
-use Rattle.std.proofs.Common.{arith, length, set, ◌⊎◌, ◌↔◌}
-use Rattle.std.specs.Prelude.{slice_get, slice_index_or, Option, IfSome, IfNone, is_some, if◌then◌else◌}
-use Rattle.std.proofs.lemmas.Option.{slice_get_within, get_or_from_slice_get}
+use Rattle.std.proofs.Common.{◌≡◌, ◌<◌, ◌≤◌, ◌+◌, ℕ, zero, suc, List, [], ◌∷◌, ◌++◌, Bool, true, false}
+use Rattle.std.proofs.Common.{not, ◌&&◌, ◌||◌, Some, None, IsTrue, refl, sym, ap, ◌∙◌, subst, inl, inr}
+use Rattle.std.proofs.Common.{arith, add-one, length, set, take, drop, get_or, nat_lt, ◌⊎◌, ◌↔◌}
+use Rattle.std.specs.Prelude.{slice_get, slice_index_or, Option, IfSome, IfNone, IsFalse, is_some}
+use Rattle.std.proofs.lemmas.Bool.{and_parts, and_from, both_ways, cases_Bool, lt-ltb}
+use Rattle.std.proofs.lemmas.Bool.{true_from_ne_false}
 use Rattle.std.proofs.lemmas.List.Folds.{list_all_at}
-use Rattle.std.proofs.lemmas.Bool.{and_parts, both_ways, true_from_ne_false}
+use Rattle.std.proofs.lemmas.Option.{slice_get_within, get_or_from_slice_get}
 use Rattle.std.proofs.Math.Nat.{eq-or-lt_of_le}
+use Rattle.std.specs.Borrow.{Bor}
+use Rattle.am_judged_lists.specs.Cube.{MaskedLabels, matches}
 use Rattle.am_first_sets.specs.declared.candidate.Candidate.{Candidate}
 use Rattle.am_first_sets.specs.Literals.{holds_at, hold_all, meets, IsMet, IsUnmet}
+use Rattle.am_first_sets.specs.Literals.{wanted_of, unwanted_of}
 use Rattle.am_first_sets.specs.PossibleChoices.{AreFound}
-use Rattle.am_first_sets.specs.Reason.{AreSameLiterals, AreNamedBefore, renamed, without, IsReason}
 use Rattle.am_first_sets.proofs.SolverLemmas.{some_choice}
-
--- the number of literals that are not named
-abbrev pub count_unnamed : List Candidate → ℕ
-count_unnamed [] = 0
-count_unnamed (k ∷ ks) = (if k.named then 0 else 1) + count_unnamed ks
+use Rattle.am_first_sets.specs.Meeting.{all_match, meets_cubes}
+use Rattle.am_first_sets.specs.Solving.{avoids, marked}
+use Rattle.am_first_sets.specs.Reason.{AreSameLiterals, AreFewer, AreNamedBefore, all_named}
+use Rattle.am_first_sets.specs.Reason.{renamed, without, kept, IsReason}
 
 -- each named literal from one position on and before another is needed: without it something is met
 abbrev pub AreNeededBefore : (List Candidate → Type 0) → ℕ → ℕ → List Candidate → Type 0
@@ -25,17 +27,6 @@ AreNeededBefore Met from n ks =
     → Met (without i ks)
 
 -- ---- The same literals.
-
-pub same_itself : (ks : List Candidate) → AreSameLiterals ks ks
-same_itself [] = tt
-same_itself (k ∷ ks) = ((refl, refl, refl), same_itself ks)
-
-pub same_renamed : (i : ℕ) (name : Bool) (ks ls : List Candidate) → AreSameLiterals ks ls
-    → AreSameLiterals ks (renamed i name ls)
-same_renamed i name [] [] same = tt
-same_renamed zero name (k ∷ ks) (l ∷ ls) same = same
-same_renamed (suc i) name (k ∷ ks) (l ∷ ls) same = (same.0, same_renamed i name ks ls same.1)
-same_renamed i name ks ls same = absurd same
 
 pub same_through : (ks ls ms : List Candidate) → AreSameLiterals ks ls → AreSameLiterals ls ms
     → AreSameLiterals ks ms
@@ -46,21 +37,22 @@ same_through [] [] ms a b = absurd b
 same_through (k ∷ ks) (l ∷ ls) ms a b = absurd b
 same_through ks ls ms a b = absurd a
 
--- ---- One literal that is named, or is not.
+pub same_named : (ks : List Candidate) → AreSameLiterals ks (all_named ks)
+same_named [] = tt
+same_named (k ∷ ks) = ((refl, refl, refl), same_named ks)
 
--- the literal at the position gets the name or loses it, and the others stay as they are
-pub got_renamed : (i : ℕ) (name : Bool) (ks : List Candidate) (j : ℕ) (k : Candidate)
-    → slice_get (renamed i name ks) j ≡ Some k
-    → ((j ≡ i) × (k.named ≡ name)) ⊎ ((slice_get ks j ≡ Some k) × (j ≡ i → ⊥))
-got_renamed i name [] j k at = absurd (cc)
-got_renamed zero name (l ∷ ks) zero k at =
-    let is : record l { named = name } ≡ k = cc in inl (refl, ap (λ x. x.named) (sym is))
-got_renamed zero name (l ∷ ks) (suc j) k at = inr (at, λ e. cc)
-got_renamed (suc i) name (l ∷ ks) zero k at = inr (at, λ e. cc)
-got_renamed (suc i) name (l ∷ ks) (suc j) k at = elim (got_renamed i name ks j k at) [
-  | inl here ↦ inl (ap suc here.0, here.1)
-  | inr other ↦ inr (other.0, λ e. other.1 (omega (arith, e)))
-]
+-- all literals are named, so those that are named are met only where all are true
+pub named_before : (n : ℕ) (ks : List Candidate) → AreNamedBefore n (all_named ks)
+named_before n [] i k at lt = cc
+named_before n (k ∷ ks) zero l at lt =
+    let is : record k { named = true } ≡ l = cc in ap (λ x. x.named) (sym is)
+named_before n (k ∷ ks) (suc i) l at lt = named_before (suc i + 1) ks i l at (omega arith)
+
+pub all_met : (c : List ℕ) (ks : List Candidate) → meets c (all_named ks) ≡ hold_all c ks
+all_met c [] = refl
+all_met c (k ∷ ks) = ap (λ b. holds_at c k && b) (all_met c ks)
+
+-- ---- One literal that is named, or is not.
 
 pub renamed_is_set : (i : ℕ) (name : Bool) (ks : List Candidate) (d : Candidate)
     → i < length ks
@@ -75,46 +67,22 @@ renamed_is_set zero name (k ∷ ks) d lt = refl
 renamed_is_set (suc i) name (k ∷ ks) d lt =
     ap (λ rest. k ∷ rest) (renamed_is_set i name ks d (omega (arith, lt)))
 
--- the first literals stay named if any literal is named, or if a later one loses its name
-pub named_more : (n i : ℕ) (ks : List Candidate) → AreNamedBefore n ks
-    → AreNamedBefore n (renamed i true ks)
-named_more n i ks h j k at lt = elim (got_renamed i true ks j k at) [
-  | inl here ↦ here.1
-  | inr other ↦ h j k other.0 lt
-]
+pub renamed_long : (i : ℕ) (name : Bool) (ks : List Candidate)
+    → length (renamed i name ks) ≡ length ks
+renamed_long i name [] = refl
+renamed_long zero name (k ∷ ks) = refl
+renamed_long (suc i) name (k ∷ ks) = ap suc (renamed_long i name ks)
 
-pub named_less : (n i : ℕ) (ks : List Candidate) → n ≤ i → AreNamedBefore n ks
-    → AreNamedBefore n (without i ks)
-named_less n i ks behind h j k at lt = elim (got_renamed i false ks j k at) [
-  | inl here ↦ absurd (omega (arith, behind, lt, here.0))
-  | inr other ↦ h j k other.0 lt
-]
-
--- those of the first `count` literals that are before the position `n` are named
-abbrev pub AreNamedSoFar : List Candidate → List Candidate → ℕ → ℕ → Type 0
-AreNamedSoFar ks ls count n =
-    AreSameLiterals ks ls
-    × ((j : ℕ) (k : Candidate) → slice_get ls j ≡ Some k → j < n → j < count → IsTrue k.named)
-
-pub at_most : (j i : ℕ) → j < i + 1 → j ≤ i
-at_most j i lt = omega (arith, lt)
-
--- one more of them is named
-pub named_first : (ks before after : List Candidate) (count i : ℕ) (name : Bool)
-    → AreNamedSoFar ks before count i → (i < count → name ≡ true)
-    → after ≡ renamed i name before → AreNamedSoFar ks after count (i + 1)
-named_first ks before after count i name h so is = (
-  subst (AreSameLiterals ks) (sym is) (same_renamed i name ks before h.0),
-  λ j k at lt low.
-      elim (got_renamed i name before j k
-      (subst (λ (ls : List Candidate). slice_get ls j ≡ Some k) is at)) [
-        | inl here ↦ here.1 ∙ so (omega (arith, low, here.0))
-        | inr other ↦ elim (eq-or-lt_of_le (at_most j i lt)) [
-          | inl e ↦ absurd (other.1 e)
-          | inr below ↦ h.1 j k other.0 below low
-        ]
-      ],
-)
+-- one more of the first literals is named
+pub named_next : (i : ℕ) (old ks : List Candidate) → i < length old
+    → ks ≡ all_named (take i old) ++ drop i old
+    → renamed i true ks ≡ all_named (take (suc i) old) ++ drop (suc i) old
+named_next i [] ks lt is = absurd (omega (arith, lt))
+named_next zero (k ∷ old) ks lt is = ap (renamed 0 true) is
+named_next (suc i) (k ∷ old) ks lt is =
+    ap (renamed (suc i) true) is
+    ∙ ap (λ rest. record k { named = true } ∷ rest)
+    (named_next i old (all_named (take i old) ++ drop i old) (omega (arith, lt)) refl)
 
 -- if a literal loses its name and gets it back, nothing changes
 pub restored : (i : ℕ) (ks : List Candidate) (k : Candidate) → slice_get ks i ≡ Some k
@@ -126,32 +94,98 @@ restored zero (l ∷ ks) k at named =
     λ j. record { cube = l.cube; wanted = l.wanted; named = sym so j; tag = l.tag } ∷ ks
 restored (suc i) (l ∷ ks) k at named = ap (λ rest. l ∷ rest) (restored i ks k at named)
 
--- the order in which names are taken off does not matter
-swapped : (i j : ℕ) (ks : List Candidate) → without i (without j ks) ≡ without j (without i ks)
-swapped i j [] = refl
-swapped zero zero (k ∷ ks) = refl
-swapped zero (suc j) (k ∷ ks) = refl
-swapped (suc i) zero (k ∷ ks) = refl
-swapped (suc i) (suc j) (k ∷ ks) = ap (λ rest. k ∷ rest) (swapped i j ks)
+-- ---- Fewer that are named.
 
--- and the literal at a position is not named if its name was taken off
-pub at_place : {P : Type 0} (i : ℕ) (ks : List Candidate) (k : Candidate)
-    → slice_get (without i ks) i ≡ Some k → IsTrue k.named → P
-at_place i ks k at named = elim (got_renamed i false ks i k at) [
-  | inl here ↦ absurd (both_ways k.named here.1 named)
-  | inr other ↦ absurd (other.1 refl)
-]
+pub fewer_itself : (ks : List Candidate) → AreFewer ks ks
+fewer_itself [] = tt
+fewer_itself (k ∷ ks) = ((refl, refl, refl, λ named. named), fewer_itself ks)
 
--- ---- What is met.
+pub fewer_through : (ks ls ms : List Candidate) → AreFewer ks ls → AreFewer ls ms → AreFewer ks ms
+fewer_through [] [] [] a b = tt
+fewer_through (k ∷ ks) (l ∷ ls) (m ∷ ms) a b = (
+  (a.0.0 ∙ b.0.0, a.0.1 ∙ b.0.1, a.0.2 ∙ b.0.2, λ named. a.0.3 (b.0.3 named)),
+  fewer_through ks ls ms a.1 b.1,
+)
+fewer_through [] [] ms a b = absurd b
+fewer_through (k ∷ ks) (l ∷ ls) ms a b = absurd b
+fewer_through ks ls ms a b = absurd a
 
--- if fewer literals are named, a choice still meets them
-pub fewer_met : (c : List ℕ) (i : ℕ) (ks : List Candidate) → meets c ks ≡ true
-    → meets c (without i ks) ≡ true
-fewer_met c i [] h = refl
-fewer_met c zero (k ∷ ks) h = (and_parts (not k.named || holds_at c k) (meets c ks) h).1
-fewer_met c (suc i) (k ∷ ks) h =
-    let parts = and_parts (not k.named || holds_at c k) (meets c ks) h in
-    rw (parts.0) (fewer_met c i ks parts.1)
+pub fewer_without : (i : ℕ) (ks : List Candidate) → AreFewer ks (without i ks)
+fewer_without i [] = tt
+fewer_without zero (k ∷ ks) = ((refl, refl, refl, λ named. cc), fewer_itself ks)
+fewer_without (suc i) (k ∷ ks) = ((refl, refl, refl, λ named. named), fewer_without i ks)
+
+pub fewer_same : (ks ls : List Candidate) → AreFewer ks ls → AreSameLiterals ks ls
+fewer_same [] [] h = tt
+fewer_same (k ∷ ks) (l ∷ ls) h = ((h.0.0, h.0.1, h.0.2), fewer_same ks ls h.1)
+fewer_same ks ls h = absurd h
+
+-- what is named at a position was named before
+pub fewer_at : (ks ls : List Candidate) (i : ℕ) (l : Candidate) → AreFewer ks ls
+    → slice_get ls i ≡ Some l
+    → (k : Candidate) × (slice_get ks i ≡ Some k) × (IsTrue l.named → IsTrue k.named)
+fewer_at [] [] i l h at = cc
+fewer_at (k ∷ ks) (m ∷ ls) zero l h at =
+    let is : m ≡ l = cc in (k, refl, λ named. h.0.3 (ap (λ x. x.named) is ∙ named))
+fewer_at (k ∷ ks) (m ∷ ls) (suc i) l h at = fewer_at ks ls i l h.1 at
+fewer_at ks ls i l h at = absurd h
+
+-- if the name of a literal is taken off of both, still no others are named
+pub fewer_both : (i : ℕ) (ks ls : List Candidate) → AreFewer ks ls
+    → AreFewer (without i ks) (without i ls)
+fewer_both i [] [] h = tt
+fewer_both zero (k ∷ ks) (l ∷ ls) h = ((h.0.0, h.0.1, h.0.2, λ named. cc), h.1)
+fewer_both (suc i) (k ∷ ks) (l ∷ ls) h = (h.0, fewer_both i ks ls h.1)
+fewer_both i ks ls h = absurd h
+
+-- a literal whose name was taken off is not named
+pub unnamed_at : {P : Type 0} (i : ℕ) (ks ls : List Candidate) (l : Candidate)
+    → AreFewer (without i ks) ls → slice_get ls i ≡ Some l → IsTrue l.named → P
+unnamed_at i ks ls l h at named =
+    let r = fewer_at (without i ks) ls i l h at in no_name i ks r.0 r.1 (r.2 named)
+  where
+    no_name : {P : Type 0} (i : ℕ) (ks : List Candidate) (k : Candidate)
+        → slice_get (without i ks) i ≡ Some k → IsTrue k.named → P
+    no_name i [] k at named = absurd (cc)
+    no_name zero (l ∷ ks) k at named =
+        let is : record l { named = false } ≡ k = cc in
+        absurd (both_ways k.named (ap (λ x. x.named) (sym is)) named)
+    no_name (suc i) (l ∷ ks) k at named = no_name i ks k at named
+
+-- the first literals stay named if a later one loses its name
+pub named_less : (n i : ℕ) (ks : List Candidate) → n ≤ i → AreNamedBefore n ks
+    → AreNamedBefore n (without i ks)
+named_less n i [] le h j k at lt = cc
+named_less n zero (l ∷ ks) le h j k at lt = absurd (omega (arith, le, lt))
+named_less n (suc i) (l ∷ ks) le h zero k at lt = h zero k at lt
+named_less zero (suc i) (l ∷ ks) le h (suc j) k at lt = absurd (omega (arith, lt))
+named_less (suc n) (suc i) (l ∷ ks) le h (suc j) k at lt =
+    named_less n i ks (omega (arith, le)) (λ m x there below. h (suc m) x there (omega (arith, below)))
+    j k at (omega (arith, lt))
+
+-- what is met stays so if fewer literals are named
+pub fewer_met : (c : List ℕ) (ks ls : List Candidate) → AreFewer ks ls → meets c ks ≡ true
+    → meets c ls ≡ true
+fewer_met c [] [] h met = refl
+fewer_met c (k ∷ ks) (l ∷ ls) h met =
+    let parts = and_parts (not k.named || holds_at c k) (meets c ks) met in
+    and_from (not l.named || holds_at c l) (meets c ls)
+    (one k.named l.named (holds_at c k) (holds_at c l) h.0.3 (alike k l h.0.0 h.0.1) parts.0)
+    (fewer_met c ks ls h.1 parts.1)
+  where
+    alike : (k l : Candidate) → k.cube ≡ l.cube → k.wanted ≡ l.wanted
+        → holds_at c k ≡ holds_at c l
+    alike k l cube wanted = rw (cube, wanted) refl
+
+    one : (a b x y : Bool) → (b ≡ true → a ≡ true) → x ≡ y → (not a || x) ≡ true
+        → (not b || y) ≡ true
+    one a false x y so e h = refl
+    one a true x y so e h = sym e ∙ (rw (so refl) at h)
+fewer_met c ks ls h met = absurd h
+
+pub fewer_is_met : (Is : List ℕ → Type 0) (ks ls : List Candidate) → AreFewer ks ls → IsMet Is ks
+    → IsMet Is ls
+fewer_is_met Is ks ls h met = (met.0, met.1, fewer_met met.0 ks ls h met.2)
 
 -- a named literal is true where the named ones are met
 pub met_at : (c : List ℕ) (ks : List Candidate) (i : ℕ) (k : Candidate) → meets c ks ≡ true
@@ -162,66 +196,7 @@ met_at c ks i k met at named =
     (list_all_at test ks i k (slice_get_within ks i k at)
     (ap test (get_or_from_slice_get ks i k k at) ∙ rw (named, fails) refl)) met)
 
--- the truth of literals does not depend on whether they are named
-pub hold_alike : (c : List ℕ) (ks ls : List Candidate) → AreSameLiterals ks ls
-    → hold_all c ls ≡ true → hold_all c ks ≡ true
-hold_alike c [] [] same h = refl
-hold_alike c (k ∷ ks) (l ∷ ls) same h =
-    let parts = and_parts (holds_at c l) (hold_all c ls) h in
-    let is : holds_at c k ≡ holds_at c l = alike k l same.0.0 same.0.1 in
-    rw (is ∙ parts.0) (hold_alike c ks ls same.1 parts.1)
-  where
-    alike : (k l : Candidate) → k.cube ≡ l.cube → k.wanted ≡ l.wanted
-        → holds_at c k ≡ holds_at c l
-    alike k l cube wanted = rw (cube, wanted) refl
-hold_alike c ks ls same h = absurd same
-
--- ---- What was looked at is needed.
-
-pub needed_more : (Met : List Candidate → Type 0)
-    → ((i : ℕ) (ks : List Candidate) → Met ks → Met (without i ks))
-    → (from i : ℕ) (before after : List Candidate)
-    → (after ≡ before) ⊎ (after ≡ without i before)
-    → ((k : Candidate) → slice_get after i ≡ Some k → IsTrue k.named → Met (without i after))
-    → AreNeededBefore Met from i before → AreNeededBefore Met from (i + 1) after
-needed_more Met fewer from i before after either here so j k at low lt named =
-    elim (eq-or-lt_of_le (at_most j i lt)) [
-      | inr below ↦ elim either [
-        | inl same ↦
-            subst (λ (ks : List Candidate). Met (without j ks)) (sym same)
-            (so j k (subst (λ (ks : List Candidate). slice_get ks j ≡ Some k) same at) low below named)
-        | inr less ↦
-            let there = subst (λ (ks : List Candidate). slice_get ks j ≡ Some k) less at in
-            subst (λ (ks : List Candidate). Met (without j ks)) (sym less)
-            (elim (got_renamed i false before j k there) [
-              | inl it ↦ absurd (omega (arith, below, it.0))
-              | inr other ↦
-                  subst Met (swapped i j before)
-                  (fewer i (without j before) (so j k other.0 low below named))
-            ])
-      ]
-      | inl is ↦
-          subst (λ (n : ℕ). Met (without n after)) (sym is)
-          (here k (subst (λ (n : ℕ). slice_get after n ≡ Some k) is at) named)
-    ]
-
-pub named_either : (n i : ℕ) (before after : List Candidate) → n ≤ i
-    → (after ≡ before) ⊎ (after ≡ without i before) → AreNamedBefore n before
-    → AreNamedBefore n after
-named_either n i before after le (inl same) h = subst (AreNamedBefore n) (sym same) h
-named_either n i before after le (inr less) h =
-    subst (AreNamedBefore n) (sym less) (named_less n i before le h)
-
-pub same_either : (ks before after : List Candidate) (i : ℕ)
-    → (after ≡ before) ⊎ (after ≡ without i before) → AreSameLiterals ks before
-    → AreSameLiterals ks after
-same_either ks before after i (inl same) h = subst (AreSameLiterals ks) (sym same) h
-same_either ks before after i (inr less) h =
-    subst (AreSameLiterals ks) (sym less) (same_renamed i false ks before h)
-
--- ---- What was looked for.
-
--- if something is found, it is met
+-- what a search says that finds something, or nothing
 pub met_if : (Is : List ℕ → Type 0) (ks : List Candidate) (found : Option (List (List Bool)))
     → IfSome found (AreFound Is (λ c. meets c ks)) → is_some found ≡ true → IsMet Is ks
 met_if Is ks None meeting some = absurd (cc)
@@ -235,27 +210,170 @@ pub unmet_if : (Is : List ℕ → Type 0) (ks : List Candidate) (found : Option 
 unmet_if Is ks None none unfound = none
 unmet_if Is ks (Some b) none unfound = absurd (cc)
 
--- the next literal that is named was not named before, so fewer are left without a name
-pub one_more : (ks : List Candidate) (i : ℕ) → i < length ks
-    → ((k : Candidate) → slice_get ks i ≡ Some k → k.named ≡ false)
-    → count_unnamed (renamed i true ks) < count_unnamed ks
-one_more [] i lt unnamed = absurd (omega (arith, lt))
-one_more (k ∷ ks) zero lt unnamed = rw (unnamed k refl) (omega arith)
-one_more (k ∷ ks) (suc i) lt unnamed = let later = one_more ks i (omega (arith, lt)) unnamed in omega (arith, later)
+-- ---- What was used.
 
--- two lists of the same literals are equally long
-pub as_many : (ks ls : List Candidate) → AreSameLiterals ks ls → length ks ≡ length ls
-as_many [] [] same = refl
-as_many (k ∷ ks) (l ∷ ls) same = ap suc (as_many ks ls same.1)
-as_many ks ls same = absurd same
+pub kept_fewer : (fixed : ℕ) (used : List Bool) (i n : ℕ) (ks : List Candidate)
+    → AreFewer ks (kept fixed used i n ks)
+kept_fewer fixed used i n [] = tt
+kept_fewer fixed used i n (k ∷ ks) = elim (cases_Bool (k.named && not k.wanted)) [
+  | inl asked ↦ rw asked (
+    (refl, refl, refl, λ named. (and_parts k.named (not k.wanted) asked).0),
+    kept_fewer fixed used (i + 1) (n + 1) ks,
+  )
+  | inr other ↦
+      rw other ((refl, refl, refl, λ named. named), kept_fewer fixed used (i + 1) n ks)
+]
 
--- once all literals are looked at, the first `count` are named
-pub all_named : (ks ls : List Candidate) (count n : ℕ) → AreNamedSoFar ks ls count n
-    → length ks ≤ n → AreNamedBefore count ls
-all_named ks ls count n h all j l at lt =
-    let there = slice_get_within ls j l at in
-    let long = as_many ks ls h.0 in
-    h.1 j l at (omega (arith, there, long, all)) lt
+-- the literals before the position `fixed` keep their names
+kept_next : (fixed i n : ℕ) (used : List Bool) (m : Candidate) (ks : List Candidate)
+    → (i < fixed → IsTrue m.named)
+    → ((j : ℕ) (k : Candidate) → slice_get (kept fixed used (i + 1) n ks) j ≡ Some k
+    → (i + 1) + j < fixed → IsTrue k.named)
+    → (j : ℕ) (k : Candidate) → slice_get (m ∷ kept fixed used (i + 1) n ks) j ≡ Some k
+    → i + j < fixed → IsTrue k.named
+kept_next fixed i n used m ks here later zero k at lt =
+    let is : m ≡ k = cc in ap (λ x. x.named) (sym is) ∙ here (omega (arith, lt))
+kept_next fixed i n used m ks here later (suc j) k at lt = later j k at (omega (arith, lt))
+
+pub kept_first : (fixed : ℕ) (used : List Bool) (i n : ℕ) (ks : List Candidate)
+    → ((j : ℕ) (k : Candidate) → slice_get ks j ≡ Some k → i + j < fixed → IsTrue k.named)
+    → (j : ℕ) (k : Candidate) → slice_get (kept fixed used i n ks) j ≡ Some k → i + j < fixed
+    → IsTrue k.named
+kept_first fixed used i n [] h j k at lt = cc
+kept_first fixed used i n (l ∷ ks) h j k at lt =
+    let behind : (q : ℕ) (x : Candidate) → slice_get ks q ≡ Some x → (i + 1) + q < fixed
+    → IsTrue x.named = λ q x there below. h (suc q) x there (omega (arith, below)) in
+    elim (cases_Bool (l.named && not l.wanted)) [
+      | inl asked ↦
+          kept_next fixed i (n + 1) used
+          (record l { named = nat_lt i fixed || get_or used n false }) ks
+          (λ below. ap (λ b. b || get_or used n false) (lt-ltb i fixed below))
+          (kept_first fixed used (i + 1) (n + 1) ks behind) j k (rw asked at at) lt
+      | inr other ↦
+          kept_next fixed i n used l ks (λ below. h 0 l refl (omega (arith, below)))
+          (kept_first fixed used (i + 1) n ks behind) j k (rw other at at) lt
+    ]
+
+marked_none : (ms : List Bool) → marked {A = Bor MaskedLabels} ms [] ≡ []
+marked_none [] = refl
+marked_none (m ∷ ms) = refl
+
+-- the marks from a position on
+marks_from : (used : List Bool) (n : ℕ)
+    → (drop n used ≡ []) ⊎ (drop n used ≡ get_or used n false ∷ drop (suc n) used)
+marks_from [] zero = inl refl
+marks_from [] (suc n) = inl refl
+marks_from (m ∷ used) zero = inr refl
+marks_from (m ∷ used) (suc n) = marks_from used n
+
+-- where those that stay named are met, so are the cubes that were used
+kept_parts : (c : List ℕ) (fixed : ℕ) (used : List Bool) (i n : ℕ) (ks : List Candidate)
+    → meets c (kept fixed used i n ks) ≡ true
+    → (all_match (wanted_of ks) c ≡ true)
+    × (avoids (marked (drop n used) (unwanted_of ks)) c ≡ true)
+kept_parts c fixed used i n [] met = (refl, ap (λ cubes. avoids cubes c) (marked_none (drop n used)))
+kept_parts c fixed used i n (k ∷ ks) met = elim (cases_Bool k.named) [
+  | inr unnamed ↦
+      rw unnamed (kept_parts c fixed used (i + 1) n ks (rw unnamed at met))
+  | inl named ↦ elim (cases_Bool k.wanted) [
+    | inl wanted ↦
+        let parts = and_parts (matches k.cube.now c) (meets c (kept fixed used (i + 1) n ks))
+        (rw (named, wanted) at met) in
+        let rest = kept_parts c fixed used (i + 1) n ks parts.1 in
+        rw (named, wanted) (
+          and_from (matches k.cube.now c) (all_match (wanted_of ks) c) parts.0 rest.0,
+          rest.1,
+        )
+    | inr unwanted ↦
+        let parts = and_parts
+        (not (nat_lt i fixed || get_or used n false) || not (matches k.cube.now c))
+        (meets c (kept fixed used (i + 1) (n + 1) ks)) (rw (named, unwanted) at met) in
+        let rest = kept_parts c fixed used (i + 1) (n + 1) ks parts.1 in
+        rw (named, unwanted) (
+          rest.0,
+          one (nat_lt i fixed) (get_or used n false) k.cube (unwanted_of ks) (marks_from used n)
+              parts.0 (subst (λ m. avoids (marked (drop m used) (unwanted_of ks)) c ≡ true)
+              (add-one n) rest.1),
+        )
+  ]
+]
+  where
+    one : (early m : Bool) (cube : Bor MaskedLabels) (cubes : List (Bor MaskedLabels))
+        → (drop n used ≡ []) ⊎ (drop n used ≡ m ∷ drop (suc n) used)
+        → (not (early || m) || not (matches cube.now c)) ≡ true
+        → avoids (marked (drop (suc n) used) cubes) c ≡ true
+        → avoids (marked (drop n used) (cube ∷ cubes)) c ≡ true
+    one early m cube cubes (inl none) here rest = rw none refl
+    one early false cube cubes (inr some) here rest = rw some rest
+    one true true cube cubes (inr some) here rest =
+        rw some (and_from (not (matches cube.now c)) (avoids (marked (drop (suc n) used) cubes) c) here rest)
+    one false true cube cubes (inr some) here rest =
+        rw some (and_from (not (matches cube.now c)) (avoids (marked (drop (suc n) used) cubes) c) here rest)
+
+pub kept_meets : (c : List ℕ) (fixed : ℕ) (used : List Bool) (ks : List Candidate)
+    → meets c (kept fixed used 0 0 ks) ≡ true
+    → meets_cubes (wanted_of ks) (marked used (unwanted_of ks)) c ≡ true
+kept_meets c fixed used ks met =
+    let parts = kept_parts c fixed used 0 0 ks met in
+    and_from (all_match (wanted_of ks) c) (avoids (marked used (unwanted_of ks)) c) parts.0 parts.1
+
+-- one literal more
+pub kept_asked : (fixed : ℕ) (used : List Bool) (i n j : ℕ) (ks : List Candidate) (k : Candidate)
+    → slice_get ks j ≡ Some k → (k.named && not k.wanted) ≡ true
+    → take j ks ++ kept fixed used i n (drop j ks)
+    ≡ take (suc j) (renamed j (nat_lt i fixed || get_or used n false) ks)
+    ++ kept fixed used (i + 1) (n + 1)
+    (drop (suc j) (renamed j (nat_lt i fixed || get_or used n false) ks))
+kept_asked fixed used i n j [] k at asked = absurd (cc)
+kept_asked fixed used i n zero (l ∷ ks) k at asked =
+    let is : l ≡ k = cc in
+    let here : (l.named && not l.wanted) ≡ true =
+    subst (λ (x : Candidate). (x.named && not x.wanted) ≡ true) (sym is) asked in
+    rw here refl
+kept_asked fixed used i n (suc j) (l ∷ ks) k at asked =
+    ap (λ rest. l ∷ rest) (kept_asked fixed used i n j ks k at asked)
+
+pub kept_other : (fixed : ℕ) (used : List Bool) (i n j : ℕ) (ks : List Candidate) (k : Candidate)
+    → slice_get ks j ≡ Some k → (k.named && not k.wanted) ≡ false
+    → take j ks ++ kept fixed used i n (drop j ks)
+    ≡ take (suc j) ks ++ kept fixed used (i + 1) n (drop (suc j) ks)
+kept_other fixed used i n j [] k at other = absurd (cc)
+kept_other fixed used i n zero (l ∷ ks) k at other =
+    let is : l ≡ k = cc in
+    let here : (l.named && not l.wanted) ≡ false =
+    subst (λ (x : Candidate). (x.named && not x.wanted) ≡ false) (sym is) other in
+    rw here refl
+kept_other fixed used i n (suc j) (l ∷ ks) k at other =
+    ap (λ rest. l ∷ rest) (kept_other fixed used i n j ks k at other)
+
+-- if there was no choice before a search, there is none after it
+pub enough_after : (Is : List ℕ → Type 0) (before after : List Candidate) (refuted : Bool)
+    → IsUnmet Is before → (IsTrue refuted → IsUnmet Is after)
+    → (IsFalse refuted → (after ≡ before) × IsMet Is before) → IsUnmet Is after
+enough_after Is before after true none enough unchanged = enough refl
+enough_after Is before after false none enough unchanged =
+    let met = (unchanged refl).1 in
+    absurd (both_ways (meets met.0 before) (none met.0 met.1) met.2)
+
+-- ---- What was looked at is needed.
+
+pub needed_more : (Is : List ℕ → Type 0) (from i : ℕ) (before after : List Candidate)
+    → AreFewer before after
+    → ((k : Candidate) → slice_get after i ≡ Some k → IsTrue k.named → IsMet Is (without i after))
+    → AreNeededBefore (IsMet Is) from i before → AreNeededBefore (IsMet Is) from (i + 1) after
+needed_more Is from i before after fewer here so j k at low lt named =
+    elim (eq-or-lt_of_le (at_most j i lt)) [
+      | inr below ↦
+          let r = fewer_at before after j k fewer at in
+          fewer_is_met Is (without j before) (without j after) (fewer_both j before after fewer)
+          (so j r.0 r.1 low below (r.2 named))
+      | inl is ↦
+          subst (λ (n : ℕ). IsMet Is (without n after)) (sym is)
+          (here k (subst (λ (n : ℕ). slice_get after n ≡ Some k) is at) named)
+    ]
+  where
+    at_most : (j i : ℕ) → j < i + 1 → j ≤ i
+    at_most j i lt = omega (arith, lt)
 
 -- ---- The same choices.
 

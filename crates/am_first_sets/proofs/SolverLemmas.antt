@@ -1,18 +1,21 @@
 -- Boxes, and the search for a choice that avoids some cubes.
-use Rattle.std.proofs.Common.{◌≡◌, ◌↔◌, ℕ, zero, suc, ◌+◌, ◌<◌, ◌≤◌, Bool, true, false, not, IsTrue, List, [], ◌∷◌, ◌++◌, length, take, set, get_or, slice_index, slice_get, Some, None, refl, ap, sym, ◌∙◌, subst, inl, inr, arith, append_assoc, length-set, get_or-set_same, get_or-set_other, ext_get_or}
+use Rattle.std.proofs.Common.{◌≡◌, ◌↔◌, ℕ, zero, suc, ◌+◌, ◌<◌, ◌≤◌, Bool, true, false, not, IsTrue, List, [], ◌∷◌, ◌++◌, length, take, set, get_or, slice_index, slice_get, Some, None, refl, ap, sym, ◌∙◌, subst, inl, inr, arith, append_assoc, append-nil, length-set, get_or-set_same, get_or-set_other, ext_get_or}
 use Rattle.std.specs.Borrow.{Bor}
 use Rattle.std.specs.List.{AllByRecursion, find}
 use Rattle.std.proofs.lemmas.List.{length_push, get_or_push, get_or_append_left}
-use Rattle.std.proofs.lemmas.List.Folds.{list_all_more, list_all_at}
-use Rattle.std.proofs.lemmas.Option.{slice_get_within, get_or_from_slice_get}
-use Rattle.std.proofs.lemmas.Bool.{cases_Bool, cases_eq, cases_lt, and_from, both_ways, false_from_ne_true}
+use Rattle.std.proofs.lemmas.List.Folds.{list_all_more}
+use Rattle.std.proofs.lemmas.Option.{slice_get_within, slice_get_cases, get_or_from_slice_get}
+use Rattle.std.proofs.lemmas.Bool.{cases_Bool, cases_eq, cases_lt, and_from, and_parts, both_ways, false_from_ne_true}
 use Rattle.am_universe.specs.Choice.{choices, IsWhole}
 use Rattle.am_universe.proofs.WholeChoiceLemmas.{admitted_at}
 use Rattle.am_judged_lists.specs.declared.mask.Part.{Part}
 use Rattle.am_judged_lists.specs.declared.mask.Part.TheVariants.{Within, Outside}
 use Rattle.am_judged_lists.specs.Cube.{MaskedLabels, matches, permits_position}
 use Rattle.am_judged_lists.specs.Boxes.{box_permits, IsInBox, HasChoice, is_in_part, count_positions}
-use Rattle.am_first_sets.specs.Solving.{avoids, IsAnswer, NoneAvoids, IsLeast, IsTestOf}
+use Rattle.am_first_sets.specs.Solving.{avoids, marked, IsAnswer, NoneAvoids, IsSolved, IsLeast, IsTestOf}
+use Rattle.am_first_sets.specs.Budget.{NodesLeft}
+use Rattle.am_first_sets.specs.declared.solver.Solved.{Solved}
+use Rattle.am_first_sets.specs.declared.solver.Solved.TheVariants.{Found, NoAnswer, UsedUp}
 use Rattle.am_judged_lists.proofs.ListLemmas.{each_map}
 use Rattle.am_first_sets.proofs.FirstLemmas.{found_least, found_nowhere}
 
@@ -134,15 +137,6 @@ lighter_two boxes b a d h k =
 
 -- ---- Cubes.
 
--- a choice that avoids the cubes is not matched by the one at an index
-pub avoids_at : (cubes : List (Bor MaskedLabels)) (k : ℕ) (cube : Bor MaskedLabels) (c : List ℕ)
-    → avoids cubes c ≡ true → slice_get cubes k ≡ Some cube → matches cube.now c ≡ false
-avoids_at cubes k cube c e at =
-    let test : Bor MaskedLabels → Bool = λ x. not (matches x.now c) in
-    false_from_ne_true (matches cube.now c) (λ met. both_ways (avoids cubes c)
-    (list_all_at test cubes k cube (slice_get_within cubes k cube at)
-    (ap test (get_or_from_slice_get cubes k cube cube at) ∙ ap not met)) e)
-
 -- one more cube that misses a choice
 pub avoids_more : (cubes : List (Bor MaskedLabels)) (i : ℕ) (cube : Bor MaskedLabels) (c : List ℕ)
     → slice_get cubes i ≡ Some cube → matches cube.now c ≡ false
@@ -153,6 +147,77 @@ avoids_more cubes i cube c at misses e =
     ∙ and_from (avoids (take i cubes) c) (not (matches (get_or cubes i cube).now c)) e
     (ap (λ (x : Bor MaskedLabels). not (matches x.now c)) (get_or_from_slice_get cubes i cube cube at)
     ∙ ap not misses)
+
+-- ---- Cubes that are marked.
+
+-- a choice that avoids all cubes avoids those that are marked
+pub avoids_marked : (ms : List Bool) (cubes : List (Bor MaskedLabels)) (c : List ℕ)
+    → avoids cubes c ≡ true → avoids (marked ms cubes) c ≡ true
+avoids_marked [] cubes c e = refl
+avoids_marked (m ∷ ms) [] c e = refl
+avoids_marked (true ∷ ms) (cube ∷ cubes) c e =
+    let parts = and_parts (not (matches cube.now c)) (avoids cubes c) e in
+    and_from (not (matches cube.now c)) (avoids (marked ms cubes) c) parts.0
+    (avoids_marked ms cubes c parts.1)
+avoids_marked (false ∷ ms) (cube ∷ cubes) c e =
+    avoids_marked ms cubes c (and_parts (not (matches cube.now c)) (avoids cubes c) e).1
+
+-- a choice that avoids the cubes with one more mark avoids those that were marked before, and the
+-- one at the new mark
+pub marked_more : (ms : List Bool) (cubes : List (Bor MaskedLabels)) (k : ℕ) (c : List ℕ)
+    → avoids (marked (set ms k true) cubes) c ≡ true → avoids (marked ms cubes) c ≡ true
+marked_more [] cubes k c e = refl
+marked_more (m ∷ ms) [] k c e = refl
+marked_more (true ∷ ms) (cube ∷ cubes) zero c e = e
+marked_more (false ∷ ms) (cube ∷ cubes) zero c e =
+    (and_parts (not (matches cube.now c)) (avoids (marked ms cubes) c) e).1
+marked_more (true ∷ ms) (cube ∷ cubes) (suc k) c e =
+    let parts = and_parts (not (matches cube.now c)) (avoids (marked (set ms k true) cubes) c) e in
+    and_from (not (matches cube.now c)) (avoids (marked ms cubes) c) parts.0
+    (marked_more ms cubes k c parts.1)
+marked_more (false ∷ ms) (cube ∷ cubes) (suc k) c e = marked_more ms cubes k c e
+
+pub marked_at : (ms : List Bool) (cubes : List (Bor MaskedLabels)) (k : ℕ)
+    (cube : Bor MaskedLabels) (c : List ℕ) → k < length ms → slice_get cubes k ≡ Some cube
+    → avoids (marked (set ms k true) cubes) c ≡ true → matches cube.now c ≡ false
+marked_at [] cubes k cube c lt at e = absurd (omega (arith, lt))
+marked_at (m ∷ ms) [] k cube c lt at e = cc
+marked_at (m ∷ ms) (x ∷ cubes) zero cube c lt at e =
+    let is : x ≡ cube = cc in
+    subst (λ (y : Bor MaskedLabels). matches y.now c ≡ false) is
+    (not_true (matches x.now c)
+    (and_parts (not (matches x.now c)) (avoids (marked ms cubes) c) e).0)
+  where
+    not_true : (b : Bool) → not b ≡ true → b ≡ false
+    not_true true e = cc
+    not_true false e = refl
+marked_at (true ∷ ms) (x ∷ cubes) (suc k) cube c lt at e =
+    marked_at ms cubes k cube c (omega (arith, lt)) at
+    (and_parts (not (matches x.now c)) (avoids (marked (set ms k true) cubes) c) e).1
+marked_at (false ∷ ms) (x ∷ cubes) (suc k) cube c lt at e =
+    marked_at ms cubes k cube c (omega (arith, lt)) at e
+
+-- a box that the cube at the new mark covers has no choice that avoids what is marked
+pub refuted_by : (ms : List Bool) (cubes : List (Bor MaskedLabels)) (b : List (List Bool)) (k : ℕ)
+    → k < length ms → k < length cubes
+    → ((cube : Bor MaskedLabels) → slice_get cubes k ≡ Some cube
+    → (c : List ℕ) → IsInBox b c → IsTrue (matches cube.now c))
+    → (c : List ℕ) → IsInBox b c → avoids (marked (set ms k true) cubes) c ≡ true → ⊥
+refuted_by ms cubes b k lt within covers c i e = elim (slice_get_cases cubes k).1 [
+  | inl at ↦
+      both_ways (matches at.0.now c) (marked_at ms cubes k at.0 c lt at.2 e) (covers at.0 at.2 c i)
+  | inr none ↦ omega (arith, within, none.0)
+]
+
+-- if the cubes that were used leave no choice, all leave none
+pub solved_by_all : (start : List (List Bool)) (cubes : List (Bor MaskedLabels)) (ms : List Bool)
+    (budget : NodesLeft) (solved : Solved) → IsSolved start cubes (marked ms cubes) budget solved
+    → IsSolved start cubes cubes budget solved
+solved_by_all start cubes ms budget (Found b) h = h
+solved_by_all start cubes ms budget NoAnswer h = λ c i.
+    false_from_ne_true (avoids cubes c)
+    (λ e. both_ways (avoids (marked ms cubes) c) (h c i) (avoids_marked ms cubes c e))
+solved_by_all start cubes ms budget UsedUp h = h
 
 -- ---- What a search has still to look at.
 
@@ -224,10 +289,10 @@ module _ (start : List (List Bool)) (cubes : List (Bor MaskedLabels)) where
             ((λ inside. covered c inside e apart.1), tt));
       }
 
-  pub left_done : (boxes : List (List (List Bool))) (b : List (List Bool))
-      → AreLeft start cubes (boxes ++ b ∷ [])
-      → ((c : List ℕ) → IsInBox b c → avoids cubes c ≡ true) → IsAnswer start cubes b
-  left_done boxes b left avoided =
+  pub left_done : (all : List (Bor MaskedLabels)) (boxes : List (List (List Bool)))
+      (b : List (List Bool)) → AreLeft start cubes (boxes ++ b ∷ [])
+      → ((c : List ℕ) → IsInBox b c → avoids all c ≡ true) → IsAnswer start all b
+  left_done all boxes b left avoided =
       let part : IsPart start b = (each_split (IsPart start) boxes (b ∷ []) left.parts).1.0 in
       record { some = part.some; inside = part.inside; avoided = avoided }
 
@@ -235,20 +300,24 @@ module _ (start : List (List Bool)) (cubes : List (Bor MaskedLabels)) where
       → AreLeft start cubes (boxes ++ b ∷ []) → HasChoice b
   some_last boxes b left = (each_split (IsPart start) boxes (b ∷ []) left.parts).1.0.some
 
-  pub left_narrowed : (boxes : List (List (List Bool))) (b n : List (List Bool)) (k label : ℕ)
-      (cube : Bor MaskedLabels) → AreLeft start cubes (boxes ++ b ∷ [])
-      → slice_get cubes k ≡ Some cube → (HasChoice b → HasChoice n)
-      → IsKept b n cube.now label Outside
+  pub left_refuted : (boxes : List (List (List Bool))) (b : List (List Bool))
+      → AreLeft start cubes (boxes ++ b ∷ [])
+      → ((c : List ℕ) → IsInBox b c → avoids cubes c ≡ true → ⊥) → AreLeft start cubes boxes
+  left_refuted boxes b left none =
+      subst (AreLeft start cubes) (append-nil boxes)
+      (left_replaced boxes b [] left tt (λ c i e others. none c i e))
+
+  pub left_narrowed : (boxes : List (List (List Bool))) (b n : List (List Bool)) (label : ℕ)
+      (cube : MaskedLabels) → AreLeft start cubes (boxes ++ b ∷ [])
+      → ((c : List ℕ) → avoids cubes c ≡ true → matches cube c ≡ false)
+      → (HasChoice b → HasChoice n) → IsKept b n cube label Outside
       → ((c : List ℕ) → IsInBox b c
-      → matches cube.now c ≡ permits_position cube.now label (slice_index c label))
+      → matches cube c ≡ permits_position cube label (slice_index c label))
       → AreLeft start cubes (boxes ++ n ∷ [])
-  left_narrowed boxes b n k label cube left at still kept exact =
+  left_narrowed boxes b n label cube left missed still kept exact =
       left_replaced boxes b (n ∷ []) left
-      (kept_part b n cube.now label Outside (some_last boxes b left) still kept, tt)
-      (λ c i e none. none.0 ((kept c).1 (
-        i,
-        ap not (sym (exact c i)) ∙ ap not (avoids_at cubes k cube c e at),
-      )))
+      (kept_part b n cube label Outside (some_last boxes b left) still kept, tt)
+      (λ c i e none. none.0 ((kept c).1 (i, ap not (sym (exact c i)) ∙ ap not (missed c e))))
 
   pub left_split : (boxes : List (List (List Bool))) (b w o : List (List Bool)) (label : ℕ)
       (cube : MaskedLabels) → AreLeft start cubes (boxes ++ b ∷ [])
@@ -270,6 +339,15 @@ module _ (start : List (List Bool)) (cubes : List (Bor MaskedLabels)) where
         | inl permitted ↦ none.0 ((kept_w c).1 (i, permitted))
         | inr forbidden ↦ none.1.0 ((kept_o c).1 (i, ap not forbidden))
       ]))
+
+-- a cube more is marked
+pub left_marked : (start : List (List Bool)) (ms : List Bool) (cubes : List (Bor MaskedLabels))
+    (k : ℕ) (boxes : List (List (List Bool))) → AreLeft start (marked ms cubes) boxes
+    → AreLeft start (marked (set ms k true) cubes) boxes
+left_marked start ms cubes k boxes left = record {
+  parts = left.parts;
+  all = λ c i e none. left.all c i (marked_more ms cubes k c e) none;
+}
 
 -- ---- One position of a label.
 

@@ -1,8 +1,9 @@
 -- Which choices meet literals. A literal asks for a list of matchers to match, or not to match;
 -- here the list is a cube. A parameter says among which choices a search looks.
-use Rattle.std.specs.Prelude.{◌≡◌, ℕ, List, Bool, true, false, not, ◌||◌, if◌then◌else◌}
-use Rattle.std.specs.List.{list_all}
-use Rattle.am_judged_lists.specs.Cube.{matches}
+use Rattle.std.specs.Prelude.{◌≡◌, ℕ, List, map, Bool, true, false, not, ◌||◌, ◌&&◌, if◌then◌else◌}
+use Rattle.std.specs.Borrow.{Bor}
+use Rattle.std.specs.List.{list_all, filter}
+use Rattle.am_judged_lists.specs.Cube.{MaskedLabels, matches}
 use Rattle.am_first_sets.specs.declared.candidate.Candidate.{Candidate}
 
 -- Whether a literal is true at a choice: its cube matches, or, if the literal asks for no match,
@@ -28,3 +29,11 @@ IsUnmet Is ks = (c : List ℕ) → Is c → meets c ks ≡ false
 
 abbrev pub IsAnyMet : (List ℕ → Type 0) → List Candidate → Type 0
 IsAnyMet Is ks = (c : List ℕ) × Is c × (hold_all c ks ≡ true)
+
+-- The cubes of the named literals: of those that ask for a match, and of those that ask for no
+-- match.
+abbrev pub wanted_of : List Candidate → List (Bor MaskedLabels)
+wanted_of ks = map (λ k. k.cube) (filter (λ k. k.named && k.wanted) ks)
+
+abbrev pub unwanted_of : List Candidate → List (Bor MaskedLabels)
+unwanted_of ks = map (λ k. k.cube) (filter (λ k. k.named && not k.wanted) ks)

@@ -1,6 +1,6 @@
 -- The search for choices of a box that no cube of some matches.
-use Rattle.std.specs.Prelude.{◌≡◌, ◌↔◌, ℕ, ◌<◌, List, length, slice_get, slice_index, Some, Bool}
-use Rattle.std.specs.Prelude.{false, not, IsTrue}
+use Rattle.std.specs.Prelude.{◌≡◌, ◌↔◌, ℕ, ◌<◌, List, [], ◌∷◌, length, slice_get, slice_index, Some}
+use Rattle.std.specs.Prelude.{Bool, false, not, IsTrue, if◌then◌else◌}
 use Rattle.std.specs.Borrow.{Bor}
 use Rattle.std.specs.List.{list_all}
 use Rattle.am_universe.specs.Choice.{IsWhole}
@@ -16,6 +16,12 @@ use Rattle.am_first_sets.specs.declared.solver.Solved.TheVariants.{Found, NoAnsw
 abbrev pub avoids : List (Bor MaskedLabels) → List ℕ → Bool
 avoids cubes c = list_all (λ cube. not (matches cube.now c)) cubes
 
+-- The members of a list that are marked: those with `true` at the same position of another list.
+abbrev pub marked : {A : Type 0} → List Bool → List A → List A
+marked [] xs = []
+marked (m ∷ ms) [] = []
+marked (m ∷ ms) (x ∷ xs) = if m then x ∷ marked ms xs else marked ms xs
+
 -- A box is an answer: it has a choice, and all its choices are in the box where the search starts,
 -- and avoid the cubes.
 pub record IsAnswer (start : List (List Bool)) (cubes : List (Bor MaskedLabels))
@@ -28,18 +34,24 @@ pub record IsAnswer (start : List (List Bool)) (cubes : List (Bor MaskedLabels))
 abbrev pub NoneAvoids : List (List Bool) → List (Bor MaskedLabels) → Type 0
 NoneAvoids start cubes = (c : List ℕ) → IsInBox start c → avoids cubes c ≡ false
 
--- What a search found, and that it stops without an answer only if nothing is left of its budget.
-abbrev pub IsSolved : List (List Bool) → List (Bor MaskedLabels) → NodesLeft → Solved → Type 0
-IsSolved start cubes budget (Found b) = IsAnswer start cubes b
-IsSolved start cubes budget NoAnswer = NoneAvoids start cubes
-IsSolved start cubes budget UsedUp = budget.left ≡ Some 0
+-- What a search found. If there is no answer, this is so for some of the cubes already: each choice
+-- is matched by one of those that were used. It stops without an answer only if nothing is left of
+-- its budget.
+abbrev pub IsSolved : List (List Bool) → List (Bor MaskedLabels) → List (Bor MaskedLabels)
+    → NodesLeft → Solved → Type 0
+IsSolved start cubes used budget (Found b) = IsAnswer start cubes b
+IsSolved start cubes used budget NoAnswer = NoneAvoids start used
+IsSolved start cubes used budget UsedUp = budget.left ≡ Some 0
 
--- The next step for a box. `Done`: all its choices avoid the cubes. `Refuted`: none does. `Split`:
--- the label is open for the cube at an index. `Narrow`: it is, and the cube matches exactly the
--- choices whose position of this label it permits.
+-- The next step for a box. `Done`: all its choices avoid the cubes. `Refuted`: the cube at an index
+-- matches all its choices. `Split`: the label is open for the cube at an index. `Narrow`: it is,
+-- and the cube matches exactly the choices whose position of this label it permits.
 abbrev pub IsStep : List (List Bool) → List (Bor MaskedLabels) → Step → Type 0
 IsStep b cubes Done = (c : List ℕ) → IsInBox b c → IsTrue (avoids cubes c)
-IsStep b cubes Refuted = NoneAvoids b cubes
+IsStep b cubes (Refuted k) =
+    (k < length cubes)
+    × ((cube : Bor MaskedLabels) → slice_get cubes k ≡ Some cube
+    → (c : List ℕ) → IsInBox b c → IsTrue (matches cube.now c))
 IsStep b cubes (Split k label) =
     (k < length cubes)
     × ((cube : Bor MaskedLabels) → slice_get cubes k ≡ Some cube → IsOpen b cube.now label)

@@ -1,8 +1,6 @@
-ghost use Rattle.std.specs.Prelude.{◌≡◌, ℕ, List, None, IsTrue};
-ghost use Rattle.am_judged_lists.specs.Boxes.{IsInBox};
-ghost use Rattle.am_first_sets.specs.Literals.{holds_at};
+ghost use Rattle.std.specs.Prelude.{◌≡◌, None, IsTrue, not, ◌&&◌};
 
-use am_judged_lists::{Cube, Matching, PositionBox};
+use am_judged_lists::Cube;
 
 /// A literal: the cube of a list of matchers, which a label set has to match or must not match.
 ///
@@ -18,16 +16,11 @@ pub struct Candidate<'a> {
 }
 
 impl<'a> Candidate<'a> {
-    /// Whether the cube shows that all choices of a box make the literal true.
-    pub(crate) fn is_settled(&self, found: &PositionBox) -> bool
-        ensures { IsTrue result
-            → (c : List ℕ) → IsInBox found.now c → IsTrue (holds_at c self.now) }
+    /// Whether the literal is named, and asks for no match.
+    pub(crate) fn asks_for_no_match(&self) -> bool
+        ensures { result ≡ (self.now.named && not self.now.wanted) }
     {
-        match found.matching(self.cube) {
-            Matching::Misses => !self.wanted,
-            Matching::Covers => self.wanted,
-            Matching::Opens(..) => false,
-        }
+        self.named && !self.wanted
     }
 
     /// How many labels the literal asks about.

@@ -3,10 +3,11 @@
 ghost use Rattle.std.specs.Prelude.{◌≡◌, false, ℕ, List, IfOk, IfSome, IfNone};
 ghost use Rattle.std.specs.List.{find};
 ghost use Rattle.am_labels.specs.Space.{all_choices, IsChoiceOf};
-ghost use Rattle.am_first_sets.specs.Literals.{meets, IsUnmet};
+ghost use Rattle.am_first_sets.specs.Literals.{meets, IsMet, IsUnmet, wanted_of, unwanted_of};
 ghost use Rattle.am_first_sets.specs.Meeting.{meets_cubes};
 ghost use Rattle.am_first_sets.specs.PossibleChoices.{IsPossible, AreFound};
 ghost use Rattle.am_first_sets.specs.PossibleSets.{possible_space};
+ghost use Rattle.am_first_sets.specs.Solving.{marked};
 
 use crate::candidate::Candidate;
 use crate::possible_choices::PossibleChoices;
@@ -54,10 +55,30 @@ pub fn some_meeting(
     possible.meeting(alloc, asked.wanted.as_slice(), asked.unwanted.as_slice())
 }
 
+/// Finds out which of the named literals keep a choice from being found.
+///
+/// Returns whether each of those that ask for no match was used, in their order: no possible choice
+/// meets those that were used and all that ask for a match. Returns `None` if some possible choice
+/// meets all that are named. Fails only if memory runs out.
+pub(crate) fn refute_meeting(
+    alloc: Global,
+    possible: &PossibleChoices,
+    candidates: &[Candidate<'_>],
+) -> Result<Option<Vec<bool>>, AllocError>
+    ensures refuted { IfOk result (λ found. IfSome found (λ used. (c : List ℕ)
+        → IsPossible possible.now c → meets_cubes (wanted_of candidates.now)
+        (marked used.items (unwanted_of candidates.now)) c ≡ false)) }
+    ensures met { IfOk result (λ found. IfNone found (IsMet (IsPossible possible.now)
+        candidates.now)) }
+{
+    let asked = asked_by(alloc, candidates)?;
+    possible.refute(alloc, asked.wanted.as_slice(), asked.unwanted.as_slice())
+}
+
 /// Returns the cubes of the literals that are named. Fails only if memory runs out.
 fn asked_by<'a>(alloc: Global, candidates: &[Candidate<'a>]) -> Result<Asked<'a>, AllocError>
-    ensures { IfOk result (λ asked. (c : List ℕ)
-        → meets_cubes asked.wanted.items asked.unwanted.items c ≡ meets c candidates.now) }
+    ensures wanted { IfOk result (λ asked. asked.wanted.items ≡ wanted_of candidates.now) }
+    ensures unwanted { IfOk result (λ asked. asked.unwanted.items ≡ unwanted_of candidates.now) }
 {
     let mut wanted = Vec::new(alloc);
     let mut unwanted = Vec::new(alloc);

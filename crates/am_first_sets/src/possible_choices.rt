@@ -1,11 +1,13 @@
 //! The choices among which a search looks: those of a box that match none of some cubes.
 
-ghost use Rattle.std.specs.Prelude.{◌≡◌, ◌↔◌, ℕ, List, IfOk, IfSome, IfNone, ◌&&◌, false, IsTrue};
+ghost use Rattle.std.specs.Prelude.{◌≡◌, ◌↔◌, ℕ, List, ◌++◌, IfOk, IfSome, IfNone, false, IsTrue};
+ghost use Rattle.std.specs.Borrow.{Bor};
+ghost use Rattle.am_judged_lists.specs.Cube.{MaskedLabels};
 ghost use Rattle.am_judged_lists.specs.Boxes.{IsInBox};
 ghost use Rattle.am_first_sets.specs.Meeting.{all_match, meets_cubes, is_possible_by};
-ghost use Rattle.am_first_sets.specs.Solving.{avoids};
+ghost use Rattle.am_first_sets.specs.Solving.{avoids, marked};
 
-use crate::solver::solve;
+use crate::solver::{refute, solve};
 use am_judged_lists::{Cube, PositionBox};
 use std::alloc::{AllocError, Global};
 
@@ -41,6 +43,30 @@ impl PossibleChoices {
         solve(alloc, start, cubes.as_slice())
     }
 
+    /// Finds out which of the unwanted cubes keep a choice from being found.
+    ///
+    /// Returns for each of them whether it was used: no possible choice meets the wanted cubes and
+    /// those that were used. Returns `None` if some possible choice meets all the cubes. Fails only
+    /// if memory runs out.
+    pub(crate) fn refute(
+        &self,
+        alloc: Global,
+        wanted: &[&Cube],
+        unwanted: &[&Cube],
+    ) -> Result<Option<Vec<bool>>, AllocError>
+        ensures refuted { IfOk result (λ found. IfSome found (λ used. (c : List ℕ)
+            → IsPossible self.now c
+            → meets_cubes wanted.now (marked used.items unwanted.now) c ≡ false)) }
+        ensures met { IfOk result (λ found. IfNone found ((c : List ℕ) × IsPossible self.now c
+            × IsTrue (meets_cubes wanted.now unwanted.now c))) }
+    {
+        let Some(start) = self.matched(alloc, wanted)? else {
+            return Ok(Some(Vec::new(alloc)));
+        };
+        let cubes = self.cubes_against(alloc, unwanted)?;
+        refute(alloc, start, cubes.as_slice())
+    }
+
     /// The choices of the box that all wanted cubes match, or `None` if there is no such choice.
     /// Fails only if memory runs out.
     pub(crate) fn matched(
@@ -69,8 +95,9 @@ impl PossibleChoices {
         alloc: Global,
         unwanted: &[&'b Cube],
     ) -> Result<Vec<&'b Cube>, AllocError>
-        ensures { IfOk result (λ cubes. (c : List ℕ) → avoids cubes.items c
-            ≡ (avoids unwanted.now c && is_possible_by self.now.impossible.items c)) }
+        ensures { IfOk result (λ cubes. (more : List (Bor MaskedLabels))
+            × (cubes.items ≡ unwanted.now ++ more)
+            × ((c : List ℕ) → avoids more c ≡ is_possible_by self.now.impossible.items c)) }
     {
         let mut cubes = unwanted.to_vec(alloc)?;
         for cube in self.impossible.as_slice() {

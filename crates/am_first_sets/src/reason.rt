@@ -1,34 +1,29 @@
 //! The search for literals that are to blame.
 //!
-//! Each search names one more literal. So the number of searches grows with the number of literals
-//! that are named, and not with the number of all.
+//! A search that finds no choice says which literals it used. So a reason begins with these, and
+//! literal after literal is left out as long as a search still finds no choice. It then keeps only
+//! what that search used. So most literals need no search of their own.
 
-ghost use Rattle.std.specs.Prelude.{◌≡◌, ◌⊎◌, ◌<◌, ℕ, List, true, false, length, slice_get, Some};
-ghost use Rattle.std.specs.Prelude.{IfSome, IfNone, None, OnOk, IsTrue};
-ghost use Rattle.am_judged_lists.specs.Boxes.{IsInBox};
+ghost use Rattle.std.specs.Prelude.{◌≡◌, ◌<◌, ◌≤◌, ℕ, List, true, length, slice_get, Some, None};
+ghost use Rattle.std.specs.Prelude.{IfOk, OnOk, IsTrue, IsFalse, get_or, false};
 ghost use Rattle.am_first_sets.specs.declared.candidate.Candidate.{Candidate};
-ghost use Rattle.am_first_sets.specs.Literals.{hold_all, meets, IsMet, IsUnmet, IsAnyMet};
+ghost use Rattle.am_first_sets.specs.Literals.{IsMet, IsUnmet, IsAnyMet};
 ghost use Rattle.am_first_sets.specs.PossibleChoices.{IsPossible};
-ghost use Rattle.am_first_sets.specs.Reason.{AreSameLiterals, AreNamedBefore, renamed, without};
-ghost use Rattle.am_first_sets.specs.Reason.{IsReason};
+ghost use Rattle.am_first_sets.specs.Reason.{AreSameLiterals, AreFewer, AreNamedBefore};
+ghost use Rattle.am_first_sets.specs.Reason.{all_named, renamed, without, kept, IsReason};
 
 use crate::candidate::Candidate;
-use crate::meeting::some_meeting;
+use crate::meeting::refute_meeting;
 use crate::possible_choices::PossibleChoices;
-use am_judged_lists::PositionBox;
 use std::alloc::{AllocError, Global};
 
 /// Finds which literals are to blame if no possible choice meets all of them, and names those.
 ///
 /// There must be no possible choice that meets all. The first `fixed` are named, and of the others
 /// enough that no possible choice meets those that are named. Each of these others is needed:
-/// without it, some possible choice meets the rest. Fails only if memory runs out; then any of the
-/// literals may be named.
-///
-/// The search begins with the first `fixed` alone. It looks for a box of choices that meet what is
-/// named, and then names another literal that not all of these meet, as far as its cube shows: the
-/// first of those that ask about the fewest labels, because such a reason is easier to read. Once
-/// there is no such box, it leaves out what is not needed, one literal after the other.
+/// without it, some possible choice meets the rest. Literals that ask about few labels rather stay,
+/// because such a reason is easier to read. Fails only if memory runs out; then any of the literals
+/// may be named.
 pub fn find_reason(
     alloc: Global,
     possible: &PossibleChoices,
@@ -39,86 +34,17 @@ pub fn find_reason(
     ensures same { AreSameLiterals candidates.old candidates.new }
     ensures reason { OnOk result (IsReason (IsPossible possible.now) fixed candidates.new) }
 {
-    name_first(candidates, fixed);
-    name_enough(alloc, possible, candidates)?;
+    name_all(candidates);
     leave_out(alloc, possible, candidates, fixed)
 }
 
-/// Names the first `count` literals, and no others.
-fn name_first(candidates: &mut [Candidate<'_>], count: usize)
-    ensures same { AreSameLiterals candidates.old candidates.new }
-    ensures named { AreNamedBefore count candidates.new }
+/// Names all literals.
+fn name_all(candidates: &mut [Candidate<'_>])
+    ensures { candidates.new ≡ all_named candidates.old }
 {
     for i in 0..candidates.len() {
-        set_named(candidates, i, i < count);
+        set_named(candidates, i, true);
     }
-}
-
-/// Names further literals until no possible choice meets those that are named. Fails only if memory
-/// runs out.
-fn name_enough(
-    alloc: Global,
-    possible: &PossibleChoices,
-    candidates: &mut [Candidate<'_>],
-) -> Result<(), AllocError>
-    requires none { IsAnyMet (IsPossible possible.now) candidates.old → ⊥ }
-    ensures same { AreSameLiterals candidates.old candidates.new }
-    ensures named { (n : ℕ) → AreNamedBefore n candidates.old
-        → AreNamedBefore n candidates.new }
-    ensures enough { OnOk result (IsUnmet (IsPossible possible.now) candidates.new) }
-{
-    while let Some(found) = some_meeting(alloc, possible, candidates)? {
-        match first_unsettled(candidates, &found) {
-            Some(first) => {
-                let i = fewest_unsettled(candidates, &found, first);
-                set_named(candidates, i, true);
-            }
-            // No possible choice meets all literals.
-            None => unreachable!(),
-        }
-    }
-    Ok(())
-}
-
-/// Returns the position of the first literal that is not named and that not all choices of a box
-/// meet, as far as its cube shows. If there is none, the choices of the box that meet the named
-/// literals meet all.
-fn first_unsettled(candidates: &[Candidate<'_>], found: &PositionBox) -> Option<usize>
-    ensures some { IfSome result (λ i. (k : Candidate) → slice_get candidates.now i ≡ Some k
-        → k.named ≡ false) }
-    ensures within { IfSome result (λ i. i < length candidates.now) }
-    ensures none { IfNone result ((c : List ℕ) → IsInBox found.now c
-        → meets c candidates.now ≡ true → hold_all c candidates.now ≡ true) }
-{
-    for (i, candidate) in candidates.iter().enumerate() {
-        if !candidate.named && !candidate.is_settled(found) {
-            return Some(i);
-        }
-    }
-    None
-}
-
-/// Returns the position of such a literal, from that of the first on, that asks about the fewest
-/// labels.
-fn fewest_unsettled(candidates: &[Candidate<'_>], found: &PositionBox, first: usize) -> usize
-    requires within { first < length candidates.now }
-    requires unnamed { (k : Candidate) → slice_get candidates.now first ≡ Some k
-        → k.named ≡ false }
-    ensures within { result < length candidates.now }
-    ensures unnamed { (k : Candidate) → slice_get candidates.now result ≡ Some k
-        → k.named ≡ false }
-{
-    let mut fewest = first;
-    for i in first..candidates.len() {
-        let candidate = &candidates[i];
-        if !candidate.named
-            && !candidate.is_settled(found)
-            && candidate.labels() < candidates[fewest].labels()
-        {
-            fewest = i;
-        }
-    }
-    fewest
 }
 
 /// Takes the names off literals that are not needed, from a position on, one after the other. Those
@@ -139,6 +65,7 @@ pub fn leave_out(
     ensures same { AreSameLiterals candidates.old candidates.new }
     ensures reason { OnOk result (IsReason (IsPossible possible.now) from candidates.new) }
 {
+    refute(alloc, possible, candidates, from)?;
     // Literals that ask about the fewest labels need no turn of their own.
     let (fewest, most) = label_counts(candidates.get(from..).unwrap_or(&[]));
     for labels in (fewest..most).rev() {
@@ -169,31 +96,35 @@ fn leave_out_those(
 ) -> Result<(), AllocError>
     requires first { AreNamedBefore from candidates.old }
     requires enough { IsUnmet (IsPossible possible.now) candidates.old }
-    ensures same { AreSameLiterals candidates.old candidates.new }
-    ensures first { OnOk result (AreNamedBefore from candidates.new) }
+    ensures fewer { AreFewer candidates.old candidates.new }
+    ensures first { AreNamedBefore from candidates.new }
     ensures enough { OnOk result (IsUnmet (IsPossible possible.now) candidates.new) }
     ensures reason { labels ≡ None
         → OnOk result (IsReason (IsPossible possible.now) from candidates.new) }
 {
     for i in from..candidates.len() {
-        leave_out_at(alloc, possible, candidates, i, labels)?;
+        leave_out_at(alloc, possible, candidates, from, i, labels)?;
     }
     Ok(())
 }
 
 /// Takes the name off the literal at a position, if it is not needed, and if it asks about a number
-/// of labels or that may be any. Fails only if memory runs out.
+/// of labels or that may be any. Then only what shows this stays named, and the first `from`. Fails
+/// only if memory runs out.
 fn leave_out_at(
     alloc: Global,
     possible: &PossibleChoices,
     candidates: &mut [Candidate<'_>],
+    from: usize,
     i: usize,
     labels: Option<usize>,
 ) -> Result<(), AllocError>
     requires there { i < length candidates.old }
+    requires behind { from ≤ i }
+    requires first { AreNamedBefore from candidates.old }
     requires enough { IsUnmet (IsPossible possible.now) candidates.old }
-    ensures either { (candidates.new ≡ candidates.old)
-        ⊎ (candidates.new ≡ without i candidates.old) }
+    ensures fewer { AreFewer candidates.old candidates.new }
+    ensures first { AreNamedBefore from candidates.new }
     ensures enough { OnOk result (IsUnmet (IsPossible possible.now) candidates.new) }
     ensures needed { labels ≡ None → OnOk result ((k : Candidate)
         → slice_get candidates.new i ≡ Some k → IsTrue k.named
@@ -206,10 +137,60 @@ fn leave_out_at(
         return Ok(());
     }
     set_named(candidates, i, false);
-    if some_meeting(alloc, possible, candidates)?.is_some() {
+    if !refute(alloc, possible, candidates, from)? {
         set_named(candidates, i, true);
     }
     Ok(())
+}
+
+/// Looks for a possible choice that meets the named literals. Returns whether there is none. Then
+/// only the first `from` literals stay named, and what the search used. If there is one, nothing
+/// changes. Fails only if memory runs out; then nothing has changed.
+fn refute(
+    alloc: Global,
+    possible: &PossibleChoices,
+    candidates: &mut [Candidate<'_>],
+    from: usize,
+) -> Result<bool, AllocError>
+    ensures fewer { AreFewer candidates.old candidates.new }
+    ensures first { AreNamedBefore from candidates.old → AreNamedBefore from candidates.new }
+    ensures enough { IfOk result (λ refuted. IsTrue refuted
+        → IsUnmet (IsPossible possible.now) candidates.new) }
+    ensures met { IfOk result (λ refuted. IsFalse refuted
+        → (candidates.new ≡ candidates.old) × IsMet (IsPossible possible.now) candidates.old) }
+{
+    match refute_meeting(alloc, possible, candidates)? {
+        Some(used) => {
+            keep_used(candidates, from, used.as_slice());
+            Ok(true)
+        }
+        None => Ok(false),
+    }
+}
+
+/// Takes the names off the literals that ask for no match and were not used. Those before the
+/// position `from` keep their names. `used` has a mark for each named literal that asks for no
+/// match, in their order.
+fn keep_used(candidates: &mut [Candidate<'_>], from: usize, used: &[bool])
+    ensures { candidates.new ≡ kept from used.now 0 0 candidates.old }
+{
+    let mut next = 0;
+    for i in 0..candidates.len() {
+        if candidates[i].asks_for_no_match() {
+            set_named(candidates, i, i < from || is_marked(used, next));
+            next += 1;
+        }
+    }
+}
+
+/// Whether there is a mark at a position, and it says yes.
+fn is_marked(marks: &[bool], position: usize) -> bool
+    ensures { result ≡ get_or marks.now position false }
+{
+    match marks.get(position) {
+        Some(mark) => *mark,
+        None => false,
+    }
 }
 
 /// Names the literal at a position, or takes its name off.

@@ -14,7 +14,7 @@ ghost use Rattle.am_universe.specs.Choice.{IsWhole, choices};
 ghost use Rattle.am_judged_lists.specs.Boxes.{IsInBox};
 ghost use Rattle.am_first_sets.specs.Budget.{IsSpent};
 ghost use Rattle.am_first_sets.specs.Solving.{IsAnswer, NoneAvoids, IsStep, IsTestOf, IsLeast};
-ghost use Rattle.am_first_sets.specs.Solving.{avoids, IsSolved};
+ghost use Rattle.am_first_sets.specs.Solving.{avoids, marked, IsSolved};
 
 use crate::budget::Budget;
 use am_judged_lists::{Cube, Matching, Part, PositionBox};
@@ -26,8 +26,8 @@ use std::alloc::{AllocError, Global};
 enum Step {
     /// No cube matches a choice of it.
     Done,
-    /// A cube matches all its choices.
-    Refuted,
+    /// The cube at an index matches all its choices.
+    Refuted(usize),
     /// The cube at an index has only one open label, this one.
     Narrow(usize, usize),
     /// The cube at an index has the fewest open labels of all, and this is one of them.
@@ -81,7 +81,47 @@ pub fn solve_within(
     unwanted: &[&Cube],
     budget: &mut Budget,
 ) -> Result<Solved, AllocError>
-    ensures solved { IfOk result (IsSolved start unwanted.now budget.new) }
+    ensures solved { IfOk result (IsSolved start unwanted.now unwanted.now budget.new) }
+    ensures spent { IsSpent budget.old budget.new }
+{
+    let mut used = vec![in alloc; false; unwanted.len()]?;
+    search(alloc, start, unwanted, &mut used, budget)
+}
+
+/// Finds out which cubes leave no choice of a box.
+///
+/// Returns for each cube whether it was used: each choice is matched by one that was. Returns
+/// `None` if there is a choice that no cube matches. Fails only if memory runs out.
+pub(crate) fn refute(
+    alloc: Global,
+    start: PositionBox,
+    unwanted: &[&Cube],
+) -> Result<Option<Vec<bool>>, AllocError>
+    ensures refuted { IfOk result (λ found.
+        IfSome found (λ used. NoneAvoids start (marked used.items unwanted.now))) }
+    ensures found { IfOk result (λ found. IfNone found ((c : List ℕ)
+        × IsInBox start c × IsTrue (avoids unwanted.now c))) }
+{
+    let mut used = vec![in alloc; false; unwanted.len()]?;
+    match search(alloc, start, unwanted, &mut used, &mut Budget::unlimited())? {
+        Solved::Found(_) => Ok(None),
+        Solved::NoAnswer => Ok(Some(used)),
+        Solved::UsedUp => unreachable!(),
+    }
+}
+
+/// The search itself. It marks the cubes that it uses: those that cover a box, and those whose
+/// positions are taken out of one. To split a box uses no cube, since no choice gets lost.
+fn search(
+    alloc: Global,
+    start: PositionBox,
+    unwanted: &[&Cube],
+    used: &mut [bool],
+    budget: &mut Budget,
+) -> Result<Solved, AllocError>
+    requires { length used.old ≡ length unwanted.now }
+    ensures solved { IfOk result
+        (IsSolved start unwanted.now (marked used.new unwanted.now) budget.new) }
     ensures spent { IsSpent budget.old budget.new }
 {
     let mut stack = Vec::new(alloc);
@@ -94,8 +134,9 @@ pub fn solve_within(
         }
         match next_step(&positions, unwanted) {
             Step::Done => return Ok(Solved::Found(positions)),
-            Step::Refuted => {}
+            Step::Refuted(index) => used[index] = true,
             Step::Narrow(index, label) => {
+                used[index] = true;
                 positions.keep(unwanted[index], label, Part::Outside);
                 stack.push(positions)?;
             }
@@ -119,7 +160,7 @@ fn next_step(positions: &PositionBox, unwanted: &[&Cube]) -> Step
     for index in 0..unwanted.len() {
         match positions.matching(unwanted[index]) {
             Matching::Misses => {}
-            Matching::Covers => return Step::Refuted,
+            Matching::Covers => return Step::Refuted(index),
             Matching::Opens(label, 1) => return Step::Narrow(index, label),
             Matching::Opens(label, labels) => {
                 let is_fewer = match fewest {

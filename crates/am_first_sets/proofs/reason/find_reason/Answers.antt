@@ -1,29 +1,26 @@
-use Rattle.am_first_sets.proofs.ReasonLemmas.{same_through, hold_alike}
+use Rattle.std.proofs.Common.{sym, ◌∙◌, subst}
+use Rattle.std.proofs.lemmas.Bool.{false_from_ne_true}
+use Rattle.am_first_sets.specs.PossibleChoices.{IsPossible}
+use Rattle.am_first_sets.specs.Literals.{meets, IsUnmet}
+use Rattle.am_first_sets.specs.Reason.{AreNamedBefore, AreSameLiterals, all_named}
+use Rattle.am_first_sets.proofs.ReasonLemmas.{all_met, named_before, same_named, same_through}
 use Rattle.am_first_sets.proofs.reason.find_reason.Goals as goal
-
-pub name_enough-requires : goal.name_enough-requires
-name_enough-requires c = record {
-  none = λ met.
-      c.requires.none (
-        met.0,
-        met.1,
-        hold_alike met.0 c.args.candidates.now c.name_first.new.candidates
-            c.name_first.ensures.same met.2,
-      );
-}
 
 pub leave_out-requires-clause-first : goal.leave_out-requires-clause-first
 leave_out-requires-clause-first c =
-    c.name_enough.ensures.named c.args.fixed c.name_first.ensures.named
+    subst (AreNamedBefore c.args.fixed) (sym c.name_all.ensures)
+    (named_before c.args.fixed c.args.candidates.now)
+
+pub leave_out-requires-clause-enough : goal.leave_out-requires-clause-enough
+leave_out-requires-clause-enough c =
+    let ks = c.args.candidates.now in
+    subst (IsUnmet (IsPossible c.args.possible.now)) (sym c.name_all.ensures) (λ d is.
+    false_from_ne_true (meets d (all_named ks)) (λ e.
+    c.requires.none (d, is, sym (all_met d ks) ∙ e)))
 
 pub returns-clause-same : goal.returns-clause-same
 returns-clause-same c =
-    same_through c.args.candidates.now c.name_enough.new.candidates c.leave_out.new.candidates
-    (same_through c.args.candidates.now c.name_first.new.candidates c.name_enough.new.candidates
-    c.name_first.ensures.same c.name_enough.ensures.same)
-    c.leave_out.ensures.same
-
-pub returns-in_err-name_enough-clause-same : goal.returns-in_err-name_enough-clause-same
-returns-in_err-name_enough-clause-same c =
-    same_through c.args.candidates.now c.name_first.new.candidates c.name_enough.new.candidates
-    c.name_first.ensures.same c.name_enough.ensures.same
+    let ks = c.args.candidates.now in
+    same_through ks (all_named ks) c.leave_out.new.candidates (same_named ks)
+    (subst (λ ls. AreSameLiterals ls c.leave_out.new.candidates) c.name_all.ensures
+    c.leave_out.ensures.same)

@@ -1,44 +1,78 @@
-use Rattle.std.proofs.Common.{◌≡◌, List, sym, ap, ◌∙◌, subst, refl, inl, slice_get, true, Some}
-use Rattle.std.proofs.lemmas.Option.{slice_get_read}
+use Rattle.std.proofs.Common.{◌≡◌, List, sym, ap, ◌∙◌, subst, get_or, true}
+use Rattle.std.proofs.lemmas.Option.{slice_get-get_or, get_or_from_slice_get}
+use Rattle.std.proofs.lemmas.Bool.{both_ways}
 use Rattle.am_first_sets.specs.declared.candidate.Candidate.{Candidate}
 use Rattle.am_first_sets.specs.PossibleChoices.{IsPossible}
-use Rattle.am_first_sets.specs.Literals.{IsMet, IsUnmet}
-use Rattle.am_first_sets.specs.Reason.{renamed, without}
-use Rattle.am_first_sets.proofs.ReasonLemmas.{restored, met_if, at_place}
+use Rattle.am_first_sets.specs.Literals.{IsMet}
+use Rattle.am_first_sets.specs.Reason.{AreFewer, AreNamedBefore, renamed, without}
+use Rattle.am_first_sets.proofs.ReasonLemmas.{fewer_itself, fewer_through, fewer_without}
+use Rattle.am_first_sets.proofs.ReasonLemmas.{named_less, restored, unnamed_at}
 use Rattle.am_first_sets.proofs.reason.leave_out_at.Goals as goal
-use Rattle.am_first_sets.proofs.reason.leave_out_at.Goals.{After-set_named-then-is_some}
+use Rattle.am_first_sets.proofs.reason.leave_out_at.Goals.{After-refute}
 
--- the name is put back
-put_back : (c : After-set_named-then-is_some) → c.set_named-then-is_some.new.candidates ≡ c.args.candidates.now
-put_back c =
+-- what the search leaves of the others
+fewer_after : (c : After-refute) → AreFewer c.args.candidates.now c.refute.new.candidates
+fewer_after c =
     let ks = c.args.candidates.now in
-    let k = c.index-candidates-i.result in
-    c.set_named-then-is_some.ensures
-    ∙ ap (renamed c.args.i true) c.set_named.ensures
-    ∙ restored c.args.i ks k
-    (slice_get_read ks _ c.args.i k refl c.requires.there c.index-candidates-i.is)
-    (ap (λ (x : Candidate). x.named) c.index-candidates-i.is ∙ c.if-not-candidates-i.false)
+    fewer_through ks (without c.args.i ks) c.refute.new.candidates (fewer_without c.args.i ks)
+    (subst (λ (ls : List Candidate). AreFewer ls c.refute.new.candidates) c.set_named.ensures
+    c.refute.ensures.fewer)
 
-pub returns-then-is_some-clause-either : goal.returns-then-is_some-clause-either
-returns-then-is_some-clause-either c =
-    inl (put_back (goal.at.returns-then-is_some-clause-either c).After-set_named-then-is_some)
+first_after : (c : After-refute) → AreNamedBefore c.args.from c.refute.new.candidates
+first_after c =
+    c.refute.ensures.first (subst (AreNamedBefore c.args.from) (sym c.set_named.ensures)
+    (named_less c.args.from c.args.i c.args.candidates.now c.requires.behind c.requires.first))
 
-pub returns-then-is_some-clause-enough : goal.returns-then-is_some-clause-enough
-returns-then-is_some-clause-enough c =
-    subst (IsUnmet (IsPossible c.args.possible.now))
-    (sym (put_back (goal.at.returns-then-is_some-clause-enough c).After-set_named-then-is_some))
-    c.requires.enough
+pub returns-then-not-candidates-i-clause-fewer : goal.returns-then-not-candidates-i-clause-fewer
+returns-then-not-candidates-i-clause-fewer c = fewer_itself c.args.candidates.now
 
-pub returns-then-is_some-clause-needed : goal.returns-then-is_some-clause-needed
-returns-then-is_some-clause-needed c = λ all k at named.
+pub returns-then-not-candidates-i-clause-needed : goal.returns-then-not-candidates-i-clause-needed
+returns-then-not-candidates-i-clause-needed c = λ all k at named.
+    let is = get_or_from_slice_get c.args.candidates.now c.args.i k c.index-candidates-i.result at in
+    absurd (both_ways k.named (ap (λ (x : Candidate). x.named) (sym is) ∙ c.if-not-candidates-i.true)
+    named)
+
+pub returns-then-not-asks_about-clause-fewer : goal.returns-then-not-asks_about-clause-fewer
+returns-then-not-asks_about-clause-fewer c = fewer_itself c.args.candidates.now
+
+pub returns-in_err-refute-clause-fewer : goal.returns-in_err-refute-clause-fewer
+returns-in_err-refute-clause-fewer c =
+    fewer_after (goal.at.returns-in_err-refute-clause-fewer c).After-refute
+
+pub returns-in_err-refute-clause-first : goal.returns-in_err-refute-clause-first
+returns-in_err-refute-clause-first c =
+    first_after (goal.at.returns-in_err-refute-clause-first c).After-refute
+
+pub returns-else-not-branch-clause-fewer : goal.returns-else-not-branch-clause-fewer
+returns-else-not-branch-clause-fewer c =
+    fewer_after (goal.at.returns-else-not-branch-clause-fewer c).After-refute
+
+pub returns-else-not-branch-clause-first : goal.returns-else-not-branch-clause-first
+returns-else-not-branch-clause-first c =
+    first_after (goal.at.returns-else-not-branch-clause-first c).After-refute
+
+pub returns-else-not-branch-clause-needed : goal.returns-else-not-branch-clause-needed
+returns-else-not-branch-clause-needed c = λ all k at named.
+    unnamed_at c.args.i c.args.candidates.now c.refute.new.candidates k
+    (subst (λ (ls : List Candidate). AreFewer ls c.refute.new.candidates) c.set_named.ensures
+    c.refute.ensures.fewer) at named
+
+-- some choice is found, so the name is put back
+pub returns-then-not-branch : goal.returns-then-not-branch
+returns-then-not-branch c =
     let Is = IsPossible c.args.possible.now in
-    let back = put_back (goal.at.returns-then-is_some-clause-needed c).After-set_named-then-is_some in
-    subst (IsMet Is)
-    (c.set_named.ensures ∙ ap (without c.args.i) (sym back))
-    (met_if Is c.set_named.new.candidates c.in_ok-some_meeting.field-0
-    c.in_ok-some_meeting.ensures.some (sym c.is_some.ensures ∙ c.if-is_some.true))
-
-pub returns-else-is_some-clause-needed : goal.returns-else-is_some-clause-needed
-returns-else-is_some-clause-needed c = λ all k at named.
-    at_place c.args.i c.args.candidates.now k
-    (subst (λ (ks : List Candidate). slice_get ks c.args.i ≡ Some k) c.set_named.ensures at) named
+    let ks = c.args.candidates.now in
+    let i = c.args.i in
+    let k = get_or ks i c.index-candidates-i.result in
+    let met = c.in_ok-refute.ensures.met c.if-not-branch.true in
+    let less : c.refute.new.candidates ≡ without i ks = met.0 ∙ c.set_named.ensures in
+    let back : c.set_named-then-not-branch.new.candidates ≡ ks =
+    c.set_named-then-not-branch.ensures ∙ ap (renamed i true) less
+    ∙ restored i ks k (slice_get-get_or ks i c.index-candidates-i.result c.requires.there)
+    c.if-not-candidates-i.false in
+    rw back (record {
+      fewer = fewer_itself ks;
+      first = c.requires.first;
+      enough = c.requires.enough;
+      needed = λ all l at named. subst (IsMet Is) c.set_named.ensures met.1;
+    })

@@ -1,4 +1,4 @@
-use Rattle.std.proofs.Common.{◌≡◌, ◌+◌, ◌-◌, ◌∙◌, Some, None, ap, sym, length}
+use Rattle.std.proofs.Common.{◌+◌, ◌-◌, ◌∙◌, Some, None, ap, sym, length}
 use Rattle.std.proofs.lemmas.List.{length_push}
 use Rattle.am_first_sets.proofs.BudgetLemmas.{spent_one, spent_unlimited, spent_as}
 use Rattle.am_first_sets.proofs.budget.Budget.take.Goals.{in-Some+else-left-eq0, in_default}

@@ -6,7 +6,7 @@ use Rattle.am_labels.specs.Space.{is_possible_choice}
 use Rattle.am_first_sets.specs.PossibleSets.{possible_space}
 use Rattle.am_first_sets.specs.Meeting.{meets_cubes}
 use Rattle.am_first_sets.proofs.FirstPossible.{find_kept, found_of_space}
-use Rattle.am_first_sets.proofs.MeetingLemmas.{is_test, found_none, if_ok_more}
+use Rattle.am_first_sets.proofs.MeetingLemmas.{against_both, is_test, found_none, if_ok_more}
 use Rattle.am_first_sets.proofs.possible_sets.PossibleSets.first_meeting.Goals as goal
 
 pub returns-in_default-clause-first : goal.returns-in_default-clause-first
@@ -31,7 +31,9 @@ returns-clause-first c =
     first (λ d. asked d && keep d)
     (is_test self.choices c.args.wanted.now c.args.unwanted.now c.as_slice.result.now
     c.in-Some.positions (rw c.in-Some.is at c.in_ok-positions.ensures.some)
-    (rw (← c.as_slice.ensures.value) at c.in_ok-cubes.ensures) s self.are_choices)
+    (λ d. against_both c.args.unwanted.now c.in_ok-cubes.ensures.0 _ d _
+    (c.as_slice.ensures.value ∙ c.in_ok-cubes.ensures.1) (c.in_ok-cubes.ensures.2 d))
+    s self.are_choices)
     ∙ find_kept asked keep (choices (sizes s.labels)))
     (rw c.universe.ensures.labels at c.first_avoiding.ensures.first)
 
