@@ -7,7 +7,7 @@
 //! Loveland, 1962: unit propagation and splitting.)
 
 ghost use Rattle.std.specs.Prelude.{◌≡◌, ℕ, ◌<◌, List, length, slice_index, Bool, IfOk, IfSome};
-ghost use Rattle.std.specs.Prelude.{◌↔◌, IfNone, OnOk, IsTrue, Some};
+ghost use Rattle.std.specs.Prelude.{◌↔◌, ◌⊎◌, IfNone, OnOk, IsTrue, Some};
 ghost use Rattle.std.specs.List.{find};
 ghost use Rattle.am_universe.specs.Universe.{sizes};
 ghost use Rattle.am_universe.specs.Choice.{IsWhole, choices};
@@ -34,11 +34,12 @@ enum Step {
     Split(usize, usize),
 }
 
-/// An open label of the cube at an index, and how many open labels it has.
+/// A cube with open labels: its index, one of them, and how many are open of how many that it has.
 #[derive(Clone, Copy)]
 struct Open {
     index: usize,
     label: usize,
+    open: usize,
     labels: usize,
 }
 
@@ -156,30 +157,46 @@ fn search(
 fn next_step(positions: &PositionBox, unwanted: &[&Cube]) -> Step
     ensures { IsStep positions.now unwanted.now result }
 {
-    let mut fewest: Option<Open> = None;
+    let mut simplest: Option<Open> = None;
     for index in 0..unwanted.len() {
         match positions.matching(unwanted[index]) {
             Matching::Misses => {}
             Matching::Covers => return Step::Refuted(index),
-            Matching::Opens(label, 1) => return Step::Narrow(index, label),
-            Matching::Opens(label, labels) => {
-                let is_fewer = match fewest {
-                    Some(open) => labels < open.labels,
-                    None => true,
-                };
-                if is_fewer {
-                    fewest = Some(Open {
+            Matching::Opens(label, open) => {
+                let labels = unwanted[index].mask_count();
+                simplest = Some(simpler_of(
+                    simplest,
+                    Open {
                         index,
                         label,
+                        open,
                         labels,
-                    });
-                }
+                    },
+                ));
             }
         }
     }
-    match fewest {
-        Some(open) => Step::Split(open.index, open.label),
-        None => Step::Done,
+    let Some(found) = simplest else {
+        return Step::Done;
+    };
+    if found.open == 1 {
+        Step::Narrow(found.index, found.label)
+    } else {
+        Step::Split(found.index, found.label)
+    }
+}
+
+/// Returns which of two cubes has fewer open labels, or fewer labels if these are as many.
+fn simpler_of(first: Option<Open>, second: Open) -> Open
+    ensures { (first ≡ Some result) ⊎ (result ≡ second) }
+{
+    match first {
+        Some(first) => {
+            let is_first = first.open < second.open
+                || (first.open == second.open && first.labels <= second.labels);
+            if is_first { first } else { second }
+        }
+        None => second,
     }
 }
 
