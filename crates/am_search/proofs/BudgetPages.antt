@@ -1,7 +1,7 @@
 -- Pages of a search under a budget: the answers before the stop, and the answers that are left.
 use Rattle.std.proofs.Common.{◌≡◌, ◌⊎◌, ℕ, zero, suc, ◌+◌, ◌<◌, ◌≤◌, Bool, true, false, not, nat_eq, List, [], ◌∷◌, ◌++◌, length, take, drop, slice_get, Option, Some, None, IfSome, length-append, ap, sym, subst, ◌∙◌, refl, inl, inr, arith, append-nil, rules}
 use Rattle.std.specs.List.{filter, flat_map, starts_with}
-use Rattle.std.proofs.lemmas.Bool.{false≢true, false_from_ne_true, cases_Bool, cases_lt}
+use Rattle.std.proofs.lemmas.Bool.{false≢true, false_from_ne_true, cases_Bool}
 use Rattle.std.proofs.lemmas.Grind.{flat_map-append, common_steps}
 use Rattle.std.proofs.lemmas.List.{take-append-le, take-append-drop, get_or_append_left, take_all}
 use Rattle.std.proofs.lemmas.List.Elements.{filter-append}
@@ -10,13 +10,12 @@ use Rattle.am_universe.specs.Completions.{completions}
 use Rattle.am_universe.proofs.ListLemmas.{IsIn, IsIn-left}
 use Rattle.am_search.specs.declared.start.Start.{Start}
 use Rattle.am_search.specs.declared.start.Start.TheVariants.{At}
-use Rattle.am_search.specs.declared.trailer.Trailer.{Trailer}
 use Rattle.am_search.specs.declared.trailer.Trailer.TheVariants.{End, Next, Stopped}
 use Rattle.am_search.specs.declared.verdict.Verdict.{Verdict}
 use Rattle.am_search.specs.Judge.{IsJudge, is_open}
 use Rattle.am_search.specs.Start.{comes_before, at_or_after, choices_from, answers_from}
 use Rattle.am_search.specs.Visits.{visited, given_at, given_by, given_under}
-use Rattle.am_search.specs.Page.{page_ending, page_of, page_from, rest_after}
+use Rattle.am_search.specs.Page.{page_of, page_from, rest_after}
 use Rattle.am_search.specs.BudgetPage.{stop_of, trailer_at, page_under, IsEnough}
 use Rattle.am_search.proofs.ChoiceOrder.{got_at, Ascends, above_first, ascends_rest, not_back, before_trans, filter_all, filter_none, filters_swapped, in_filter}
 use Rattle.am_search.proofs.Odometer.{admits_at_most}
@@ -25,8 +24,8 @@ use Rattle.am_search.proofs.VisitedPrefixes.{ReachesTo, visited_sorted, in_visit
 use Rattle.am_search.proofs.VisitSteps.{past_length}
 use Rattle.am_search.proofs.VisitsGive.{visited_give}
 use Rattle.am_search.proofs.WalkSteps.{HasBegun, begun_at}
-use Rattle.am_search.proofs.PageLines.{all_page, page_of_part, page_of_all}
-use Rattle.am_search.proofs.Pages.{choices_at, filter_within, page_rest}
+use Rattle.am_search.proofs.PageLines.{part_page, all_page, page_of_part}
+use Rattle.am_search.proofs.Pages.{choices_at, filter_within, page_rest, kind_of, part, whole}
 
 -- what does not come before a later choice does not come before an earlier one
 pub stays_from : (f p c : List ℕ) → comes_before f p ≡ true → not (comes_before c p) ≡ true → not (comes_before c f) ≡ true
@@ -187,9 +186,9 @@ given_first sizes truth verdict start (Some k) law =
           ∙ flat_map-append (given_at sizes verdict start) (take k all) (drop k all),
     )
 
--- a page that is cut by its limit is also the page of all answers
-same_part : (ending : Trailer) (xs later : List (List ℕ)) (n : ℕ) → 0 < n → n < length xs → page_ending ending xs (Some n) ≡ page_of (xs ++ later) (Some n)
-same_part ending xs later n some more = search (rules, page_of_part, take-append-le, get_or_append_left, length-append)
+-- a page that is cut by its limit is also cut from all answers
+same_part : (xs later : List (List ℕ)) (n : ℕ) → 0 < n → n < length xs → part_page xs n ≡ part_page (xs ++ later) n
+same_part xs later n some more = search (rules, take-append-le, get_or_append_left)
 
 module _ (sizes : List ℕ) (truth : List ℕ → Bool) (verdict : List ℕ → Verdict) (start : Start) (law : IsJudge sizes truth verdict) where
   -- if nothing stops the search, or the limit cuts the page, it is the page without a budget
@@ -197,48 +196,33 @@ module _ (sizes : List ℕ) (truth : List ℕ → Bool) (verdict : List ℕ → 
   same_unstopped limit budget none = grind (arith, common_steps, all_given)
 
   same_cut : (limit budget : Option ℕ) (n : ℕ) → limit ≡ Some n → 0 < n → n < length (given_under sizes verdict start budget)
-      → page_under sizes verdict start limit budget ≡ page_from sizes truth start limit
+      → part_page (given_under sizes verdict start budget) n ≡ page_from sizes truth start limit
   same_cut limit budget n is some more =
       let xs : List (List ℕ) = given_under sizes verdict start budget in
-      let ending : Trailer = trailer_at (stop_of sizes verdict start budget) in
       let front = given_first sizes truth verdict start budget law in
-      ap (page_ending ending xs) is ∙ same_part ending xs front.0 n some more
+      same_part xs front.0 n some more ∙ sym (page_of_part End (xs ++ front.0) n (omega (arith, length-append xs front.0, more)))
       ∙ ap (λ l. page_of l (Some n)) (sym front.1) ∙ ap (page_of (answers_from sizes truth start)) (sym is)
 
   -- it is the page without a budget, or the search stopped at a prefix
   pub data UnderKind (limit budget : Option ℕ) : Type 0 where
     without : page_under sizes verdict start limit budget ≡ page_from sizes truth start limit → UnderKind limit budget
     stopped : (k : ℕ) (p : List ℕ) → budget ≡ Some k → slice_get (visited sizes verdict start) k ≡ Some p
-        → (page_under sizes verdict start limit budget).trailer ≡ Stopped p
-        → (page_under sizes verdict start limit budget).choices ≡ given_by sizes verdict start (take k (visited sizes verdict start)) → UnderKind limit budget
+        → page_under sizes verdict start limit budget ≡ all_page (Stopped p) (given_by sizes verdict start (take k (visited sizes verdict start))) → UnderKind limit budget
 
-  all_kind : (limit budget : Option ℕ) (p : List ℕ) → stop_of sizes verdict start budget ≡ Some p
+  stopped_at : (limit budget : Option ℕ) (p : List ℕ) → stop_of sizes verdict start budget ≡ Some p
       → page_under sizes verdict start limit budget ≡ all_page (trailer_at (stop_of sizes verdict start budget)) (given_under sizes verdict start budget) → UnderKind limit budget
-  all_kind limit budget p e same = by budget refl
-    where
-      by : (b : Option ℕ) → budget ≡ b → UnderKind limit budget
-      by None is = let none : None ≡ Some p = ap (stop_of sizes verdict start) (sym is) ∙ e in cc
-      by (Some k) is =
-          stopped k p is (ap (stop_of sizes verdict start) (sym is) ∙ e)
-          (ap (λ page. page.trailer) same ∙ ap trailer_at e)
-          (ap (λ page. page.choices) same ∙ ap (given_under sizes verdict start) is)
+  stopped_at limit None p e same = cc
+  stopped_at limit (Some k) p e same = stopped k p refl e (same ∙ ap (λ o. all_page (trailer_at o) (given_under sizes verdict start (Some k))) e)
 
   pub under_kind : (limit budget : Option ℕ) → IfSome limit (λ n. 0 < n) → UnderKind limit budget
-  under_kind limit budget some = by_stop (stop_of sizes verdict start budget) refl
+  under_kind limit budget some = by (stop_of sizes verdict start budget) refl
     where
-      by_limit : (p : List ℕ) → stop_of sizes verdict start budget ≡ Some p → (l : Option ℕ) → limit ≡ l → IfSome l (λ n. 0 < n) → UnderKind limit budget
-      by_limit p e None is h = all_kind limit budget p e (ap (page_ending (trailer_at (stop_of sizes verdict start budget)) (given_under sizes verdict start budget)) is)
-      by_limit p e (Some n) is h = elim (cases_lt n (length (given_under sizes verdict start budget))) [
-        | inl more ↦ without (same_cut limit budget n is h more)
-        | inr few ↦
-            all_kind limit budget p e
-            (ap (page_ending (trailer_at (stop_of sizes verdict start budget)) (given_under sizes verdict start budget)) is
-            ∙ page_of_all (trailer_at (stop_of sizes verdict start budget)) (given_under sizes verdict start budget) (Some n) few)
+      by : (o : Option (List ℕ)) → stop_of sizes verdict start budget ≡ o → UnderKind limit budget
+      by None e = without (same_unstopped limit budget e)
+      by (Some p) e = elim (kind_of (trailer_at (stop_of sizes verdict start budget)) (given_under sizes verdict start budget) limit some) [
+        | part n is h more same ↦ without (same ∙ same_cut limit budget n is h more)
+        | whole same ↦ stopped_at limit budget p e same
       ]
-
-      by_stop : (o : Option (List ℕ)) → stop_of sizes verdict start budget ≡ o → UnderKind limit budget
-      by_stop None e = without (same_unstopped limit budget e)
-      by_stop (Some p) e = by_limit p e limit refl some
 
 -- ---- Laws of pages under a budget.
 
@@ -247,13 +231,13 @@ module _ (sizes : List ℕ) (truth : List ℕ → Bool) (verdict : List ℕ → 
   pub same_next : (c : List ℕ) → (page_under sizes verdict start limit budget).trailer ≡ Next c → page_under sizes verdict start limit budget ≡ page_from sizes truth start limit
   same_next c e = elim (under_kind sizes truth verdict start law limit budget some) [
     | without same ↦ same
-    | stopped k p is at_k ends has ↦ let no : Stopped p ≡ Next c = sym ends ∙ e in cc
+    | stopped k p is at_k same ↦ let no : Stopped p ≡ Next c = sym (ap (λ page. page.trailer) same) ∙ e in cc
   ]
 
   pub same_end : (page_under sizes verdict start limit budget).trailer ≡ End → page_under sizes verdict start limit budget ≡ page_from sizes truth start limit
   same_end e = elim (under_kind sizes truth verdict start law limit budget some) [
     | without same ↦ same
-    | stopped k p is at_k ends has ↦ let no : Stopped p ≡ End = sym ends ∙ e in cc
+    | stopped k p is at_k same ↦ let no : Stopped p ≡ End = sym (ap (λ page. page.trailer) same) ∙ e in cc
   ]
 
   -- a page that stops at a prefix has the answers before that prefix
@@ -265,18 +249,12 @@ module _ (sizes : List ℕ) (truth : List ℕ → Bool) (verdict : List ℕ → 
     pub enough_steps : (k : ℕ) → budget ≡ Some k → length sizes < k
     enough_steps k is = subst (IsEnough sizes) is enough
 
-    without_rest : page_under sizes verdict start limit budget ≡ page_from sizes truth start limit
-        → answers_from sizes truth start ≡ (page_under sizes verdict start limit budget).choices ++ rest_after sizes truth (page_under sizes verdict start limit budget).trailer
-    without_rest same =
-        page_rest sizes truth start (page_under sizes verdict start limit budget) (record { limit = limit; at_least_one = some; from_start = same })
-
     -- the answers are those of the page, and then those that its trailer leaves
     pub rest_under : answers_from sizes truth start ≡ (page_under sizes verdict start limit budget).choices ++ rest_after sizes truth (page_under sizes verdict start limit budget).trailer
     rest_under = elim (under_kind sizes truth verdict start law limit budget some) [
-      | without same ↦ without_rest same
-      | stopped k p is at_k ends has ↦
+      | without same ↦ page_rest sizes truth start (page_under sizes verdict start limit budget) (record { limit = limit; at_least_one = some; from_start = same })
+      | stopped k p is at_k same ↦
           answers_cut sizes verdict start k p at_k truth law
-          ∙ ap (λ l. l ++ given_by sizes verdict start (drop k (visited sizes verdict start))) (sym has)
-          ∙ ap (λ l. (page_under sizes verdict start limit budget).choices ++ l)
-          (left_at sizes verdict start k p at_k truth law (past_first sizes verdict start k p at_k (enough_steps k is)) ∙ ap (rest_after sizes truth) (sym ends))
+          ∙ ap (λ l. given_by sizes verdict start (take k (visited sizes verdict start)) ++ l) (left_at sizes verdict start k p at_k truth law (past_first sizes verdict start k p at_k (enough_steps k is)))
+          ∙ ap (λ page. page.choices ++ rest_after sizes truth page.trailer) (sym same)
     ]

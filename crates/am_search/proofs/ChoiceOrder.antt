@@ -102,6 +102,12 @@ pub ascends_rest : (x : List ℕ) (xs : List (List ℕ)) → Ascends (x ∷ xs) 
 unfolding IsStrictlySortedBy
 ascends_rest x xs s = s.1
 
+-- the first one is the member that no other comes before
+pub first_is : (xs : List (List ℕ)) (c : List ℕ) → Ascends xs → IsIn xs c → ((x : List ℕ) → IsIn xs x → comes_before x c ≡ false) → slice_get xs 0 ≡ Some c
+first_is [] c s i least = absurd i
+first_is (x ∷ xs) c s (inl e) least = ap Some e
+first_is (x ∷ xs) c s (inr i) least = absurd (false≢true (sym (least x (inl refl)) ∙ above_first x xs c s i))
+
 -- all members are at or after the first one
 pub from_first : (x : List ℕ) (xs : List (List ℕ)) → Ascends (x ∷ xs) → at_or_after (Some x) (x ∷ xs) ≡ x ∷ xs
 from_first x xs s = grind (arith, common_steps, filter_step, not_itself, filter_all, not_back, above_first)

@@ -1,26 +1,19 @@
--- The choice that follows another, as the code finds it: the last position that can be greater
--- becomes greater by one, and the positions after it are 0.
-use Rattle.std.proofs.Common.{◌≡◌, subst, ℕ, zero, suc, ◌+◌, ◌<◌, ◌≤◌, Bool, true, false, cond, List, [], ◌∷◌, ◌++◌, length, map, slice_index, slice_get, nat_lt, Option, Some, None, ap, sym, ◌∙◌, refl, inl, inr, arith, rules}
+-- The first completion of a prefix, and the prefix beside it, as the code finds them.
+use Rattle.std.proofs.Common.{◌≡◌, subst, ℕ, zero, suc, ◌+◌, ◌<◌, ◌≤◌, true, cond, List, [], ◌∷◌, ◌++◌, length, map, slice_index, slice_get, nat_lt, Some, ap, ◌∙◌, refl, arith, rules}
 use Rattle.std.specs.Prelude.{option_map}
-use Rattle.std.specs.Option.{option_or}
-use Rattle.std.specs.List.{AllByRecursion, find}
-use Rattle.std.specs.Ordering.{is_lt}
-use Rattle.std.proofs.Math.Nat.{eq-or-lt_of_le}
+use Rattle.std.specs.List.{AllByRecursion}
 use Rattle.std.proofs.lemmas.Bool.{and_parts, and_from}
 use Rattle.std.proofs.lemmas.Bool.Decides.{nat_tests}
-use Rattle.std.proofs.lemmas.List.Folds.{find-append}
 use Rattle.std.proofs.lemmas.Option.{get_or_from_slice_get}
 use Rattle.std.proofs.lemmas.Grind.{common_steps}
-use borrow.Author.Tests.{le-ltb}
-use Rattle.am_universe.specs.Choice.{choices, admits, IsWhole}
+use Rattle.am_universe.specs.Choice.{choices, admits}
 use Rattle.am_universe.specs.declared.limits.TheConstants.{MAX_VALUES}
 use Rattle.am_universe.specs.Completions.{completions}
 use Rattle.am_universe.proofs.ListLemmas.{AllByRecursion-at}
-use Rattle.am_universe.proofs.ChoiceLemmas.{behind, same_first, less_first}
+use Rattle.am_universe.proofs.ChoiceLemmas.{behind}
 use Rattle.am_universe.proofs.CompletionLemmas.{below, completions_are_below}
-use Rattle.am_search.specs.Start.{comes_before}
 use Rattle.am_search.specs.NextPrefix.{next_beside}
-use Rattle.am_search.proofs.ChoiceOrder.{in_at, none_found, not_itself, not_back}
+use Rattle.am_search.proofs.ChoiceOrder.{in_at}
 
 -- ---- A prefix and the position 0 of each label left.
 
@@ -77,60 +70,6 @@ pub beside_last : (sizes prefix : List ℕ) (p : ℕ) → length prefix < length
 beside_last [] prefix p h = absurd (omega arith)
 beside_last (size ∷ sizes) [] p h = refl
 beside_last (size ∷ sizes) (q ∷ prefix) p h = grind (arith, common_steps, beside_last sizes prefix p)
-
--- ---- The first choice after a whole one.
-
-find_mapped : (test own : List ℕ → Bool) (f : List ℕ → List ℕ) (xs : List (List ℕ)) → ((x : List ℕ) → test (f x) ≡ own x) → find test (map f xs) ≡ option_map f (find own xs)
-find_mapped test own f [] same = refl
-find_mapped test own f (x ∷ xs) same = grind (arith, common_steps, find_mapped test own f xs same)
-
--- among the choices that begin with greater positions, the first one is found
-found_higher : (p first n : ℕ) (c : List ℕ) (cs : List (List ℕ)) (d : List ℕ) (others : List (List ℕ)) → p < first → cs ≡ d ∷ others
-    → find (comes_before (p ∷ c)) (behind first n cs) ≡ cond (nat_lt first (first + n)) (Some (first ∷ d)) None
-found_higher p first zero c cs d others h e = sym (ap (λ b. cond b (Some (first ∷ d)) None) (le-ltb first (first + zero) (omega arith)))
-found_higher p first (suc n) c cs d others h e = grind (arith, common_steps, behind, less_first)
-
-found_behind : (p first n : ℕ) (c : List ℕ) (cs : List (List ℕ)) (d : List ℕ) (others : List (List ℕ)) → first ≤ p → p < first + n → cs ≡ d ∷ others
-    → find (comes_before (p ∷ c)) (behind first n cs) ≡ option_or (option_map (λ t. p ∷ t) (find (comes_before c) cs)) (cond (nat_lt (p + 1) (first + n)) (Some ((p + 1) ∷ d)) None)
-found_behind p first zero c cs d others low high e = absurd (omega arith)
-found_behind p first (suc n) c cs d others low high e =
-    find-append (comes_before (p ∷ c)) (map (λ t. first ∷ t) cs) (behind (first + 1) n cs)
-    ∙ elim (eq-or-lt_of_le low) [
-      | inl same ↦ at_same same
-      | inr less ↦
-          ap (λ o. option_or o (find (comes_before (p ∷ c)) (behind (first + 1) n cs)))
-          (find_mapped (comes_before (p ∷ c)) (λ x. false) (λ t. first ∷ t) cs (λ t. not_back (first ∷ t) (p ∷ c) (ap is_lt (less_first first p t c less)))
-          ∙ ap (option_map (λ t. first ∷ t)) (none_found (λ x. false) cs (λ x i. refl)))
-          ∙ found_behind p (first + 1) n c cs d others (omega (arith, less)) (omega arith) e
-          ∙ ap (λ m. option_or (option_map (λ t. p ∷ t) (find (comes_before c) cs)) (cond (nat_lt (p + 1) m) (Some ((p + 1) ∷ d)) None)) (omega arith)
-    ]
-  where
-    at_same : first ≡ p → option_or (find (comes_before (p ∷ c)) (map (λ t. first ∷ t) cs)) (find (comes_before (p ∷ c)) (behind (first + 1) n cs))
-        ≡ option_or (option_map (λ t. p ∷ t) (find (comes_before c) cs)) (cond (nat_lt (p + 1) (first + suc n)) (Some ((p + 1) ∷ d)) None)
-    at_same same =
-        ap (λ q. option_or (find (comes_before (p ∷ c)) (map (λ t. q ∷ t) cs)) (find (comes_before (p ∷ c)) (behind (q + 1) n cs))) same
-        ∙ ap (λ o. option_or o (find (comes_before (p ∷ c)) (behind (p + 1) n cs)))
-        (find_mapped (comes_before (p ∷ c)) (comes_before c) (λ t. p ∷ t) cs (λ t. ap is_lt (same_first p c t)))
-        ∙ ap (option_or (option_map (λ t. p ∷ t) (find (comes_before c) cs))) (found_higher p (p + 1) n c cs d others (omega arith) e
-        ∙ ap (λ m. cond (nat_lt (p + 1) m) (Some ((p + 1) ∷ d)) None) (omega (arith, same)))
-
-mapped_or : (f g : List ℕ → List ℕ) (h : List ℕ → List ℕ) (o : Option (List ℕ)) (b : Bool) (x : List ℕ) → ((t : List ℕ) → h (g t) ≡ g (f t))
-    → option_or (option_map g (option_map f o)) (cond b (Some (h x)) None) ≡ option_map h (option_or (option_map g o) (cond b (Some x) None))
-mapped_or f g h None true x same = refl
-mapped_or f g h None false x same = refl
-mapped_or f g h (Some t) b x same = ap Some (sym (same t))
-
-pub next_choice_is : (sizes c : List ℕ) → ArePositive sizes → IsWhole sizes c → find (comes_before c) (choices sizes) ≡ option_map (filled sizes) (next_beside sizes c)
-next_choice_is [] [] some w = ap (λ b. cond b (Some []) None) (not_itself [])
-next_choice_is (size ∷ sizes) (p ∷ c) some w =
-    let parts = and_parts (nat_lt p size) (admits sizes c) w.0 in
-    let high : p < 0 + size = grind (arith, nat_tests, parts.0) in
-    let rest = first_choice sizes some.1 in
-    found_behind p 0 size c (choices sizes) (filled sizes []) rest.others (omega arith) high rest.is
-    ∙ ap (λ m. option_or (option_map (λ t. p ∷ t) (find (comes_before c) (choices sizes))) (cond (nat_lt (p + 1) m) (Some ((p + 1) ∷ filled sizes [])) None)) (omega arith)
-    ∙ ap (λ o. option_or (option_map (λ t. p ∷ t) o) (cond (nat_lt (p + 1) size) (Some ((p + 1) ∷ filled sizes [])) None)) (next_choice_is sizes c some.1 (parts.1, omega (arith, w.1)))
-    ∙ mapped_or (filled sizes) (λ t. p ∷ t) (filled (size ∷ sizes)) (next_beside sizes c) (nat_lt (p + 1) size) ((p + 1) ∷ []) (λ t. refl)
-next_choice_is sizes c some w = absurd (omega (arith, w.1))
 
 -- ---- Position by position.
 

@@ -1,17 +1,17 @@
 -- The choices from a start on, and the pages of the answers among them.
-use Rattle.std.proofs.Common.{◌≡◌, ◌↔◌, ℕ, zero, suc, ◌+◌, ◌-◌, ◌<◌, ◌≤◌, Bool, true, false, not, cond, List, [], ◌∷◌, ◌++◌, length, take, drop, get_or, Contains, Option, Some, None, IfSome, MatchOption, codes, ap, sym, subst, ◌∙◌, refl, inl, inr, arith, append-nil, rules}
+use Rattle.std.proofs.Common.{◌≡◌, ◌↔◌, ℕ, ◌+◌, ◌-◌, ◌<◌, ◌≤◌, Bool, true, not, List, [], ◌∷◌, ◌++◌, length, take, drop, get_or, Contains, Option, Some, None, IfSome, MatchOption, codes, ap, sym, subst, ◌∙◌, refl, inl, inr, arith, append-nil, length-drop, rules}
 use Rattle.std.specs.Prelude.{IsTrue}
 use Rattle.std.specs.List.{filter}
 use Rattle.std.specs.List.Sorted.{IsStrictlySortedBy}
-use Rattle.std.specs.Ordering.{nat_cmp, is_lt}
+use Rattle.std.specs.Ordering.{nat_cmp}
 use Rattle.std.specs.Cmp.Lexicographic.{slice_cmp}
-use Rattle.std.proofs.lemmas.Bool.{false_from_ne_true, and_parts, cases_lt}
+use Rattle.std.proofs.lemmas.Bool.{false_from_ne_true, cases_lt}
 use Rattle.std.proofs.lemmas.List.{take-append-drop}
 use Rattle.std.proofs.lemmas.List.Kept.{IsStrictlySortedBy-filter}
 use Rattle.std.proofs.lemmas.Grind.{common_steps}
 use Rattle.am_universe.specs.Choice.{choices, admits, IsWhole}
 use Rattle.am_universe.proofs.ListLemmas.{IsIn, IsIn-from_Contains, Contains-from_IsIn}
-use Rattle.am_universe.proofs.ChoiceLemmas.{choices_sorted, whole_from_in, less_first}
+use Rattle.am_universe.proofs.ChoiceLemmas.{choices_sorted, whole_from_in}
 use Rattle.am_search.specs.declared.start.Start.{Start}
 use Rattle.am_search.specs.declared.start.Start.TheVariants.{At, After}
 use Rattle.am_search.specs.declared.trailer.Trailer.{Trailer}
@@ -21,22 +21,12 @@ use Rattle.am_search.specs.Start.{comes_before, IsStart, first_of_start, at_or_a
 use Rattle.am_search.specs.Page.{AnswerPage, page_ending, page_from, rest_after, IsPage, IsChainOf, IsChain, start_after, all_choices_of}
 use Rattle.am_search.specs.Token.{token_text}
 use Rattle.am_search.specs.TrailerText.{trailer_text}
-use Rattle.am_search.proofs.ChoiceOrder.{Ascends, before_trans, not_back, filter_all, filter_same, in_filter, into_filter, filters_swapped, from_found, after_taken, up_to_taken, taken_last}
+use Rattle.am_search.proofs.ChoiceOrder.{Ascends, before_trans, filter_all, filter_same, in_filter, into_filter, filters_swapped, from_found, after_taken, up_to_taken, taken_last}
 use Rattle.am_search.proofs.Odometer.{filled, first_completion_is, positive}
-use Rattle.am_search.proofs.PrefixOrder.{before_nothing}
-use Rattle.am_search.proofs.Walks.{first_is_whole, one_more}
-use Rattle.am_search.proofs.PageLines.{page_of_part, page_of_all}
+use Rattle.am_search.proofs.Walks.{first_is_whole, before_filled, one_more}
+use Rattle.am_search.proofs.PageLines.{part_page, all_page, page_of_part, page_of_all}
 
 -- ---- The choices from a start on.
-
--- the same whole choices come before a prefix and before its first completion
-before_filled : (ns prefix d : List ℕ) → admits ns prefix ≡ true → length d ≡ length ns → comes_before d (filled ns prefix) ≡ comes_before d prefix
-before_filled [] [] d a e = refl
-before_filled (n ∷ ns) [] (zero ∷ d) a e = before_filled ns [] d refl (omega arith) ∙ before_nothing d
-before_filled (n ∷ ns) [] (suc p ∷ d) a e = not_back (0 ∷ filled ns []) (suc p ∷ d) (ap is_lt (less_first 0 (suc p) (filled ns []) d (omega arith)))
-before_filled (n ∷ ns) (p ∷ prefix) (q ∷ d) a e = search (rules, before_filled ns prefix d, and_parts, filled)
-before_filled [] (p ∷ prefix) d a e = cc
-before_filled (n ∷ ns) prefix [] a e = absurd (omega arith)
 
 pub choices_at : (ns prefix : List ℕ) → AreSizes ns → admits ns prefix ≡ true → choices_from ns (At prefix) ≡ filter (λ c. not (comes_before c prefix)) (choices ns)
 choices_at ns prefix h a =
@@ -108,79 +98,77 @@ after_answer ns c truth start i = grind (arith, common_steps, filters_swapped, a
 -- ---- Pages.
 
 -- a page of a list is cut by its limit, or it has the whole list
-pub record IsPart (xs : List (List ℕ)) (page : AnswerPage) (c : List ℕ) (n : ℕ) : Type 0 where
-  pub choices : page.choices ≡ take n xs
-  pub trailer : page.trailer ≡ Next c
-  pub last : c ≡ get_or xs (n - 1) []
-  pub some : 0 < n
-  pub more : n < length xs
+pub data PageKind (ending : Trailer) (xs : List (List ℕ)) (limit : Option ℕ) (page : AnswerPage) : Type 0 where
+  part : (n : ℕ) → limit ≡ Some n → 0 < n → n < length xs → page ≡ part_page xs n → PageKind ending xs limit page
+  whole : page ≡ all_page ending xs → PageKind ending xs limit page
 
-pub record IsAll (ending : Trailer) (xs : List (List ℕ)) (page : AnswerPage) : Type 0 where
-  pub choices : page.choices ≡ xs
-  pub trailer : page.trailer ≡ ending
-
-pub data PageKind (ending : Trailer) (xs : List (List ℕ)) (page : AnswerPage) : Type 0 where
-  part : (c : List ℕ) (n : ℕ) → IsPart xs page c n → PageKind ending xs page
-  whole : IsAll ending xs page → PageKind ending xs page
-
-pub kind_of : (ending : Trailer) (xs : List (List ℕ)) (limit : Option ℕ) → IfSome limit (λ n. 0 < n) → PageKind ending xs (page_ending ending xs limit)
-kind_of ending xs None h = whole (record { choices = refl; trailer = refl })
+pub kind_of : (ending : Trailer) (xs : List (List ℕ)) (limit : Option ℕ) → IfSome limit (λ n. 0 < n) → PageKind ending xs limit (page_ending ending xs limit)
+kind_of ending xs None h = whole refl
 kind_of ending xs (Some n) h = elim (cases_lt n (length xs)) [
-  | inl more ↦
-      let same = page_of_part ending xs n more in
-      part (get_or xs (n - 1) []) n (record { choices = ap (λ p. p.choices) same; trailer = ap (λ p. p.trailer) same; last = refl; some = h; more = more })
-  | inr few ↦
-      let same = page_of_all ending xs (Some n) few in
-      whole (record { choices = ap (λ p. p.choices) same; trailer = ap (λ p. p.trailer) same })
+  | inl more ↦ part n refl h more (page_of_part ending xs n more)
+  | inr few ↦ whole (page_of_all ending xs (Some n) few)
 ]
 
-page_kind : (ns : List ℕ) (truth : List ℕ → Bool) (start : Start) (page : AnswerPage) → IsPage ns truth start page → PageKind End (answers_from ns truth start) page
-page_kind ns truth start page h = subst (PageKind End (answers_from ns truth start)) (sym h.from_start) (kind_of End (answers_from ns truth start) h.limit h.at_least_one)
+page_kind : (ns : List ℕ) (truth : List ℕ → Bool) (start : Start) (page : AnswerPage) (h : IsPage ns truth start page) → PageKind End (answers_from ns truth start) h.limit page
+page_kind ns truth start page h = subst (PageKind End (answers_from ns truth start) h.limit) (sym h.from_start) (kind_of End (answers_from ns truth start) h.limit h.at_least_one)
 
-rest_of_part : (ns c : List ℕ) (truth : List ℕ → Bool) (start : Start) (page : AnswerPage) (n : ℕ) → IsPart (answers_from ns truth start) page c n → answers_from ns truth (After c) ≡ drop n (answers_from ns truth start)
-rest_of_part ns c truth start page n h = search (rules, taken_last, after_answer, after_taken, answers_sorted)
+-- the answers after the last of the first `n` are the others
+rest_of_part : (ns : List ℕ) (truth : List ℕ → Bool) (start : Start) (n : ℕ) → 0 < n → n < length (answers_from ns truth start)
+    → answers_from ns truth (After (get_or (answers_from ns truth start) (n - 1) [])) ≡ drop n (answers_from ns truth start)
+rest_of_part ns truth start n some more = search (rules, taken_last, after_answer, after_taken, answers_sorted)
 
 pub page_rest : (ns : List ℕ) (truth : List ℕ → Bool) (start : Start) (page : AnswerPage) → IsPage ns truth start page
     → answers_from ns truth start ≡ page.choices ++ rest_after ns truth page.trailer
 page_rest ns truth start page h = elim (page_kind ns truth start page h) [
-  | part c n p ↦
+  | part n e some more is ↦
       let xs : List (List ℕ) = answers_from ns truth start in
-      sym (take-append-drop n xs) ∙ ap (λ l. l ++ drop n xs) (sym p.choices)
-      ∙ ap (λ l. page.choices ++ l) (sym (rest_of_part ns c truth start page n p) ∙ ap (rest_after ns truth) (sym p.trailer))
-  | whole w ↦ sym w.choices ∙ sym (append-nil page.choices) ∙ ap (λ l. page.choices ++ l) (ap (rest_after ns truth) (sym w.trailer))
+      sym (take-append-drop n xs) ∙ ap (λ l. take n xs ++ l) (sym (rest_of_part ns truth start n some more)) ∙ ap (λ p. p.choices ++ rest_after ns truth p.trailer) (sym is)
+  | whole is ↦ sym (append-nil (answers_from ns truth start)) ∙ ap (λ p. p.choices ++ rest_after ns truth p.trailer) (sym is)
 ]
+
+-- a page that ends with `Next` is cut by its limit
+pub record IsPart (xs : List (List ℕ)) (page : AnswerPage) (c : List ℕ) : Type 0 where
+  pub count : ℕ
+  pub some : 0 < count
+  pub more : count < length xs
+  pub choices : page.choices ≡ take count xs
+  pub last : c ≡ get_or xs (count - 1) []
+
+pub next_part : (ns c : List ℕ) (truth : List ℕ → Bool) (start : Start) (page : AnswerPage) → IsPage ns truth start page → page.trailer ≡ Next c → IsPart (answers_from ns truth start) page c
+next_part ns c truth start page h ends = elim (page_kind ns truth start page h) [
+  | part n e some more is ↦
+      let both : Next c ≡ Next (get_or (answers_from ns truth start) (n - 1) []) = sym ends ∙ ap (λ p. p.trailer) is in
+      record { count = n; some = some; more = more; choices = ap (λ p. p.choices) is; last = cc }
+  | whole is ↦ let both : Next c ≡ End = sym ends ∙ ap (λ p. p.trailer) is in cc
+]
+
+-- its last choice is one of the choices from the start on
+pub last_in : (ns c : List ℕ) (truth : List ℕ → Bool) (start : Start) (page : AnswerPage) → IsPage ns truth start page → page.trailer ≡ Next c → IsIn (choices_from ns start) c
+last_in ns c truth start page h ends =
+    let p = next_part ns c truth start page h ends in
+    (in_filter truth (choices_from ns start) c (subst (IsIn (answers_from ns truth start)) (sym p.last) (taken_last (answers_from ns truth start) p.count p.some p.more))).0
 
 pub next_is_start : (ns c : List ℕ) (truth : List ℕ → Bool) (start : Start) (page : AnswerPage) → IsPage ns truth start page → page.trailer ≡ Next c → IsStart ns (After c)
-next_is_start ns c truth start page h e = elim (page_kind ns truth start page h) [
-  | part d n p ↦
-      let xs : List (List ℕ) = answers_from ns truth start in
-      let same : d ≡ c = cc (p.trailer, e) in
-      from_whole ns c start (in_filter truth (choices_from ns start) c (subst (IsIn xs) (sym p.last ∙ same) (taken_last xs n p.some p.more))).0
-  | whole w ↦ cc (w.trailer, e)
-]
+next_is_start ns c truth start page h ends = from_whole ns c start (last_in ns c truth start page h ends)
 
 pub more_left : (ns c : List ℕ) (truth : List ℕ → Bool) (start : Start) (page : AnswerPage) → IsPage ns truth start page → page.trailer ≡ Next c → 0 < length (answers_from ns truth (After c))
-more_left ns c truth start page h e = elim (page_kind ns truth start page h) [
-  | part d n p ↦
-      let xs : List (List ℕ) = answers_from ns truth start in
-      let same : d ≡ c = cc (p.trailer, e) in
-      let rest : answers_from ns truth (After c) ≡ drop n xs = subst (λ b. answers_from ns truth (After b) ≡ drop n xs) same (rest_of_part ns d truth start page n p) in
-      omega (arith, ap length rest, Rattle.std.proofs.Common.length-drop n xs, p.more)
-  | whole w ↦ cc (w.trailer, e)
-]
+more_left ns c truth start page h ends =
+    let p = next_part ns c truth start page h ends in
+    let rest = ap (λ d. answers_from ns truth (After d)) p.last ∙ rest_of_part ns truth start p.count p.some p.more in
+    omega (arith, ap length rest, length-drop p.count (answers_from ns truth start), p.more)
 
 pub up_to_trailer : (ns c : List ℕ) (truth : List ℕ → Bool) (start : Start) (page : AnswerPage) → IsPage ns truth start page → page.trailer ≡ Next c
     → page.choices ≡ filter (λ d. not (comes_before c d)) (answers_from ns truth start)
-up_to_trailer ns c truth start page h e = elim (page_kind ns truth start page h) [
-  | part d n p ↦
-      let xs : List (List ℕ) = answers_from ns truth start in
-      let same : d ≡ c = cc (p.trailer, e) in
-      p.choices ∙ sym (up_to_taken xs n (answers_sorted ns truth start) p.some p.more) ∙ ap (λ b. filter (λ a. not (comes_before b a)) xs) (sym p.last ∙ same)
-  | whole w ↦ cc (w.trailer, e)
-]
+up_to_trailer ns c truth start page h ends =
+    let xs : List (List ℕ) = answers_from ns truth start in
+    let p = next_part ns c truth start page h ends in
+    p.choices ∙ sym (up_to_taken xs p.count (answers_sorted ns truth start) p.some p.more) ∙ ap (λ b. filter (λ a. not (comes_before b a)) xs) (sym p.last)
 
 pub to_the_end : (ns : List ℕ) (truth : List ℕ → Bool) (start : Start) (page : AnswerPage) → IsPage ns truth start page → page.trailer ≡ End → page.choices ≡ answers_from ns truth start
 to_the_end ns truth start page h e = grind (arith, common_steps, page_kind)
+
+pub never_stopped : (ns p : List ℕ) (truth : List ℕ → Bool) (start : Start) (page : AnswerPage) → IsPage ns truth start page → page.trailer ≡ Stopped p → ⊥
+never_stopped ns p truth start page h ends = grind (arith, common_steps, page_kind)
 
 pub within_limit : (ns : List ℕ) (truth : List ℕ → Bool) (start : Start) (n : ℕ)
     → length (page_from ns truth start (Some n)).choices ≤ n

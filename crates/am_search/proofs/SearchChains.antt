@@ -1,6 +1,6 @@
 -- Consecutive pages of searches, under budgets that are enough: which choices they have together,
 -- and that they come to an end.
-use Rattle.std.proofs.Common.{◌≡◌, ℕ, ◌<◌, ◌≤◌, Bool, true, false, not, nat_eq, ◌-◌, get_or, List, [], ◌∷◌, ◌++◌, length, Option, Some, None, IfSome, MatchOption, ap, sym, subst, ◌∙◌, refl, inl, inr, arith, rules}
+use Rattle.std.proofs.Common.{◌≡◌, ℕ, ◌<◌, ◌≤◌, Bool, true, false, not, nat_eq, ◌-◌, List, [], ◌∷◌, ◌++◌, length, Option, Some, None, MatchOption, ap, sym, subst, ◌∙◌, refl, inl, inr, arith, rules}
 use Rattle.std.specs.List.{filter, starts_with}
 use Rattle.std.proofs.lemmas.Grind.{common_steps}
 use Rattle.am_universe.specs.Choice.{choices, admits}
@@ -8,20 +8,21 @@ use Rattle.am_universe.specs.Completions.{completions}
 use Rattle.am_universe.proofs.ListLemmas.{IsIn}
 use Rattle.am_search.specs.declared.start.Start.{Start}
 use Rattle.am_search.specs.declared.start.Start.TheVariants.{At, After}
-use Rattle.am_search.specs.declared.trailer.Trailer.TheVariants.{End}
+use Rattle.am_search.specs.declared.trailer.Trailer.{Trailer}
+use Rattle.am_search.specs.declared.trailer.Trailer.TheVariants.{End, Next, Stopped}
 use Rattle.am_search.specs.declared.verdict.Verdict.{Verdict}
 use Rattle.am_search.specs.Judge.{AreSizes, IsJudge}
 use Rattle.am_search.specs.Start.{comes_before, IsStart, first_of_start, at_or_after, choices_from, answers_from}
 use Rattle.am_search.specs.Visits.{visited}
-use Rattle.am_search.specs.Page.{AnswerPage, page_from, rest_after, IsPage, start_after, all_choices_of}
-use Rattle.am_search.specs.BudgetPage.{page_under, IsSearchPage, IsSearchChain, BeginsLater}
-use Rattle.am_search.proofs.ChoiceOrder.{got_at, filter_step, in_filter, taken_last, not_itself, before_trans}
+use Rattle.am_search.specs.Page.{AnswerPage, rest_after, IsPage, start_after, all_choices_of}
+use Rattle.am_search.specs.BudgetPage.{IsSearchPage, IsSearchChain, BeginsLater}
+use Rattle.am_search.proofs.ChoiceOrder.{got_at, filter_step, in_filter, not_itself, before_trans}
 use Rattle.am_search.proofs.Odometer.{ArePositive, positive, filled, first_completion_is}
 use Rattle.am_search.proofs.PrefixOrder.{before_begins}
 use Rattle.am_search.proofs.Walks.{in_choices, first_is_whole, completion_whole}
 use Rattle.am_search.proofs.VisitedPrefixes.{member_some}
 use Rattle.am_search.proofs.VisitsBound.{kept_all, kept_more}
-use Rattle.am_search.proofs.Pages.{pages_joined, choices_after, begins_with, next_is_start, more_left, part, whole, kind_of}
+use Rattle.am_search.proofs.Pages.{pages_joined, choices_after, begins_with, next_is_start, more_left, last_in, never_stopped}
 use Rattle.am_search.proofs.BudgetPages.{begun, visited_is, past_first, under_kind, without, stopped, rest_under, stays_from, enough_steps}
 
 -- ---- Lists of which fewer pass.
@@ -104,41 +105,32 @@ pub record GoesOn (ns : List ℕ) (start next : Start) : Type 0 where
   pub is_start : IsStart ns next
   pub later : BeginsLater ns start next
 
-in_answers : (ns c : List ℕ) (truth : List ℕ → Bool) (start : Start) (n : ℕ) → 0 < n → n < length (answers_from ns truth start) → c ≡ get_or (answers_from ns truth start) (n - 1) []
-    → IsIn (choices_from ns start) c
-in_answers ns c truth start n some more last =
-    (in_filter truth (choices_from ns start) c (subst (IsIn (answers_from ns truth start)) (sym last) (taken_last (answers_from ns truth start) n some more))).0
-
 some_answer : (truth : List ℕ → Bool) (cs : List (List ℕ)) → 0 < length (filter truth cs) → 0 < length cs
 some_answer truth cs h = omega (arith, h, kept_all truth cs)
 
-goes_on_from : (ns : List ℕ) (truth : List ℕ → Bool) (start next : Start) (limit : Option ℕ) → IfSome limit (λ n. 0 < n)
-    → start_after (page_from ns truth start limit).trailer ≡ Some next → GoesOn ns start next
-goes_on_from ns truth start next limit some e = elim (kind_of End (answers_from ns truth start) limit some) [
-  | whole w ↦ let none : None ≡ Some next = sym (ap start_after w.trailer) ∙ e in cc
-  | part c n h ↦
-      let both : Some (After c) ≡ Some next = sym (ap start_after h.trailer) ∙ e in
-      let same : After c ≡ next = cc in
-      let is_page : IsPage ns truth start (page_from ns truth start limit) = record { limit = limit; at_least_one = some; from_start = refl } in
-      subst (GoesOn ns start) same (record {
-        is_start = next_is_start ns c truth start (page_from ns truth start limit) is_page h.trailer;
-        later = after_later ns c start (in_answers ns c truth start n h.some h.more h.last)
-            (some_answer truth (choices_from ns (After c)) (more_left ns c truth start (page_from ns truth start limit) is_page h.trailer));
-      })
-]
+goes_on_from : (ns : List ℕ) (truth : List ℕ → Bool) (start next : Start) (page : AnswerPage) → IsPage ns truth start page → start_after page.trailer ≡ Some next → GoesOn ns start next
+goes_on_from ns truth start next page is_page e = by page.trailer refl e
+  where
+    by : (t : Trailer) → page.trailer ≡ t → start_after t ≡ Some next → GoesOn ns start next
+    by End ends after = cc
+    by (Next c) ends after = let same : After c ≡ next = cc in subst (GoesOn ns start) same (record {
+      is_start = next_is_start ns c truth start page is_page ends;
+      later = after_later ns c start (last_in ns c truth start page is_page ends)
+          (some_answer truth (choices_from ns (After c)) (more_left ns c truth start page is_page ends));
+    })
+    by (Stopped p) ends after = absurd (never_stopped ns p truth start page is_page ends)
 
 module _ (ns : List ℕ) (truth : List ℕ → Bool) (verdict : List ℕ → Verdict) (start : Start) (page : AnswerPage) (law : IsJudge ns truth verdict) (h : IsSearchPage ns verdict start page) where
   pub goes_on : (next : Start) → start_after page.trailer ≡ Some next → GoesOn ns start next
   goes_on next e =
-      let here : start_after (page_under ns verdict start h.limit h.budget).trailer ≡ Some next = ap (λ p. start_after p.trailer) (sym h.from_start) ∙ e in
       elim (under_kind ns truth verdict start law h.limit h.budget h.at_least_one) [
-        | without same ↦ goes_on_from ns truth start next h.limit h.at_least_one (ap (λ p. start_after p.trailer) (sym same) ∙ here)
-        | stopped k p is at_k ends has ↦
-            let both : Some (At p) ≡ Some next = sym (ap start_after ends) ∙ here in
-            let same : At p ≡ next = cc in
+        | without same ↦ goes_on_from ns truth start next page (record { limit = h.limit; at_least_one = h.at_least_one; from_start = h.from_start ∙ same }) e
+        | stopped k p is at_k same ↦
+            let both : Some (At p) ≡ Some next = sym (ap (λ q. start_after q.trailer) (h.from_start ∙ same)) ∙ e in
+            let next_is : At p ≡ next = cc in
             let begins = begun ns verdict start k p at_k in
             let admitted = (visited_is ns verdict start k p at_k p (got_at (visited ns verdict start) k p at_k)).admitted in
-            subst (GoesOn ns start) same (record {
+            subst (GoesOn ns start) next_is (record {
               is_start = admitted;
               later = at_later ns begins.first p start (positive ns law.limits.values) begins.begins admitted
                   (past_first ns verdict start k p at_k (enough_steps ns truth verdict start h.limit h.budget law h.at_least_one h.enough k is));

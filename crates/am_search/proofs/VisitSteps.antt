@@ -14,7 +14,7 @@ use Rattle.am_search.specs.Judge.{is_open}
 use Rattle.am_search.specs.Start.{comes_before, first_of_start}
 use Rattle.am_search.specs.Visits.{visited}
 use Rattle.am_search.specs.NextPrefix.{next_beside}
-use Rattle.am_search.proofs.ChoiceOrder.{got_at, Ascends, above_first, ascends_rest, not_itself, not_back, before_trans}
+use Rattle.am_search.proofs.ChoiceOrder.{got_at, Ascends, above_first, ascends_rest, first_is, not_itself, not_back, before_trans}
 use Rattle.am_search.proofs.Odometer.{ArePositive, positive_at}
 use Rattle.am_search.proofs.PrefixOrder.{begins_same, begins_parts, begins_pushed, before_pushed, before_begins, before_beside, between_pushed, begins_one, fronts_pushed, front_passes}
 use Rattle.am_search.proofs.NextPrefix.{beside_is, none_beside}
@@ -22,18 +22,13 @@ use Rattle.am_search.proofs.VisitedPrefixes.{visited_sorted, in_visited, into_vi
 
 -- ---- One after another in a list that ascends.
 
-second_is : (p : List ℕ) (xs : List (List ℕ)) (next : List ℕ) → Ascends (p ∷ xs) → IsIn xs next
-    → ((x : List ℕ) → IsIn (p ∷ xs) x → comes_before p x ≡ true → comes_before x next ≡ false) → slice_get xs 0 ≡ Some next
-second_is p [] next s i least = absurd i
-second_is p (y ∷ ys) next s (inl e) least = ap Some e
-second_is p (y ∷ ys) next s (inr i) least =
-    absurd (false≢true (sym (least y (inr (inl refl)) (above_first p (y ∷ ys) y s (inl refl))) ∙ above_first y ys next (ascends_rest p (y ∷ ys) s) i))
-
 pub next_at : (xs : List (List ℕ)) (k : ℕ) (p next : List ℕ) → Ascends xs → slice_get xs k ≡ Some p → IsIn xs next → comes_before p next ≡ true
     → ((x : List ℕ) → IsIn xs x → comes_before p x ≡ true → comes_before x next ≡ false) → slice_get xs (suc k) ≡ Some next
 next_at [] k p next s e i less least = absurd i
 next_at (x ∷ xs) zero p next s e (inl same) less least = grind (arith, common_steps, not_itself)
-next_at (x ∷ xs) zero p next s e (inr i) less least = grind (arith, common_steps, second_is)
+next_at (x ∷ xs) zero p next s e (inr i) less least =
+    let here : x ≡ p = cc in
+    first_is xs next (ascends_rest x xs s) i (λ y j. least y (inr j) (ap (λ q. comes_before q y) (sym here) ∙ above_first x xs y s j))
 next_at (x ∷ xs) (suc k) p next s e (inl same) less least = grind (arith, common_steps, above_first, got_at, not_back)
 next_at (x ∷ xs) (suc k) p next s e (inr i) less least = next_at xs k p next (ascends_rest x xs s) e i less (λ y j. least y (inr j))
 

@@ -23,12 +23,12 @@ use Rattle.am_search.specs.Visits.{all_prefixes, is_visited, visited, given_at, 
 use Rattle.am_search.specs.NextPrefix.{next_beside}
 use Rattle.am_search.specs.Walk.{if_begins, first_position, IsJudging, IsGiving, IsDone, IsWalk}
 use Rattle.am_search.proofs.ChoiceOrder.{got_at, none_found, Ascends, not_itself, not_back, filter_all, filter_step, from_first, member_then_rest}
-use Rattle.am_search.proofs.Odometer.{ArePositive, positive, admits_at_most, filled, first_completion_is, next_choice_is}
+use Rattle.am_search.proofs.Odometer.{ArePositive, positive, admits_at_most, filled, first_completion_is}
 use Rattle.am_search.proofs.PrefixOrder.{before_begins, before_beside, begins_front, taken_is, begins_length, begins_whole, begins_behind, begins_through}
 use Rattle.am_search.proofs.NextPrefix.{IsBeside, beside_is, none_beside, none_of_front, beside_front, beside_begins}
 use Rattle.am_search.proofs.VisitedPrefixes.{IsVisited, none_visited, in_completions, reached}
 use Rattle.am_search.proofs.VisitSteps.{taken_pushed, past_length, begins_next, judged_is, open_along, open_behind, closed_next, closed_none}
-use Rattle.am_search.proofs.Walks.{first_is_whole, completion_whole}
+use Rattle.am_search.proofs.Walks.{first_is_whole, completion_whole, next_choice_is}
 
 -- ---- Where completions begin.
 

@@ -31,7 +31,7 @@ module _ {J : Type 0} {j : Ghosts J} where
 
   -- The prefixes that were judged, in order.
   abbrev pub answers_judged : Answers J j → List (List ℕ)
-  answers_judged a = a.judged
+  answers_judged a = a.judged.items
 
   -- The answers that were given, in order.
   abbrev pub answers_given : Answers J j → List (List ℕ)

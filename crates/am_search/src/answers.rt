@@ -13,7 +13,6 @@ ghost use Rattle.am_search.specs.NextPrefix.{next_beside};
 ghost use Rattle.am_search.specs.Walk.{IsWalk, IsLeft, IsAtStop, first_position};
 ghost use Rattle.std.proofs.Props.{props};
 
-use crate::judged::Judged;
 use crate::stage::Stage;
 use crate::{Judge, Start, Verdict};
 use am_universe::{Choice, History, Position};
@@ -52,11 +51,12 @@ pub struct Answers<'a, J: Judge> {
     // The choice at which the start begins, if that choice begins with the current prefix. After
     // that, every prefix has a completion from the start on, so none is compared with the start.
     along: Option<Choice>,
-    judged: Judged,
+    // Only clauses see which prefixes were judged, in order, and which choices were given.
+    judged: History<Choice>,
     given: History<Choice>,
     ghost walk: { IsWalk (J.sizes judge.now) (J.verdict judge.now) start stage current along
-        judged given.items } by { Prim.hlevel props },
-    ghost steps: { IsLeft budget left judged } by { Prim.hlevel props },
+        judged.items given.items } by { Prim.hlevel props },
+    ghost steps: { IsLeft budget left judged.items } by { Prim.hlevel props },
     ghost ended: { state ≡ Ended → stage ≡ Done },
     ghost stopped: { (prefix : List ℕ) → state ≡ Stopped prefix
         → IsAtStop stage current left prefix } by { Prim.hlevel props },
@@ -97,7 +97,7 @@ impl<'a, J: Judge> Answers<'a, J> {
             stage,
             current: Choice::empty(),
             along,
-            judged: Judged::none(),
+            judged: History::new(),
             given: History::new(),
         }
     }
@@ -132,7 +132,7 @@ impl<'a, J: Judge> Answers<'a, J> {
         ensures state { answers_state self.new ≡ answers_state self.old }
     {
         let verdict = self.judge.judge(&self.current);
-        self.judged.tick(&self.current);
+        self.judged = self.judged.followed_by(&[self.current]);
         self.left = one_less(self.left);
         match verdict {
             Verdict::Open => {

@@ -22,9 +22,8 @@ mod trailer;
 pub use start::Start;
 pub use trailer::Trailer;
 
-// The answers from a start on, and what has been judged on the way.
+// The answers from a start on.
 mod answers;
-mod judged;
 mod stage;
 
 pub use answers::{Answers, State, first};

@@ -60,9 +60,9 @@ fn write_lines<J: Judge, W: Sink>(
         if room == Some(0) {
             return Ok(Trailer::Next(last));
         }
+        room = one_less(room);
         table.write_line(&choice, out)?;
         last = choice;
-        room = one_less(room);
     }
     Ok(trailer_of(answers.state()))
 }

@@ -1,8 +1,9 @@
 use Rattle.std.proofs.Common.{ap, sym, ◌∙◌, arith}
 use Rattle.std.specs.Prelude.{option_map}
 use Rattle.std.proofs.lemmas.Grind.{common_steps}
-use Rattle.am_search.proofs.Odometer.{filled, next_choice_is, positive, first_completion_is}
+use Rattle.am_search.proofs.Odometer.{filled, positive, first_completion_is}
 use Rattle.am_search.proofs.NextPrefix.{beside_is}
+use Rattle.am_search.proofs.Walks.{next_choice_is}
 use Rattle.am_search.proofs.answers.choice_after.Goals as goal
 
 pub complete-requires : goal.complete-requires

@@ -8,8 +8,8 @@ use Rattle.am_search.proofs.answers.Answers.from.Goals as goal
 pub invariant_of-result : goal.invariant_of-result
 invariant_of-result g c =
     record {
-      walk = walk_begins c.args.start (g.met.J.Judge.laws c.args.judge.now) _ c.first_choice-along.ensures c.first_stage-stage.ensures c.empty.ensures.no_position c.none.ensures.nothing c.new.ensures.nothing;
-      steps = left_first c.args.steps _ c.none.ensures.nothing;
+      walk = walk_begins c.args.start (g.met.J.Judge.laws c.args.judge.now) _ c.first_choice-along.ensures c.first_stage-stage.ensures c.empty.ensures.no_position c.new.ensures.nothing c.new-2.ensures.nothing;
+      steps = left_first c.args.steps _ c.new.ensures.nothing;
       ended = λ e. cc;
       stopped = λ prefix e. cc;
     }

@@ -22,8 +22,8 @@ invariant_of-self g c =
     let a = c.args.self.now in
     record {
       walk = opened (g.met.J.Judge.laws a.judge.now) a.walk c.requires.stage (sym c.judge-verdict.ensures.verdict ∙ c.in-Open.is)
-          c.len.ensures.len c.position_along-position.ensures c.push.ensures.added c.tick.ensures.judged;
-      steps = left_after a.budget a.left c.one_less-self.result a.judged c.tick.new.self a.current a.steps c.one_less-self.ensures c.tick.ensures.judged;
+          c.len.ensures.len c.position_along-position.ensures c.push.ensures.added c.followed_by-self.ensures.joined;
+      steps = left_after a.budget a.left c.one_less-self.result a.judged.items _ a.current a.steps c.one_less-self.ensures c.followed_by-self.ensures.joined;
       ended = a.ended;
       stopped = λ prefix e. absurd (c.requires.left (a.stopped prefix e).2);
     }
@@ -36,8 +36,8 @@ invariant_of-self-in-Yes g c =
     let a = c.args.self.now in
     record {
       walk = confirmed (g.met.J.Judge.laws a.judge.now) a.walk c.requires.stage (sym c.judge-verdict.ensures.verdict ∙ c.in-Yes.is)
-          c.len-in-Yes.ensures.len c.complete_along.ensures c.tick.ensures.judged;
-      steps = left_after a.budget a.left c.one_less-self.result a.judged c.tick.new.self a.current a.steps c.one_less-self.ensures c.tick.ensures.judged;
+          c.len-in-Yes.ensures.len c.complete_along.ensures c.followed_by-self.ensures.joined;
+      steps = left_after a.budget a.left c.one_less-self.result a.judged.items _ a.current a.steps c.one_less-self.ensures c.followed_by-self.ensures.joined;
       ended = λ ended. let past = a.ended ended in let judging = c.requires.stage in cc;
       stopped = λ prefix e. absurd (c.requires.left (a.stopped prefix e).2);
     }
@@ -49,8 +49,8 @@ pub invariant_of-self-then-not-go_beside : goal.invariant_of-self-then-not-go_be
 invariant_of-self-then-not-go_beside g c =
     let a = c.args.self.now in
     record {
-      walk = denied_last (g.met.J.Judge.laws a.judge.now) a.walk c.requires.stage (sym c.judge-verdict.ensures.verdict ∙ c.in-No.is) c.if-not-go_beside.ensures c.tick.ensures.judged;
-      steps = left_after a.budget a.left c.one_less-self.result a.judged c.tick.new.self a.current a.steps c.one_less-self.ensures c.tick.ensures.judged;
+      walk = denied_last (g.met.J.Judge.laws a.judge.now) a.walk c.requires.stage (sym c.judge-verdict.ensures.verdict ∙ c.in-No.is) c.if-not-go_beside.ensures c.followed_by-self.ensures.joined;
+      steps = left_after a.budget a.left c.one_less-self.result a.judged.items _ a.current a.steps c.one_less-self.ensures c.followed_by-self.ensures.joined;
       ended = λ ended. refl;
       stopped = λ prefix e. absurd (c.requires.left (a.stopped prefix e).2);
     }
@@ -59,8 +59,8 @@ pub invariant_of-self-else-not-go_beside : goal.invariant_of-self-else-not-go_be
 invariant_of-self-else-not-go_beside g c =
     let a = c.args.self.now in
     record {
-      walk = denied (g.met.J.Judge.laws a.judge.now) a.walk c.requires.stage (sym c.judge-verdict.ensures.verdict ∙ c.in-No.is) c.if-not-go_beside.ensures c.tick.ensures.judged;
-      steps = left_after a.budget a.left c.one_less-self.result a.judged c.tick.new.self a.current a.steps c.one_less-self.ensures c.tick.ensures.judged;
+      walk = denied (g.met.J.Judge.laws a.judge.now) a.walk c.requires.stage (sym c.judge-verdict.ensures.verdict ∙ c.in-No.is) c.if-not-go_beside.ensures c.followed_by-self.ensures.joined;
+      steps = left_after a.budget a.left c.one_less-self.result a.judged.items _ a.current a.steps c.one_less-self.ensures c.followed_by-self.ensures.joined;
       ended = a.ended;
       stopped = λ prefix e. absurd (c.requires.left (a.stopped prefix e).2);
     }

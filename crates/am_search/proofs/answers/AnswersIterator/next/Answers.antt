@@ -31,7 +31,7 @@ returns-in-Giving-clause-judged g c = search (rules, part_of_search)
 
 pub returns-in-Giving-clause-last : goal.returns-in-Giving-clause-last
 returns-in-Giving-clause-last g c =
-    subst (BeginsWithLast c.give_next.new.self.judged) (sym c.give_next.ensures.choice)
+    subst (BeginsWithLast c.give_next.new.self.judged.items) (sym c.give_next.ensures.choice)
     (subst (λ j. BeginsWithLast j c.loop-self.self.current) (sym c.give_next.ensures.judged) (begins_with_last c.in-Giving.depth c.loop-self.self.walk c.in-Giving.is))
 
 pub returns-clause-first : goal.returns-clause-first

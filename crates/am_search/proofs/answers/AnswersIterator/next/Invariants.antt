@@ -10,10 +10,10 @@ invariant-loop-self g l = record {
   budget : l.self.budget ≡ l.fn.self.budget;
   state : l.self.state ≡ l.fn.self.state;
   given : l.self.given.items ≡ l.fn.self.given.items;
-  judged : length l.fn.self.judged ≤ length l.self.judged;
+  judged : length l.fn.self.judged.items ≤ length l.self.judged.items;
 }
 
 abbrev pub decreases-loop-self : goal.decreases-loop-self
 decreases-loop-self g l =
     length (visited (g.J.Judge.sizes l.self.judge.now) (g.J.Judge.verdict l.self.judge.now) l.self.start)
-    - length l.self.judged
+    - length l.self.judged.items
