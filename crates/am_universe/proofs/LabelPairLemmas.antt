@@ -1,16 +1,15 @@
 -- The pairs of a choice, label by label, and the label set that they make.
-use Rattle.std.proofs.Common.{◌≡◌, ◌≢◌, ℕ, zero, suc, ◌+◌, ◌<◌, false, cond, List, [], ◌∷◌, ◌++◌, length, take, Option, Some, None, option_map, slice_get, slice_index, option_and_then, ap, sym, ◌∙◌, refl, subst, arith, add-one}
+use Rattle.std.proofs.Common.{◌≡◌, ◌≢◌, ℕ, zero, suc, ◌+◌, ◌<◌, false, cond, List, [], ◌∷◌, ◌++◌, length, take, Option, Some, None, option_map, slice_get, slice_index, option_and_then, ap, sym, ◌∙◌, refl, subst, arith}
 use Rattle.std.specs.Ordering.{nat_cmp}
-use Rattle.std.specs.Cmp.Lexicographic.{slice_cmp, nat_list_cmp_total}
+use Rattle.std.specs.Cmp.Lexicographic.{slice_cmp}
 use Rattle.std.specs.List.{AllByRecursion, IsDistinct}
-use Rattle.std.specs.FinMap.{find, from_entries, from_entries_push, nat_cmp-IsAntisymmetric, slice_cmp-IsAntisymmetric}
-use Rattle.std.proofs.lemmas.List.{append-nil}
+use Rattle.std.specs.FinMap.{find}
 use Rattle.std.proofs.lemmas.Option.{slice_get-get_or, slice_get-map}
 use Rattle.std.proofs.lemmas.Map.Keys.{IsDistinct-head, IsDistinct-tail}
 use Rattle.am_universe.specs.Text.{same_text}
 use Rattle.am_universe.specs.Universe.{Label, Values, IsLabel, IsUniverse, names, is_empty_text}
-use Rattle.am_universe.specs.LabelSet.{LabelMap, with_value, value_at, with_label, label_pairs, label_set_of}
-use Rattle.am_universe.proofs.LabelMapLemmas.{with_text, flips}
+use Rattle.am_universe.specs.LabelSet.{value_at, with_label, label_pairs}
+use Rattle.am_universe.proofs.LabelMapLemmas.{flips}
 
 -- ---- Labels by their places.
 
@@ -67,22 +66,6 @@ none_of_others [] c q h = refl
 none_of_others (m ∷ u) [] q h = refl
 none_of_others (m ∷ u) (p ∷ c) q h = find_before q m.name (value_at m p) (label_pairs u c) h.0 ∙ none_of_others u c q h.1
 
--- ---- Their label set.
-
--- The set with this value of a label, if there is a value.
-abbrev pub with_maybe : LabelMap → List ℕ → Option (List ℕ) → LabelMap
-with_maybe s name None = s
-with_maybe s name (Some value) = with_value s name value
-
-from_pairs-push : (pairs : List (List ℕ × List ℕ)) (name : List ℕ) (value : Option (List ℕ)) → find (slice_cmp nat_cmp) name pairs ≡ None → value ≢ Some [] → from_entries {R = slice_cmp nat_cmp} (pairs ++ with_label name value []) ≡ with_maybe (from_entries pairs) name value
-from_pairs-push pairs name None new some = ap from_entries (append-nil pairs)
-from_pairs-push pairs name (Some v) new some = from_entries_push nat_list_cmp_total (slice_cmp-IsAntisymmetric nat_cmp-IsAntisymmetric) pairs name v new ∙ sym (with_text (from_entries pairs) name v (λ e. some (ap Some e)))
-
-pub label_set_of-more : (u : List Label) (c : List ℕ) (i : ℕ) (l : Label) (p : ℕ) → IsUniverse u → slice_get u i ≡ Some l → slice_get c i ≡ Some p → label_set_of (take (i + 1) u) (take (i + 1) c) ≡ with_maybe (label_set_of (take i u) (take i c)) l.name (value_at l p)
-label_set_of-more u c i l p h e f =
-    let new = none_of_others (take i u) (take i c) l.name (AreOthers-before u i l h.distinct e) in
-    rw add-one (ap from_entries (label_pairs-more u c i l p e f) ∙ from_pairs-push (label_pairs (take i u) (take i c)) l.name (value_at l p) new (value_at-text u i l p h e))
-
 -- ---- The label at i, for which a choice has the position p, and the value there.
 
 pub record Chosen (u : List Label) (c : List ℕ) (i p : ℕ) (value : Option (List ℕ)) : Type 0 where
@@ -105,17 +88,3 @@ pub name_at : (u : List Label) (i : ℕ) (l : Label) (name : List ℕ) → slice
 name_at u i l name at named =
     let same : Some l.name ≡ Some name = sym (sym named ∙ slice_get-map (λ l. l.name) u i ∙ ap (option_map (λ l. l.name)) at) in
     cc
-
--- ---- One turn: s is the set of the first i labels.
-
-pub turn_with : (u : List Label) (c : List ℕ) (i p : ℕ) (s : LabelMap) (name text : List ℕ) → IsUniverse u → length c ≡ length u → i < length u → p ≡ slice_index c i → s ≡ label_set_of (take i u) (take i c) → slice_get (names u) i ≡ Some name → Some text ≡ option_and_then (λ l. value_at l p) (slice_get u i) → with_value s name text ≡ label_set_of (take (i + 1) u) (take (i + 1) c)
-turn_with u c i p s name text h whole k is so named valued =
-    let here = chosen u c i p (Some text) whole k is valued in
-    let before : LabelMap = label_set_of (take i u) (take i c) in
-    ap (λ t. with_value t name text) so ∙ ap (λ n. with_value before n text) (sym (name_at u i here.label name here.at named))
-    ∙ sym (label_set_of-more u c i here.label p h here.at here.picked ∙ ap (with_maybe before here.label.name) here.valued)
-
-pub turn_without : (u : List Label) (c : List ℕ) (i p : ℕ) (s : LabelMap) → IsUniverse u → length c ≡ length u → i < length u → p ≡ slice_index c i → s ≡ label_set_of (take i u) (take i c) → None ≡ option_and_then (λ l. value_at l p) (slice_get u i) → s ≡ label_set_of (take (i + 1) u) (take (i + 1) c)
-turn_without u c i p s h whole k is so valued =
-    let here = chosen u c i p None whole k is valued in
-    so ∙ sym (label_set_of-more u c i here.label p h here.at here.picked ∙ ap (with_maybe (label_set_of (take i u) (take i c)) here.label.name) here.valued)

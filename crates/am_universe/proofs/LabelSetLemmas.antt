@@ -1,17 +1,18 @@
--- The values of labels in the label set of a choice.
-use Rattle.std.proofs.Common.{◌≡◌, ℕ, zero, suc, true, false, cond, List, [], ◌∷◌, Option, Some, None, unwrap_or, slice_get, Contains, ap, sym, ◌∙◌, refl, subst, inl, inr}
+-- The label set of a choice: the values of labels in it, and how it is made label by label.
+use Rattle.std.proofs.Common.{◌≡◌, ◌≢◌, ℕ, zero, suc, ◌+◌, ◌<◌, true, false, cond, List, [], ◌∷◌, ◌++◌, length, take, slice_index, option_and_then, Option, Some, None, unwrap_or, slice_get, Contains, ap, sym, ◌∙◌, refl, subst, inl, inr}
 use Rattle.std.specs.Ordering.{nat_cmp}
 use Rattle.std.specs.Cmp.Lexicographic.{slice_cmp, nat_list_cmp_total, bytes_decides}
 use Rattle.std.specs.List.{AllByRecursion, IsDistinct}
-use Rattle.std.specs.FinMap.{find, get-from_entries}
+use Rattle.std.specs.FinMap.{find, from_entries, from_entries_push, get-from_entries, nat_cmp-IsAntisymmetric, slice_cmp-IsAntisymmetric}
 use Rattle.std.proofs.lemmas.Bool.{cases_Bool}
 use Rattle.std.proofs.lemmas.Map.Keys.{IsDistinct-head, IsDistinct-tail}
 use Rattle.am_universe.specs.Text.{same_text}
 use Rattle.am_universe.specs.Universe.{Label, IsUniverse, names}
-use Rattle.am_universe.specs.LabelSet.{value_of, value_at, with_label, label_pairs, label_set_of}
-use Rattle.am_universe.proofs.LabelMapLemmas.{flips}
+use Rattle.am_universe.specs.LabelSet.{LabelMap, value_of, with_value, value_at, with_label, label_pairs, label_set_of}
+use Rattle.am_universe.proofs.LabelMapLemmas.{flips, with_text}
 use Rattle.am_universe.proofs.ListLemmas.{IsIn, Contains-from_IsIn}
-use Rattle.am_universe.proofs.LabelPairLemmas.{AreOthers, apart_from_first, find_before, none_of_others}
+use Rattle.am_universe.proofs.LabelPairLemmas.{AreOthers, AreOthers-before, apart_from_first, value_at-text, find_before, none_of_others, chosen, name_at}
+use Rattle.am_universe.proofs.SetTextLemmas.{next_pair, no_pair}
 
 pub same_text-itself : (a : List ℕ) → same_text a a ≡ true
 same_text-itself a = (bytes_decides a a).1 refl
@@ -53,3 +54,20 @@ value_of_declared u c i label p h e f = ap (λ o. unwrap_or o []) (get-from_entr
 
 pub value_of_undeclared : (u : List Label) (c name : List ℕ) → (Contains (names u) name → ⊥) → value_of (label_set_of u c) name ≡ []
 value_of_undeclared u c name h = ap (λ o. unwrap_or o []) (get-from_entries nat_list_cmp_total (label_pairs u c) name ∙ none_of_others u c name (AreOthers-undeclared u name (λ i. h (Contains-from_IsIn (names u) name i))))
+
+-- ---- One turn: s is the set of the first i labels.
+
+from_pairs-push : (pairs : List (List ℕ × List ℕ)) (name value : List ℕ) → find (slice_cmp nat_cmp) name pairs ≡ None → value ≢ [] → from_entries {R = slice_cmp nat_cmp} (pairs ++ (name, value) ∷ []) ≡ with_value (from_entries pairs) name value
+from_pairs-push pairs name value new some = from_entries_push nat_list_cmp_total (slice_cmp-IsAntisymmetric nat_cmp-IsAntisymmetric) pairs name value new ∙ sym (with_text (from_entries pairs) name value some)
+
+pub turn_with : (u : List Label) (c : List ℕ) (i p : ℕ) (s : LabelMap) (name text : List ℕ) → IsUniverse u → length c ≡ length u → i < length u → p ≡ slice_index c i → s ≡ label_set_of (take i u) (take i c) → slice_get (names u) i ≡ Some name → Some text ≡ option_and_then (λ l. value_at l p) (slice_get u i) → with_value s name text ≡ label_set_of (take (i + 1) u) (take (i + 1) c)
+turn_with u c i p s name text h whole k is so named valued =
+    let here = chosen u c i p (Some text) whole k is valued in
+    let pairs : List (List ℕ × List ℕ) = label_pairs (take i u) (take i c) in
+    let new : find (slice_cmp nat_cmp) name pairs ≡ None =
+    subst (λ n. find (slice_cmp nat_cmp) n pairs ≡ None) (name_at u i here.label name here.at named) (none_of_others (take i u) (take i c) here.label.name (AreOthers-before u i here.label h.distinct here.at)) in
+    ap (λ t. with_value t name text) so ∙ sym (from_pairs-push pairs name text new (λ e. value_at-text u i here.label p h here.at (here.valued ∙ ap Some e)))
+    ∙ ap from_entries (sym (next_pair u c i p name text whole k is named valued))
+
+pub turn_without : (u : List Label) (c : List ℕ) (i p : ℕ) (s : LabelMap) → length c ≡ length u → i < length u → p ≡ slice_index c i → s ≡ label_set_of (take i u) (take i c) → None ≡ option_and_then (λ l. value_at l p) (slice_get u i) → s ≡ label_set_of (take (i + 1) u) (take (i + 1) c)
+turn_without u c i p s whole k is so valued = so ∙ ap from_entries (sym (no_pair u c i p whole k is valued))

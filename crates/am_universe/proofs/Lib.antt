@@ -10,7 +10,6 @@ pub mod CompletionLemmas
 pub mod LabelPairLemmas
 pub mod UniverseLemmas
 pub mod LabelFaultLemmas
-pub mod AdmittedChoiceLemmas
 pub mod LabelSetLemmas
 pub mod LabelValueLemmas
 pub mod SetTextLemmas

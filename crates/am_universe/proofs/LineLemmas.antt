@@ -1,12 +1,13 @@
 -- The text of a set determines its pairs, and the pairs determine the choice.
-use Rattle.std.proofs.Common.{◌≡◌, ◌≢◌, ℕ, zero, suc, ◌<◌, Bool, true, false, cond, ◌==◌, nat_lt, List, [], ◌∷◌, ◌++◌, length, drop, get_or, Option, Some, None, ap, sym, ◌∙◌, refl, subst, inl, inr, arith, append_assoc}
+use Rattle.std.proofs.Common.{◌≡◌, ◌≢◌, ℕ, zero, suc, ◌<◌, Bool, true, false, cond, ◌==◌, nat_lt, List, [], ◌∷◌, ◌++◌, length, drop, get_or, Option, Some, None, ap, sym, ◌∙◌, refl, subst, arith, append_assoc}
 use Rattle.std.specs.Ordering.{nat_cmp}
 use Rattle.std.specs.Cmp.Lexicographic.{slice_cmp}
 use Rattle.std.specs.List.{AllByRecursion, IsDistinct, list_all, flat_map}
 use Rattle.std.specs.FinMap.{find}
-use Rattle.std.proofs.lemmas.Bool.{and_parts, cases_Bool, eqb-true, false≢true}
+use Rattle.std.proofs.lemmas.Bool.{and_parts, false≢true}
 use Rattle.std.proofs.lemmas.Bool.Decides.{nat_tests}
 use Rattle.std.proofs.lemmas.List.{length-map}
+use Rattle.std.proofs.lemmas.Grind.{common_steps}
 use Rattle.std.proofs.lemmas.Map.Keys.{IsDistinct-head, IsDistinct-tail}
 use Rattle.am_universe.specs.Text.{label_value_escape, quoted_text, same_text}
 use Rattle.am_universe.specs.Universe.{Label, Values, IsLabel, IsUniverse, names, sizes, begins_label_name, continues_label_name, is_label_name, same_value}
@@ -34,18 +35,7 @@ unquoted true (c ∷ t) = behind (cond (c == 110) 10 c) (unquoted false t)
 unquoted false (c ∷ t) = cond (c == 34) ([], t) (cond (c == 92) (unquoted true t) (behind c (unquoted false t)))
 
 unquoted_one : (c : ℕ) (t : List ℕ) → unquoted false (label_value_escape c ++ t) ≡ behind c (unquoted false t)
-unquoted_one c t =
-    let P : ℕ → Type 0 = λ n. unquoted false (label_value_escape n ++ t) ≡ behind n (unquoted false t) in
-    elim (cases_Bool (c == 92)) [
-      | inl is ↦ subst P (sym (eqb-true c 92 is)) refl
-      | inr other ↦ elim (cases_Bool (c == 34)) [
-        | inl is ↦ subst P (sym (eqb-true c 34 is)) refl
-        | inr more ↦ elim (cases_Bool (c == 10)) [
-          | inl is ↦ subst P (sym (eqb-true c 10 is)) refl
-          | inr plain ↦ rw (other, more, plain) (rw (more, other) refl)
-        ]
-      ]
-    ]
+unquoted_one c t = grind (arith, common_steps)
 
 unquoted_all : (v t : List ℕ) → unquoted false (flat_map label_value_escape v ++ 34 ∷ t) ≡ (v, t)
 unquoted_all [] t = refl
@@ -66,15 +56,11 @@ begins_continues c h = grind (arith, nat_tests)
 
 named_all : (name t : List ℕ) → list_all continues_label_name name ≡ true → named (name ++ 61 ∷ t) ≡ (name, t)
 named_all [] t h = refl
-named_all (c ∷ cs) t h =
-    let parts = and_parts (continues_label_name c) (list_all continues_label_name cs) h in
-    rw (no_equals c parts.0) (ap (behind c) (named_all cs t parts.1))
+named_all (c ∷ cs) t h = grind (arith, common_steps, no_equals, named_all cs t)
 
 continues_all : (name : List ℕ) → is_label_name name ≡ true → list_all continues_label_name name ≡ true
 continues_all [] h = absurd (false≢true h)
-continues_all (c ∷ cs) h =
-    let parts = and_parts (begins_label_name c) (list_all continues_label_name cs) h in
-    rw (begins_continues c parts.0) parts.1
+continues_all (c ∷ cs) h = grind (arith, common_steps, begins_continues)
 
 abbrev paired : List ℕ → (List ℕ × List ℕ) × List ℕ
 paired t =

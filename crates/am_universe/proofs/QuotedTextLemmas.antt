@@ -1,44 +1,13 @@
--- A text written between quotes, run by run. The bytes before `start` are written, and the bytes
--- from `start` to `i` stand for themselves.
+-- A text written between quotes, run by run. The bytes from `start` to `i` stand for themselves, and
+-- are written together.
 use Rattle.std.proofs.Common.{◌≡◌, ℕ, ◌+◌, ◌-◌, ◌<◌, ◌≤◌, List, [], ◌∷◌, ◌++◌, length, get_or, take, drop, sym, ap, ◌∙◌, append_assoc, length-drop, arith}
-use Rattle.std.proofs.Math.Seq.{take-length}
-use Rattle.std.proofs.lemmas.List.{take_more, get_or-drop}
-use Rattle.std.proofs.lemmas.Grind.{common_steps}
+use Rattle.std.proofs.lemmas.List.{take_more, get_or-drop, at_drop_more}
 use Rattle.std.specs.List.{flat_map}
 use Rattle.am_universe.specs.Text.{label_value_escape}
-use Rattle.am_universe.proofs.Writing.{pieces_split, pieces_more}
 
 -- the bytes from `start` to `i`
-abbrev run : ℕ → ℕ → List ℕ → List ℕ
+abbrev pub run : ℕ → ℕ → List ℕ → List ℕ
 run start i text = take (i - start) (drop start text)
-
--- The bytes from `start` to `i` stand for themselves.
-abbrev IsPlain : ℕ → ℕ → List ℕ → Type 0
-IsPlain start i text = flat_map label_value_escape (take i text) ≡ flat_map label_value_escape (take start text) ++ run start i text
-
--- The run and the rest complete the text.
-pub run_then_rest : (start i : ℕ) (text : List ℕ) → IsPlain start i text → flat_map label_value_escape (take start text) ++ (run start i text ++ flat_map label_value_escape (drop i text)) ≡ flat_map label_value_escape text
-run_then_rest start i text plain =
-    sym (append_assoc (flat_map label_value_escape (take start text)) (run start i text) (flat_map label_value_escape (drop i text))) ∙ ap (λ t. t ++ flat_map label_value_escape (drop i text)) (sym plain) ∙ pieces_split label_value_escape text i
-
--- The run, followed by the escape of the byte after it.
-pub run_then_escape : (start i : ℕ) (text escape : List ℕ) → i < length text → IsPlain start i text → escape ≡ label_value_escape (get_or text i 0)
-    → flat_map label_value_escape (take start text) ++ (run start i text ++ escape) ≡ flat_map label_value_escape (take (i + 1) text)
-run_then_escape start i text escape h plain e =
-    sym (append_assoc (flat_map label_value_escape (take start text)) (run start i text) escape) ∙ ap (λ t. t ++ escape) (sym plain) ∙ ap (λ t. flat_map label_value_escape (take i text) ++ t) e ∙ pieces_more [] label_value_escape text i 0 h
-
--- The run, the escape and the rest complete the text.
-pub run_then_escape_then_rest : (start i : ℕ) (text escape : List ℕ) → i < length text → IsPlain start i text → escape ≡ label_value_escape (get_or text i 0)
-    → flat_map label_value_escape (take start text) ++ (run start i text ++ (escape ++ flat_map label_value_escape (drop (i + 1) text))) ≡ flat_map label_value_escape text
-run_then_escape_then_rest start i text escape h plain e =
-    let rest : List ℕ = flat_map label_value_escape (drop (i + 1) text) in
-    let before : List ℕ = flat_map label_value_escape (take start text) in
-    ap (λ t. before ++ t) (sym (append_assoc (run start i text) escape rest)) ∙ sym (append_assoc before (run start i text ++ escape) rest)
-    ∙ ap (λ t. t ++ rest) (run_then_escape start i text escape h plain e) ∙ pieces_split label_value_escape text (i + 1)
-
--- After an escape the next run is empty.
-pub plain_at : (i j : ℕ) (text : List ℕ) → i ≡ j → IsPlain i j text
-plain_at i j text e = grind (arith, common_steps)
 
 run_more : (start i : ℕ) (text : List ℕ) → start ≤ i → i < length text → run start (i + 1) text ≡ run start i text ++ get_or text i 0 ∷ []
 run_more start i text order h =
@@ -47,13 +16,28 @@ run_more start i text order h =
     ap (λ n. take n (drop start text)) behind ∙ take_more (drop start text) (i - start) 0 (omega (arith, length-drop start text))
     ∙ ap (λ b. run start i text ++ b ∷ []) (get_or-drop start text (i - start) 0 ∙ ap (λ n. get_or text n 0) back)
 
--- A run stays one with one more byte that stands for itself.
-pub plain_more : (start i : ℕ) (text : List ℕ) → start ≤ i → i < length text → IsPlain start i text → label_value_escape (get_or text i 0) ≡ get_or text i 0 ∷ [] → IsPlain start (i + 1) text
-plain_more start i text order h plain e =
-    let p : flat_map label_value_escape (take (i + 1) text) ≡ flat_map label_value_escape (take i text) ++ label_value_escape (get_or text i 0) = sym (pieces_more [] label_value_escape text i 0 h) in
-    p ∙ ap (λ t. t ++ label_value_escape (get_or text i 0)) plain ∙ append_assoc (flat_map label_value_escape (take start text)) (run start i text) (label_value_escape (get_or text i 0))
-    ∙ ap (λ t. flat_map label_value_escape (take start text) ++ t) (ap (λ t. run start i text ++ t) e ∙ sym (run_more start i text order h))
+-- the text with escapes is what is written, the run, and the bytes from `i` on
+abbrev pub IsWhole : List ℕ → List ℕ → ℕ → ℕ → Type 0
+IsWhole text done start i = flat_map label_value_escape text ≡ done ++ (run start i text ++ flat_map label_value_escape (drop i text))
 
--- At the end of the text, the last run completes it.
-pub run_then_end : (start i : ℕ) (text : List ℕ) → i ≡ length text → IsPlain start i text → flat_map label_value_escape (take start text) ++ run start (length text) text ≡ flat_map label_value_escape text
-run_then_end start i text e plain = ap (λ n. flat_map label_value_escape (take start text) ++ run start n text) (sym e) ∙ sym plain ∙ ap (λ n. flat_map label_value_escape (take n text)) e ∙ ap (λ t. flat_map label_value_escape t) (take-length text)
+module _ (text done : List ℕ) (start i : ℕ) (h : i < length text) (whole : IsWhole text done start i) where
+  -- the escape of the next byte comes after the run
+  pub then_escape : (escape : List ℕ) → escape ≡ label_value_escape (get_or text i 0)
+      → flat_map label_value_escape text ≡ done ++ (run start i text ++ (escape ++ flat_map label_value_escape (drop (i + 1) text)))
+  then_escape escape e =
+      whole ∙ ap (λ t. done ++ (run start i text ++ t)) (at_drop_more (flat_map label_value_escape) text i 0 h ∙ ap (λ t. t ++ flat_map label_value_escape (drop (i + 1) text)) (sym e))
+
+  -- after it, the next run is empty
+  pub after_escape : (escape : List ℕ) (next : ℕ) → escape ≡ label_value_escape (get_or text i 0) → next ≡ i + 1 → IsWhole text (done ++ (run start i text ++ escape)) next (i + 1)
+  after_escape escape next e is =
+      let rest : List ℕ = flat_map label_value_escape (drop (i + 1) text) in
+      let gone : i + 1 - next ≡ 0 = omega (arith, is) in
+      then_escape escape e ∙ ap (λ t. done ++ t) (sym (append_assoc (run start i text) escape rest)) ∙ sym (append_assoc done (run start i text ++ escape) rest)
+      ∙ ap (λ n. (done ++ (run start i text ++ escape)) ++ (take n (drop next text) ++ rest)) (sym gone)
+
+  -- a byte that stands for itself makes the run longer
+  pub plain_more : start ≤ i → label_value_escape (get_or text i 0) ≡ get_or text i 0 ∷ [] → IsWhole text done start (i + 1)
+  plain_more order plain =
+      let rest : List ℕ = flat_map label_value_escape (drop (i + 1) text) in
+      then_escape (get_or text i 0 ∷ []) (sym plain) ∙ ap (λ t. done ++ t) (sym (append_assoc (run start i text) (get_or text i 0 ∷ []) rest))
+      ∙ ap (λ t. done ++ (t ++ rest)) (sym (run_more start i text order h))

@@ -1,10 +1,10 @@
 ghost use Rattle.std.specs.Prelude.{◌≡◌};
-ghost use Rattle.am_universe.specs.Kind.{kind_number, kind_text};
+ghost use Rattle.am_universe.specs.Kind.{kind_text};
 ghost use Rattle.am_universe.specs.declared.kind.Kind.TheVariants.{Memory};
 
 use std::alloc::{AllocError, AllocFailed};
 
-/// Why something was refused. Each kind has a number, and a word that the program prints.
+/// Why something was refused. Each kind has a word that the program prints.
 #[derive(Clone, Copy, Debug, PartialEq, Eq)]
 pub enum Kind {
     /// The bytes are not JSON (RFC 8259), are not UTF-8, or nest too deep.
@@ -57,37 +57,6 @@ pub enum Kind {
 }
 
 impl Kind {
-    /// The number of the kind, 1 to 23.
-    pub fn number(self) -> u8
-        ensures number { result ≡ kind_number self }
-    {
-        match self {
-            Kind::NotJson => 1,
-            Kind::Shape => 2,
-            Kind::UnknownField => 3,
-            Kind::BadMatcher => 4,
-            Kind::PatternProfile => 5,
-            Kind::Pattern => 6,
-            Kind::Duplicate => 7,
-            Kind::Empty => 8,
-            Kind::UndefinedReceiver => 9,
-            Kind::RootMatchers => 10,
-            Kind::BadTime => 11,
-            Kind::Limit => 12,
-            Kind::QuestionSyntax => 13,
-            Kind::UnknownReceiver => 14,
-            Kind::UnknownRoute => 15,
-            Kind::BadToken => 16,
-            Kind::NeedAt => 17,
-            Kind::Write => 18,
-            Kind::Memory => 19,
-            Kind::Read => 20,
-            Kind::OtherInputs => 21,
-            Kind::Unproved => 22,
-            Kind::Incomplete => 23,
-        }
-    }
-
     /// The word for the kind that the program prints, as `not-json`.
     pub fn text(self) -> &'static str
         ensures text { result.now ≡ kind_text self }

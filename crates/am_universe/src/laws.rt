@@ -66,6 +66,7 @@ pub fn undeclared_value()
 /// A label may be added to a universe exactly if the labels are then still a universe.
 ///
 /// So no fault is missing, and none is needless.
+#[tactic(auto, using(crate::proofs::LabelFaultLemmas::faults_are_exact))]
 pub fn a_label_is_added_exactly_to_a_universe()
     ensures exactly { (u : List Label) (label : Label) → IsUniverse u
         → (label_fault u label ≡ None ↔ IsUniverse (u ++ label ∷ [])) }

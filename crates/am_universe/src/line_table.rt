@@ -1,5 +1,5 @@
-ghost use Rattle.std.specs.Prelude.{◌≡◌, ◌<◌, ◌≤◌, ◌+◌, ◌∷◌, ◌++◌, ℕ, length, drop, slice_get};
-ghost use Rattle.std.specs.Prelude.{IfOk, Some, option_map, vec_len, vec_capacity};
+ghost use Rattle.std.specs.Prelude.{◌≡◌, ◌<◌, ◌≤◌, ◌+◌, ◌∷◌, ◌++◌, ℕ, length, drop};
+ghost use Rattle.std.specs.Prelude.{IfOk, option_map, vec_len, vec_capacity};
 ghost use Rattle.std.specs.List.{AllByRecursion};
 ghost use Rattle.am_universe.specs.Bytes.{left_brace};
 ghost use Rattle.am_universe.specs.Universe.{sizes};
@@ -9,6 +9,7 @@ ghost use Rattle.am_universe.specs.Sink.{Writes};
 ghost use Rattle.am_universe.specs.LineTable.{piece_text, label_pieces, texts_of_pieces};
 
 use crate::memory_sink::MemorySink;
+use crate::universe::{Label, text_of};
 use crate::write::write_pair;
 use crate::{Choice, Kind, Sink, Universe, put_all};
 use std::alloc::{AllocError, Global};
@@ -48,8 +49,8 @@ impl LineTable {
         let mut labels = Vec::with_capacity(alloc, universe.len())?;
         // Room for both braces and the line feed, and then for the longest piece of each label.
         let mut room: usize = 3;
-        for i in 0..universe.len() {
-            let pieces = pieces_of_label(alloc, universe, i)?;
+        for label in universe.labels() {
+            let pieces = pieces_of(alloc, label)?;
             let Some(more) = room.checked_add(longest(pieces.as_slice())) else {
                 return Err(AllocError);
             };
@@ -117,16 +118,13 @@ fn longest(pieces: &[Vec<u8>]) -> usize
     most
 }
 
-/// The pieces of the label at `i`, one for each of its values.
-fn pieces_of_label(alloc: Global, universe: &Universe, i: usize) -> Result<Vec<Vec<u8>>, AllocError>
-    requires { i < length universe.now }
-    ensures { IfOk result (λ pieces.
-        Some (texts_of_pieces pieces) ≡ option_map label_pieces (slice_get universe.now i)) }
+/// The pieces of a label, one for each of its values.
+fn pieces_of(alloc: Global, label: &Label) -> Result<Vec<Vec<u8>>, AllocError>
+    ensures { IfOk result (λ pieces. texts_of_pieces pieces ≡ label_pieces label.now) }
 {
-    let size = universe.size(i);
-    let mut pieces = Vec::with_capacity(alloc, size)?;
-    for j in 0..size {
-        pieces.push(piece_of(alloc, universe.name(i), universe.value(i, j))?)?;
+    let mut pieces = Vec::with_capacity(alloc, label.values.len())?;
+    for value in label.values.as_slice() {
+        pieces.push(piece_of(alloc, label.name.as_str(), text_of(value))?)?;
     }
     Ok(pieces)
 }

@@ -37,14 +37,6 @@ impl<W: Write> Out<W> {
         }
     }
 
-    /// The writer as it is now.
-    pub fn get_ref(&self) -> &W
-        ensures contents { IfSome (W.contents (out_start self.now)) (λ held.
-            W.contents result.now ≡ Some (held ++ out_taken self.now)) }
-    {
-        &self.writer
-    }
-
     /// Returns the writer as it is now.
     pub fn into_inner(self) -> W
         ensures contents { IfSome (W.contents (out_start self)) (λ held.

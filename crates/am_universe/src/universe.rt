@@ -18,9 +18,9 @@ use std::marker::Model;
 
 /// A label and the values that it may have; `None` is absence.
 #[derive(Drop)]
-struct Label {
-    name: String,
-    values: Vec<Option<String>>,
+pub(crate) struct Label {
+    pub(crate) name: String,
+    pub(crate) values: Vec<Option<String>>,
 }
 
 /// A declared, finite universe of label sets: at most [`MAX_LABELS`] labels, each with 1 to
@@ -153,6 +153,13 @@ impl Universe {
         label_values_fault(values)
     }
 
+    /// The labels, in declared order.
+    pub(crate) fn labels(&self) -> &[Label]
+        ensures { result.now ≡ self.now }
+    {
+        self.labels.as_slice()
+    }
+
     /// How many labels there are, at most [`MAX_LABELS`].
     pub fn len(&self) -> usize
         ensures len { result ≡ length self.now }
@@ -263,7 +270,7 @@ fn is_same(other: &Option<String>, value: Option<&str>) -> bool
     }
 }
 
-fn text_of(value: &Option<String>) -> Option<&str>
+pub(crate) fn text_of(value: &Option<String>) -> Option<&str>
     ensures { option_map (λ t. t.now) result ≡ option_map string_bytes value.now }
 {
     match value {

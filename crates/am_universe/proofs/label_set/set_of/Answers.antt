@@ -4,7 +4,7 @@ use Rattle.std.specs.Option.{option_map}
 use Rattle.std.proofs.lemmas.List.{length-map}
 use Rattle.am_universe.specs.LabelSet.{with_value}
 use Rattle.am_universe.proofs.WholeChoiceLemmas.{admitted_at}
-use Rattle.am_universe.proofs.LabelPairLemmas.{turn_with, turn_without}
+use Rattle.am_universe.proofs.LabelSetLemmas.{turn_with, turn_without}
 use Rattle.am_universe.proofs.label_set.set_of.Goals as goal
 use Rattle.am_universe.proofs.label_set.set_of.Goals.{in-Some+in_ok-name+in_ok-value+in_ok-put, in_default}
 
@@ -26,5 +26,5 @@ loop-i-preserved c =
           w.set-is ∙ put ∙ turn_with u c.args.choice.now c.loop-i.i _ _ w.name.result.now w.in-Some.value.now c.len-i-end.ensures.universe whole (omega arith) is c.loop-i.invariant w.name.ensures.name text
       | in_default w ↦
           let none = sym (ap (option_map (λ t. t.now)) w.in_default.is) ∙ c.value.ensures.text in
-          w.set-is ∙ turn_without u c.args.choice.now c.loop-i.i _ _ c.len-i-end.ensures.universe whole (omega arith) is c.loop-i.invariant none
+          w.set-is ∙ turn_without u c.args.choice.now c.loop-i.i _ _ whole (omega arith) is c.loop-i.invariant none
     ]

@@ -1,31 +1,34 @@
-use Rattle.std.proofs.Common.{◌≡◌, ◌≤◌, ◌<◌, ap, sym, ◌∙◌, ◌∷◌, [], map, length, subst, arith}
+use Rattle.std.proofs.Common.{◌≡◌, ◌≤◌, refl, ap, sym, ◌∙◌, map, length, subst, arith}
 use Rattle.std.specs.List.{AllByRecursion}
+use Rattle.std.specs.Prelude.{slice_get, Some}
 use Rattle.std.specs.Vec.{vec_len}
-use Rattle.std.proofs.lemmas.List.{map-append, take_all, length-map}
+use Rattle.std.proofs.lemmas.List.{take_all}
+use Rattle.std.proofs.lemmas.Option.{slice_get_read}
 use Rattle.am_universe.specs.LineTable.{label_pieces, texts_of_pieces, IsLineTable}
-use Rattle.am_universe.proofs.LineTableLemmas.{one_more_label, room_more, line_fits}
+use Rattle.am_universe.proofs.LineTableLemmas.{label_more, room_more, line_fits}
 use Rattle.am_universe.proofs.line_table.LineTable.of.Goals as goal
 
-pub loop-i-preserved : goal.loop-i-preserved
-loop-i-preserved c =
+pub loop-label-preserved : goal.loop-label-preserved
+loop-label-preserved c =
     let u = c.args.universe.now in
-    let pieces = c.in_ok-pieces.pieces in
-    let inside : c.loop-i.i < length u = omega (arith, c.loop-i-test.true, c.len-i-end.ensures.len) in
+    let i = c.loop-label.label-index in
+    let l = c.label-item.result in
     let most = subst (AllByRecursion (λ piece. vec_len piece ≤ c.longest.result)) c.as_slice.ensures.value c.longest.ensures in
+    let at : slice_get u i ≡ Some l =
+    subst (λ ls. slice_get ls i ≡ Some l) c.labels-label-items.ensures (slice_get_read c.labels-label-items.result.now _ i l refl c.loop-label-test.true c.label-item.is) in
     record {
-      pieces = ap (map texts_of_pieces) c.in_ok-push.ensures.items ∙ map-append texts_of_pieces c.loop-i.labels.items (pieces ∷ [])
-          ∙ one_more_label u c.loop-i.i (texts_of_pieces pieces) _ inside c.in_ok-pieces.ensures c.loop-i.invariant.pieces;
+      pieces = ap (map texts_of_pieces) c.in_ok-push.ensures.items ∙ label_more u c.loop-label.labels.items i l c.in_ok-pieces.pieces at c.in_ok-pieces.ensures c.loop-label.invariant.pieces;
       room = λ d whole.
-          let more = room_more u d c.loop-i.i c.longest.result c.loop-i.room pieces inside whole c.in_ok-pieces.ensures most (c.loop-i.invariant.room d whole) in
+          let more = room_more u d i c.longest.result c.loop-label.room l c.in_ok-pieces.pieces at whole c.in_ok-pieces.ensures most (c.loop-label.invariant.room d whole) in
           omega (arith, more, c.in-Some.ensures.1);
     }
 
 pub invariant_of-result : goal.invariant_of-result
 invariant_of-result c =
     let u = c.args.universe.now in
-    let all : c.loop-i.i ≡ length u = omega (arith, c.loop-i-test.false, c.len-i-end.ensures.len) in
-    subst (λ v. IsLineTable v c.loop-i.labels.items c.in_ok-with_capacity.field-0) (sym c.of.ensures)
+    let all : c.loop-label.label-index ≡ length u = omega (arith, ap length c.labels-label-items.ensures) in
+    subst (λ v. IsLineTable v c.loop-label.labels.items c.in_ok-with_capacity.field-0) (sym c.of.ensures)
     (record {
-      pieces = c.loop-i.invariant.pieces ∙ take_all c.loop-i.i (map label_pieces u) (omega (arith, all, length-map u label_pieces));
-      room = λ d whole. omega (arith, line_fits u d c.loop-i.i c.loop-i.room whole all (c.loop-i.invariant.room d whole), c.in_ok-with_capacity.ensures.capacity);
+      pieces = c.loop-label.invariant.pieces ∙ ap (map label_pieces) (take_all c.loop-label.label-index u (omega (arith, all)));
+      room = λ d whole. omega (arith, line_fits u d c.loop-label.label-index c.loop-label.room whole all (c.loop-label.invariant.room d whole), c.in_ok-with_capacity.ensures.capacity);
     })

@@ -1,30 +1,39 @@
-use Rattle.std.proofs.Common.{◌∙◌, ◌<◌, ◌≤◌, sym, length, arith}
+use Rattle.std.proofs.Common.{◌<◌, length, sym, subst, slice_index, arith, inl, inr}
+use Rattle.std.proofs.lemmas.Bool.{false_from_ne_true, cases_lt}
 use Rattle.std.proofs.lemmas.List.{length-map}
+use Rattle.std.proofs.lemmas.Option.{get_or_from_slice_get}
 use Rattle.am_universe.specs.Universe.{Label, sizes}
-use Rattle.am_universe.proofs.AdmittedChoiceLemmas.{admits_none_longer, admits_later, admits_not}
+use Rattle.am_universe.proofs.WholeChoiceLemmas.{admitted_at, admits_at_most, admits_each}
 use Rattle.am_universe.proofs.universe.Universe.admits.Goals as goal
 
 pub returns-then-len : goal.returns-then-len
 returns-then-len c = record {
   admitted =
       let u = c.args.self.now in
-      let choice = c.args.choice.now in
-      let long : length (sizes u) < length choice = omega (arith, length-map u (λ (l : Label). length l.values)) in
-      sym (admits_none_longer (sizes u) choice long);
+      sym (false_from_ne_true _ (λ a. omega (arith, admits_at_most (sizes u) c.args.choice.now a, length-map u (λ (l : Label). length l.values))));
 }
 
 pub returns-then-from-size : goal.returns-then-from-size
 returns-then-from-size c = record {
   admitted =
       let u = c.args.self.now in
-      let choice = c.args.choice.now in
-      let long : length choice ≤ length (sizes u) = omega (arith, length-map u (λ (l : Label). length l.values)) in
-      sym (c.loop-i.invariant ∙ admits_not (sizes u) choice c.loop-i.i c.size.result (omega arith) long c.size.ensures.size (omega arith));
+      let size = get_or_from_slice_get (sizes u) c.loop-i.i c.size.result 0 c.size.ensures.size in
+      sym (false_from_ne_true _ (λ a. omega (arith, admitted_at (sizes u) c.args.choice.now c.loop-i.i a (omega arith), size)));
 }
 
 pub loop-i-preserved : goal.loop-i-preserved
-loop-i-preserved c =
+loop-i-preserved c = λ k below.
     let u = c.args.self.now in
-    let choice = c.args.choice.now in
-    let long : length choice ≤ length (sizes u) = omega (arith, length-map u (λ (l : Label). length l.values)) in
-    c.loop-i.invariant ∙ admits_later (sizes u) choice c.loop-i.i c.size.result (omega arith) long c.size.ensures.size (omega arith)
+    let size = get_or_from_slice_get (sizes u) c.loop-i.i c.size.result 0 c.size.ensures.size in
+    let here : slice_index c.args.choice.now c.loop-i.i < slice_index (sizes u) c.loop-i.i = omega (arith, size) in
+    elim (cases_lt k c.loop-i.i) [
+      | inl before ↦ c.loop-i.invariant k before
+      | inr late ↦ subst (λ n. slice_index c.args.choice.now n < slice_index (sizes u) n) (omega arith) here
+    ]
+
+pub returns : goal.returns
+returns c = record {
+  admitted =
+      let u = c.args.self.now in
+      sym (admits_each (sizes u) c.args.choice.now (omega (arith, length-map u (λ (l : Label). length l.values))) (λ k h. c.loop-i.invariant k (omega arith)));
+}

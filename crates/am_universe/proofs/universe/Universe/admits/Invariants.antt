@@ -1,8 +1,7 @@
-use Rattle.std.proofs.Common.{◌≡◌}
+use Rattle.std.proofs.Common.{ℕ, ◌<◌, slice_index}
 use Rattle.am_universe.specs.Universe.{sizes}
-use Rattle.am_universe.specs.Choice.{admits}
-use Rattle.am_universe.proofs.AdmittedChoiceLemmas.{admits_from}
 use Rattle.am_universe.proofs.universe.Universe.admits.Given as goal
 
+-- the first positions are below the sizes of their labels
 abbrev pub invariant-loop-i : goal.invariant-loop-i
-invariant-loop-i l = admits (sizes l.self) l.choice ≡ admits_from (sizes l.self) l.choice l.i
+invariant-loop-i l = (k : ℕ) → k < l.i → slice_index l.choice k < slice_index (sizes l.self) k
