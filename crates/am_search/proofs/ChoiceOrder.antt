@@ -81,13 +81,9 @@ none_found test [] none = refl
 none_found test (x ∷ xs) none = rw (none x (inl refl)) (none_found test xs (λ y i. none y (inr i)))
 
 -- the first that passes is a member
-found_cond : (test : List ℕ → Bool) (x : List ℕ) (xs : List (List ℕ)) (b : Bool) → IfSome (find test xs) (λ f. IsIn xs f) → IfSome (cond b (Some x) (find test xs)) (λ f. IsIn (x ∷ xs) f)
-found_cond test x xs true h = inl refl
-found_cond test x xs false h = grind (arith, common_steps)
-
 pub found_in : (test : List ℕ → Bool) (xs : List (List ℕ)) → IfSome (find test xs) (λ f. IsIn xs f)
 found_in test [] = tt
-found_in test (x ∷ xs) = found_cond test x xs (test x) (found_in test xs)
+found_in test (x ∷ xs) = grind (arith, common_steps, found_in test xs)
 
 -- ---- Lists of choices that ascend.
 

@@ -1,11 +1,9 @@
 -- A page that is being written: the lines of some answers are written, and the others are left.
-use Rattle.std.proofs.Common.{◌≡◌, ◌≢◌, ℕ, zero, suc, ◌+◌, ◌-◌, ◌<◌, ◌≤◌, true, false, cond, nat_eq, List, [], ◌∷◌, ◌++◌, length, take, get_or, Option, Some, None, IfSome, refl, sym, ap, ◌∙◌, append-nil, arith}
+use Rattle.std.proofs.Common.{◌≡◌, ℕ, zero, suc, ◌+◌, ◌-◌, ◌<◌, ◌≤◌, cond, List, [], ◌∷◌, ◌++◌, length, take, get_or, Option, Some, None, IfSome, refl, sym, ap, ◌∙◌, append-nil, arith}
 use Rattle.std.specs.Prelude.{option_map}
-use Rattle.std.specs.Option.{option_eq}
-use Rattle.std.proofs.lemmas.Bool.{false≢true}
 use Rattle.std.specs.List.{flat_map}
 use Rattle.std.proofs.lemmas.Grind.{flat_map-append, common_steps}
-use borrow.Author.Tests.{lt-ltb, le-ltb, eqb-true}
+use borrow.Author.Tests.{lt-ltb, le-ltb}
 use Rattle.am_search.specs.declared.trailer.Trailer.{Trailer}
 use Rattle.am_search.specs.declared.trailer.Trailer.TheVariants.{Next}
 use Rattle.am_search.specs.Page.{AnswerPage, page_ending}
@@ -62,15 +60,6 @@ none_left ending (Some r) none = rw none (grind (arith, common_steps))
 pub ended : (ending : Trailer) (last : List ℕ) (room : Option ℕ) {left : List (List ℕ)} → left ≡ [] → trailer_behind ending last left room ≡ ending
 ended ending last None none = refl
 ended ending last (Some r) none = rw none (grind (arith, common_steps))
-
--- ---- The tests of the loop.
-
-pub no_room : (room : Option ℕ) → true ≡ option_eq nat_eq room (Some 0) → room ≡ Some 0
-no_room None e = cc
-no_room (Some n) e = ap Some (eqb-true n 0 (sym e))
-
-pub some_room : (room : Option ℕ) → false ≡ option_eq nat_eq room (Some 0) → room ≢ Some 0
-some_room room e full = false≢true (e ∙ ap (λ o. option_eq nat_eq o (Some 0)) full)
 
 -- ---- The lines.
 

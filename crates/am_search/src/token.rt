@@ -130,27 +130,14 @@ pub fn write_token<W: Sink>(start: &Start, fingerprint: &[u8; 16], out: &mut W) 
     ensures written { Writes W.taken W.failures out.old out.new
         (token_text fingerprint.now start.now) result }
 {
-    match start {
-        Start::At(prefix) => {
-            put_str(out, "s2:")?;
-            write_digits(fingerprint, out)?;
-            write_positions(prefix, out)
-        }
-        Start::After(choice) => {
-            put_str(out, "t2:")?;
-            write_digits(fingerprint, out)?;
-            write_positions(choice, out)
-        }
-    }
-}
-
-/// Writes the digits of a fingerprint, and the `:` between them and the positions.
-fn write_digits<W: Sink>(fingerprint: &[u8; 16], out: &mut W) -> Result<(), Kind>
-    ensures { Writes W.taken W.failures out.old out.new
-        (encode_lower fingerprint.now ++ codes ":") result }
-{
+    let (letter, positions) = match start {
+        Start::At(prefix) => ("s2:", prefix),
+        Start::After(choice) => ("t2:", choice),
+    };
+    put_str(out, letter)?;
     put_all(out, digits_of(fingerprint).as_slice())?;
-    put_all(out, b":")
+    put_all(out, b":")?;
+    write_positions(positions, out)
 }
 
 /// Writes positions, joined by `.`.

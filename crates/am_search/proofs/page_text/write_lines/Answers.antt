@@ -1,4 +1,4 @@
-use Rattle.std.proofs.Common.{◌≡◌, ◌++◌, ◌∷◌, [], Some, ap, refl, sym, subst, ◌∙◌, append-nil, append_assoc}
+use Rattle.std.proofs.Common.{rules, ◌≡◌, ◌++◌, ◌∷◌, [], Some, ap, refl, sym, subst, ◌∙◌, append-nil, append_assoc}
 use Rattle.std.specs.List.{flat_map}
 use Rattle.std.proofs.lemmas.Grind.{flat_map-append}
 use Rattle.am_universe.specs.Universe.{sizes}
@@ -8,7 +8,7 @@ use Rattle.am_universe.proofs.Writing.{◌⟩◌, ends, fails, wrote_then, wrote
 use Rattle.am_search.specs.AnswersView.{answers_stop, state_at}
 use Rattle.am_search.specs.BudgetPage.{trailer_at}
 use Rattle.am_search.proofs.WalkBudgets.{same_stop}
-use Rattle.am_search.proofs.PageLines.{at_the_start, cut_here, next_here, one_more, last_more, none_left, ended, no_room, some_room, lines_more}
+use Rattle.am_search.proofs.PageLines.{at_the_start, cut_here, next_here, one_more, last_more, none_left, ended, lines_more}
 use Rattle.am_search.proofs.page_text.write_lines.Goals as goal
 
 pub loop-choice-init : goal.loop-choice-init
@@ -24,17 +24,14 @@ loop-choice-init g c = record {
 
 pub returns-then-eq-clause-trailer : goal.returns-then-eq-clause-trailer
 returns-then-eq-clause-trailer g c =
-    let none : c.loop-choice.room ≡ Some 0 = no_room _ c.if-eq.ensures in
+    let none : c.loop-choice.room ≡ Some 0 = search rules in
     sym (c.loop-choice.invariant.trailer ∙ next_here (trailer_at (answers_stop c.args.answers.now)) c.loop-choice.last _ _ c.in-Some.ensures.first none)
 
 pub returns-then-eq-clause-written : goal.returns-then-eq-clause-written
 returns-then-eq-clause-written g c =
     let l = c.loop-choice.invariant in
-    let all = l.choices ∙ ap (λ t. l.done ++ t) (cut_here _ c.loop-choice.last _ _ c.in-Some.ensures.first (no_room _ c.if-eq.ensures)) ∙ append-nil l.done in
+    let all = l.choices ∙ ap (λ t. l.done ++ t) (cut_here _ c.loop-choice.last _ _ c.in-Some.ensures.first (search rules)) ∙ append-nil l.done in
     ends _ (wrote_as (ap (flat_map (line c.args.table.now)) (sym all)) l.written)
-
-pub one_less-room-requires : goal.one_less-room-requires
-one_less-room-requires g c = some_room _ c.if-eq.ensures
 
 pub write_line-requires : goal.write_line-requires
 write_line-requires g c =
