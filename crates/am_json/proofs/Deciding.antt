@@ -1,17 +1,18 @@
 -- A reading decides what is said if its parts do.
-use Rattle.std.proofs.Common.{◌≡◌, ◌⊎◌, ◌≤◌, ℕ, List, [], length, Bool, true, false, not, ◌&&◌}
-use Rattle.std.proofs.Common.{Option, Some, None, Result, Ok, ap, cond, option_and_then, inl, inr}
-use Rattle.std.proofs.Common.{refl, subst, sym, ◌∙◌}
+use Rattle.std.proofs.Common.{◌≡◌, ◌⊎◌, ◌≤◌, ℕ, List, [], length, Bool, true, false, not}
+use Rattle.std.proofs.Common.{Option, Some, None, Result, Ok, ap, option_and_then, inl, inr}
+use Rattle.std.proofs.Common.{arith, refl, subst, sym, ◌∙◌}
 use Rattle.std.specs.Prelude.{⊤, IsTrue, ok_or}
 use Rattle.std.specs.Result.{result_map_both}
 use Rattle.std.proofs.Math.Bool.{and-false}
+use Rattle.std.proofs.lemmas.Grind.{common_steps}
 use Rattle.std.proofs.lemmas.Option.{option_and_then_some}
 use Rattle.serde_json.specs.Data.{Data, null, boolean, string, object, Members, no_members, member}
 use Rattle.serde_json.specs.Find as find
 use Rattle.am_universe.specs.declared.kind.Kind.{Kind}
 use Rattle.am_universe.specs.declared.kind.Kind.TheVariants as kinds
 use Rattle.am_json.specs.declared.limits.TheConstants.{MAX_FILE_BYTES}
-use Rattle.am_json.specs.Json.{json_of, is_null, is_one_of, is_unknown, field, lesser_key}
+use Rattle.am_json.specs.Json.{json_of, is_null, is_one_of, is_unknown, field}
 use Rattle.am_json.specs.Json.{SaysBooleanOr, FileSays}
 use Rattle.am_json.specs.Json.{unknown_field, items_of, AreOnlyFields, HasOnlyFields}
 use Rattle.am_json.specs.OptionalItems.{HasItems, optional_items, read_optional_items}
@@ -146,25 +147,11 @@ null_is : (d : Data) → is_null d ≡ true → d ≡ null
 null_is null h = refl
 null_is d h = absurd cc
 
-known_says : (null known : Bool) → (not null && not known) ≡ false → (null ≡ true) ⊎ (known ≡ true)
-known_says true known h = inl refl
-known_says false true h = inr refl
-known_says false false h = absurd cc
-
-picked : (b : Bool) (key : List ℕ) (rest : Option (List ℕ)) → cond b (Some key) rest ≡ None
-    → (b ≡ false) × (rest ≡ None)
-picked true key rest h = absurd cc
-picked false key rest h = (refl, h)
-
 none_says : (known : List (List ℕ)) (ms : Members) → unknown_field known ms ≡ None
     → AreOnlyFields known ms
 none_says known no_members h = tt
 none_says known (member key d rest) h =
-    let split =
-    picked (is_unknown known key d) (lesser_key key (unknown_field known rest))
-    (unknown_field known rest) h in
-    let here = known_says (is_null d) (is_one_of key known) split.0 in
-    (elim here [ inl e ↦ inl (null_is d e) | inr e ↦ inr e ], none_says known rest split.1)
+    grind (arith, common_steps, null_is, none_says known rest)
 
 known_reads : (known : List (List ℕ)) (key : List ℕ) (d : Data) → (d ≡ null)
     ⊎ IsTrue (is_one_of key known) → is_unknown known key d ≡ false

@@ -1,5 +1,5 @@
 -- The members of an object are in the order of their keys, so the first unknown field is the least.
-use Rattle.std.proofs.Common.{◌≡◌, ℕ, List, [], ◌∷◌, Bool, true, false, cond, Option, Some, None}
+use Rattle.std.proofs.Common.{◌≡◌, ℕ, List, [], ◌∷◌, true, false, Option, Some, None}
 use Rattle.std.proofs.Common.{String, string_bytes, Ordering, Less, Equal, Greater, refl, sym, ◌∙◌}
 use Rattle.std.specs.declared.alloc.Global.{Global}
 use Rattle.std.specs.Prelude.{IfSome}
@@ -9,6 +9,8 @@ use Rattle.std.specs.List.{AllByRecursion}
 use Rattle.std.specs.List.Sorted.{IsStrictlySortedBy}
 use Rattle.std.specs.Map.{keys_of}
 use Rattle.std.specs.String.{string_cmp}
+use Rattle.std.proofs.Common.{arith}
+use Rattle.std.proofs.lemmas.Grind.{common_steps}
 use Rattle.std.proofs.lemmas.Map.Keys.{sorted_head, sorted_tail}
 use Rattle.serde_json.specs.View.{view, members_view}
 use Rattle.serde_json.proofs.Views.{Entry}
@@ -35,21 +37,13 @@ below_lesser key first None h k = h
 below_lesser key first (Some other) h k =
     below_either key first other (slice_cmp nat_cmp first other) h k
 
-below_picked : (key first : List ℕ) (unknown : Bool) (found : Option (List ℕ))
-    → slice_cmp nat_cmp key first ≡ Less → IsBelow key found
-    → IsBelow key (cond unknown (Some (lesser_key first found)) found)
-below_picked key first true found h k = below_lesser key first found h k
-below_picked key first false found h k = k
-
 -- a key below those of all members is below the least unknown field
 below_all : (known : List (List ℕ)) (key : String Global) (es : List Entry)
     → AllByRecursion (λ k. string_cmp key k ≡ Less) (keys_of es)
     → IsBelow (string_bytes key) (unknown_field known (members_view es))
 below_all known key [] below = tt
 below_all known key (e ∷ es) below =
-    below_picked (string_bytes key) (string_bytes e.0)
-    (is_unknown known (string_bytes e.0) (view e.1)) (unknown_field known (members_view es))
-    below.0 (below_all known key es below.1)
+    grind (arith, common_steps, below_lesser, below_all known key es below.1)
 
 is_lesser : (key : List ℕ) (found : Option (List ℕ)) → IsBelow key found
     → lesser_key key found ≡ key

@@ -1,11 +1,12 @@
 -- What the answer of a reader says about the reading, and what a reading without a fault says about
 -- its steps.
 use Rattle.std.proofs.Common.{◌≡◌, ◌≢◌, ℕ, ◌<◌, ◌≤◌, List, [], ◌∷◌, ◌++◌, map, Option, Some, None}
-use Rattle.std.proofs.Common.{Result, Ok, Err, Bool, true, false, cond, ◌↔◌, inl, inr, refl, sym}
-use Rattle.std.proofs.Common.{ap, ◌∙◌, nat_lt}
-use Rattle.std.specs.Prelude.{⊤, ok_or, option_map, IsErrAnd, IfOk}
+use Rattle.std.proofs.Common.{Result, Ok, Err, ◌↔◌, inl, inr, refl, sym}
+use Rattle.std.proofs.Common.{ap, ◌∙◌, arith}
+use Rattle.std.specs.Prelude.{⊤, ok_or, IsErrAnd, IfOk}
 use Rattle.std.specs.Result.{result_err, result_map_both}
-use borrow.Author.Tests.{ltb-false, lt-ltb, le-ltb}
+use Rattle.std.proofs.lemmas.Grind.{common_steps}
+use borrow.Author.Tests.{lt-ltb, le-ltb}
 use Rattle.am_universe.specs.declared.kind.Kind.{Kind}
 use Rattle.am_universe.specs.declared.kind.Kind.TheVariants as kinds
 use Rattle.am_universe.specs.declared.place.Place.{Place}
@@ -14,7 +15,7 @@ use Rattle.am_json.specs.declared.read_error.ReadError.{ReadError}
 use Rattle.am_json.specs.declared.read_error.ReadError.TheVariants as errors
 use Rattle.am_json.specs.Pointer.{Refusal, refusal_here, refusal_within}
 use Rattle.am_json.specs.Reading.{Reading, result_then, patterns_then, ◌>>=◌, reading_within}
-use Rattle.am_json.specs.Reading.{ok_unless, refuse_for, check_count, IsPatternRefusal, MayRefuse}
+use Rattle.am_json.specs.Reading.{refuse_for, check_count, IsPatternRefusal, MayRefuse}
 use Rattle.am_json.specs.Reading.{IsRefusalOrMemory, Fails, Gives, IsReadingWithin, IsFaultOf}
 use Rattle.am_json.specs.Reading.{IsRefusalAt, IsFoundOrRefused}
 
@@ -184,14 +185,9 @@ pub refuse_for_ok : (cause : Option Kind) (x : ⊤) → (refuse_for cause).resul
 refuse_for_ok None x h = refl
 refuse_for_ok (Some kind) x h = absurd cc
 
-test_ok : (b : Bool) (x : ⊤)
-    → ok_unless (option_map refusal_here (cond b (Some kinds.Limit) None)) tt ≡ Ok x → b ≡ false
-test_ok true x h = absurd cc
-test_ok false x h = refl
-
 pub check_count_ok : (limit count : ℕ) (x : ⊤) → (check_count limit count).result ≡ Ok x
     → count ≤ limit
-check_count_ok limit count x h = ltb-false limit count (test_ok (nat_lt limit count) x h)
+check_count_ok limit count x h = grind (arith, common_steps)
 
 pub check_count_fits : (limit count : ℕ) → count ≤ limit → (check_count limit count).result ≡ Ok tt
 check_count_fits limit count le = rw (le-ltb limit count le) refl
