@@ -11,7 +11,7 @@ use Rattle.am_universe.specs.declared.limits.TheConstants.{MAX_VALUES}
 use Rattle.am_universe.specs.Completions.{completions}
 use Rattle.am_universe.proofs.ListLemmas.{AllByRecursion-at}
 use Rattle.am_universe.proofs.ChoiceLemmas.{behind}
-use Rattle.am_universe.proofs.CompletionLemmas.{below, completions_are_below}
+use Rattle.am_universe.proofs.CompletionLemmas.{admits_next, below, completions_are_below}
 use Rattle.am_search.specs.NextPrefix.{next_beside}
 use Rattle.am_search.proofs.ChoiceOrder.{in_at}
 
@@ -108,3 +108,8 @@ nothing_greater sizes prefix p h k = grind (arith, common_steps, beside_last)
 
 pub beside_found : (sizes prefix : List ℕ) (p : ℕ) → length prefix < length sizes → p + 1 < slice_index sizes (length prefix) → next_beside sizes (prefix ++ p ∷ []) ≡ Some (prefix ++ (p + 1) ∷ [])
 beside_found sizes prefix p h k = grind (arith, common_steps, beside_last)
+
+-- the rules by which `complete` and `go_beside` of the search are proved
+pub ruleset completed = (admits_next, positive, positive_at, admits_at_most, filled_pushed, filled_whole, first_completion_is)
+
+pub ruleset beside = (popped, size_at, beside_found, nothing_greater)

@@ -73,6 +73,7 @@ impl<'a, J: Judge> Answers<'a, J> {
     ///
     /// The start must be a start over the sizes of the judge. With `steps`, at most that many
     /// prefixes are judged, and the answers are those that these prefixes give.
+    #[tactic(auto, using(crate::proofs::WalkBudgets::left_first, crate::proofs::VisitsGive::visited_give))]
     pub fn from(judge: &'a J, start: Start, steps: Option<u64>) -> Answers<'a, J>
         requires { IsStart (J.sizes judge.now) start }
         ensures left { steps ≡ None → answers_left result
@@ -120,6 +121,7 @@ impl<'a, J: Judge> Answers<'a, J> {
     }
 
     /// Judges the current prefix, and moves on. Nothing else asks for a verdict.
+    #[tactic(auto, using(crate::proofs::WalkBudgets::left_after))]
     fn judge_next(&mut self)
         requires stage { self.old.stage ≡ Judging }
         requires left { self.old.left ≢ Some 0 }
@@ -321,6 +323,7 @@ fn complete_along<J: Judge>(judge: &J, along: &Option<Choice>, prefix: &mut Choi
 }
 
 /// Extends a prefix to its first completion.
+#[tactic(auto, using(std::proofs::lemmas::Grind::common_steps, crate::proofs::Odometer::completed))]
 fn complete<J: Judge>(judge: &J, prefix: &mut Choice)
     requires { IsTrue (admits (J.sizes judge.now) prefix.old) }
     ensures { slice_get (completions (J.sizes judge.now) prefix.old) 0 ≡ Some prefix.new }
@@ -332,6 +335,7 @@ fn complete<J: Judge>(judge: &J, prefix: &mut Choice)
 
 /// Changes a prefix to the first prefix that comes after it and after all that begin with it. If
 /// there is none, returns `false`, and the prefix is empty.
+#[tactic(auto, using(std::proofs::lemmas::Grind::common_steps, crate::proofs::Odometer::beside))]
 fn go_beside<J: Judge>(judge: &J, prefix: &mut Choice) -> bool
     requires { IsTrue (admits (J.sizes judge.now) prefix.old) }
     ensures { MatchBool result (next_beside (J.sizes judge.now) prefix.old ≡ Some prefix.new)

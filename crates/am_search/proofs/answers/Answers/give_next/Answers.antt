@@ -1,4 +1,4 @@
-use Rattle.std.proofs.Common.{refl, arith}
+use Rattle.std.proofs.Common.{arith}
 use Rattle.am_search.proofs.NextPrefix.{beside_is}
 use Rattle.am_search.proofs.WalkSteps.{goes_on_giving, given_last, given_end}
 use Rattle.am_search.proofs.answers.Answers.give_next.Goals as goal
@@ -11,32 +11,17 @@ complete-requires g c =
     let a = c.args.self.now in
     (beside_is (g.J.Judge.sizes a.judge.now) a.current c.go_beside.new.prefix (a.walk.giving c.args.depth c.requires).whole.0 c.if-not-go_beside.ensures).admitted
 
-pub invariant_of-self : goal.invariant_of-self
-invariant_of-self g c =
+pub invariant_of-self-clause-walk : goal.invariant_of-self-clause-walk
+invariant_of-self-clause-walk g c =
     let a = c.args.self.now in
-    record {
-      walk = given_end (g.met.J.Judge.laws a.judge.now) a.walk c.requires c.if-not-go_beside.ensures c.followed_by-self.ensures.joined;
-      steps = a.steps;
-      ended = λ ended. refl;
-      stopped = λ prefix e. let past = (a.stopped prefix e).0 in let within = c.requires in cc;
-    }
+    given_end (g.met.J.Judge.laws a.judge.now) a.walk c.requires c.if-not-go_beside.ensures c.followed_by-self.ensures.joined
 
-pub invariant_of-self-then-len-depth : goal.invariant_of-self-then-len-depth
-invariant_of-self-then-len-depth g c =
+pub invariant_of-self-then-len-depth-clause-walk : goal.invariant_of-self-then-len-depth-clause-walk
+invariant_of-self-then-len-depth-clause-walk g c =
     let a = c.args.self.now in
-    record {
-      walk = goes_on_giving (g.met.J.Judge.laws a.judge.now) a.walk c.requires c.if-not-go_beside.ensures (omega arith) c.complete.ensures c.followed_by-self.ensures.joined;
-      steps = a.steps;
-      ended = a.ended;
-      stopped = λ prefix e. let past = (a.stopped prefix e).0 in let within = c.requires in cc;
-    }
+    goes_on_giving (g.met.J.Judge.laws a.judge.now) a.walk c.requires c.if-not-go_beside.ensures (omega arith) c.complete.ensures c.followed_by-self.ensures.joined
 
-pub invariant_of-self-else-len-depth : goal.invariant_of-self-else-len-depth
-invariant_of-self-else-len-depth g c =
+pub invariant_of-self-else-len-depth-clause-walk : goal.invariant_of-self-else-len-depth-clause-walk
+invariant_of-self-else-len-depth-clause-walk g c =
     let a = c.args.self.now in
-    record {
-      walk = given_last (g.met.J.Judge.laws a.judge.now) a.walk c.requires c.if-not-go_beside.ensures (omega arith) c.followed_by-self.ensures.joined;
-      steps = a.steps;
-      ended = λ ended. let past = a.ended ended in let within = c.requires in cc;
-      stopped = λ prefix e. let past = (a.stopped prefix e).0 in let within = c.requires in cc;
-    }
+    given_last (g.met.J.Judge.laws a.judge.now) a.walk c.requires c.if-not-go_beside.ensures (omega arith) c.followed_by-self.ensures.joined
