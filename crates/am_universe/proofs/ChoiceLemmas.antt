@@ -8,6 +8,7 @@ use Rattle.std.specs.Cmp.Lexicographic.{slice_cmp}
 use Rattle.std.specs.declared.cmp.Ordering.TheVariants.{Less, Equal}
 use Rattle.std.proofs.lemmas.Bool.{and_parts, and_from}
 use Rattle.std.proofs.lemmas.Bool.Decides.{nat_tests}
+use Rattle.std.proofs.lemmas.Grind.{common_steps}
 use Rattle.std.proofs.Math.Nat.{eq-or-lt_of_le}
 use Rattle.am_universe.specs.Choice.{choices, admits, IsWhole}
 use Rattle.am_universe.proofs.ListLemmas.{IsIn, IsIn-from_Contains, Contains-from_IsIn, IsIn-left, IsIn-right, IsIn-split, IsIn-map, IsIn-unmap, IsStrictlySortedBy-append, IsStrictlySortedBy-map}
@@ -52,10 +53,7 @@ in_from_whole : (sizes c : List ℕ) → IsWhole sizes c → IsIn (choices sizes
 in_from_whole [] [] h = inl refl
 in_from_whole [] (p ∷ c) h = absurd (omega (arith, h.1))
 in_from_whole (n ∷ sizes) [] h = absurd (omega (arith, h.1))
-in_from_whole (n ∷ sizes) (p ∷ c) h =
-    let parts = and_parts (nat_lt p n) (admits sizes c) h.0 in
-    let below : p < 0 + n = grind (arith, nat_tests, parts.0) in
-    into_behind 0 n (choices sizes) p c (omega arith) below (in_from_whole sizes c (parts.1, omega (arith, h.1)))
+in_from_whole (n ∷ sizes) (p ∷ c) h = grind (arith, common_steps, and_parts, into_behind, in_from_whole sizes c)
 
 pub choices_whole : (sizes c : List ℕ) → (Contains (choices sizes) c ↔ IsWhole sizes c)
 choices_whole sizes c = (λ h. whole_from_in sizes c (IsIn-from_Contains (choices sizes) c h), λ h. Contains-from_IsIn (choices sizes) c (in_from_whole sizes c h))

@@ -3,6 +3,7 @@ use Rattle.std.proofs.Common.{◌≡◌, ◌≢◌, ℕ, zero, suc, ◌+◌, ◌
 use Rattle.std.specs.List.{range_with_len, flat_map, filter, starts_with}
 use Rattle.std.proofs.lemmas.List.{append-nil, map-append}
 use Rattle.std.proofs.lemmas.List.Elements.{filter-append}
+use Rattle.std.proofs.lemmas.Grind.{common_steps}
 use Rattle.std.proofs.lemmas.Bool.{and_parts, ne_eqb}
 use Rattle.std.proofs.lemmas.Bool.Decides.{nat_tests}
 use Rattle.std.proofs.Math.Nat.{eq-or-lt_of_le}
@@ -54,9 +55,7 @@ at_other p q prefix cs other =
 -- choices that begin with the prefix, each after p.
 at_none : (p first count : ℕ) (prefix : List ℕ) (cs : List (List ℕ)) → p < first → beginning (p ∷ prefix) (behind first count cs) ≡ []
 at_none p first zero prefix cs h = refl
-at_none p first (suc count) prefix cs h =
-    filter-append (λ c. starts_with nat_eq c (p ∷ prefix)) (map (λ c. first ∷ c) cs) (behind (first + 1) count cs)
-    ∙ rw (at_other p first prefix cs (λ e. omega (arith, h, e)), at_none p (first + 1) count prefix cs (omega arith)) refl
+at_none p first (suc count) prefix cs h = grind (arith, common_steps, filter-append, at_other, at_none p (first + 1) count prefix cs)
 
 pub at_its_own : (p first count : ℕ) (prefix : List ℕ) (cs : List (List ℕ)) → first ≤ p → p < first + count → beginning (p ∷ prefix) (behind first count cs) ≡ map (λ c. p ∷ c) (beginning prefix cs)
 at_its_own p first zero prefix cs low high = absurd (omega arith)

@@ -11,6 +11,7 @@ use Rattle.std.specs.FinMap.{get, len, insert, remove, find, same_map, get-inser
 use Rattle.std.specs.declared.alloc.Global.{Global}
 use Rattle.std.proofs.lemmas.Map.Keys.{IsDistinct-from_sorted, IsDistinct-head, IsDistinct-tail}
 use Rattle.std.proofs.lemmas.List.{nil_from_length}
+use Rattle.std.proofs.lemmas.Grind.{common_steps}
 use Rattle.std.proofs.lemmas.Map.Text.{is_eq-slice_cmp, btree_map_updates_text}
 use Rattle.am_universe.specs.Text.{same_text}
 use Rattle.am_universe.specs.LabelSet.{LabelMap, value_of, with_value, HasTextsAlone}
@@ -51,10 +52,7 @@ HasTextsAlone-with_value s k (c ∷ cs) h q = rw inserted_at (cond_apart (same_t
 
 find_texts : (q : List ℕ) (es : List (String Global × String Global)) → find (slice_cmp nat_cmp) q (entry_texts es) ≡ option_map string_bytes (lookup (λ k. is_eq (slice_cmp nat_cmp q (string_bytes k))) es)
 find_texts q [] = refl
-find_texts q (e ∷ es) = elim (is_eq (slice_cmp nat_cmp q (string_bytes e.0))) as (λ b. cond b (Some (string_bytes e.1)) (find (slice_cmp nat_cmp) q (entry_texts es)) ≡ option_map string_bytes (cond b (Some e.1) (lookup (λ k. is_eq (slice_cmp nat_cmp q (string_bytes k))) es))) [
-  | true ↦ refl
-  | false ↦ find_texts q es
-]
+find_texts q (e ∷ es) = grind (arith, common_steps, find_texts q es)
 
 pub kept_at : (m : BTreeMap (String Global) (String Global)) (q : List ℕ) → get (label_map_of m.entries) q ≡ option_map string_bytes (get_by_text m q)
 kept_at m q = get-from_entries nat_list_cmp_total (entry_texts m.entries) q ∙ find_texts q m.entries

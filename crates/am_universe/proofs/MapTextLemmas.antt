@@ -1,6 +1,6 @@
 -- The entries in memory are those of the label set, in its order; and the texts of the entries that
 -- are written so far.
-use Rattle.std.proofs.Common.{◌≡◌, true, List, [], ◌∷◌, ◌++◌, ℕ, String, string_bytes, refl, sym, ap, subst, ◌∙◌, append_assoc}
+use Rattle.std.proofs.Common.{◌≡◌, true, List, [], ◌∷◌, ◌++◌, ℕ, String, string_bytes, refl, sym, ap, subst, ◌∙◌, append_assoc, arith}
 use lib.Dec.{T}
 use Rattle.std.specs.declared.alloc.Global.{Global}
 use Rattle.std.specs.declared.cmp.Ordering.TheVariants.{Less}
@@ -14,7 +14,7 @@ use Rattle.std.specs.BTreeMap.{BTreeMap, IsOrdered}
 use Rattle.std.specs.FinMap.{entries, from_sorted, entries-from_sorted, get-from_entries, get-from_sorted, is_sorted}
 use Rattle.std.specs.FinMap.Entries.{below_all}
 use Rattle.std.proofs.lemmas.Bool.{and_from}
-use Rattle.std.proofs.lemmas.List.{map-append}
+use Rattle.std.proofs.lemmas.Grind.{common_steps}
 use Rattle.am_universe.specs.LabelSetView.{entry_texts, label_map_of}
 use Rattle.am_universe.proofs.LabelMapLemmas.{same_set}
 
@@ -40,9 +40,7 @@ entries_kept m o =
 -- One entry, with others before and after it.
 pub entry_among : (all done left rest : List Entry) (e : Entry) (name value : List ℕ) → all ≡ done ++ left → left ≡ e ∷ rest → name ≡ string_bytes e.0 → value ≡ string_bytes e.1
     → entry_texts all ≡ entry_texts done ++ (name, value) ∷ entry_texts rest
-entry_among all done left rest e name value is next named valued =
-    ap entry_texts (is ∙ ap (λ r. done ++ r) next) ∙ map-append (λ (x : Entry). (string_bytes x.0, string_bytes x.1)) done (e ∷ rest)
-    ∙ ap (λ n. entry_texts done ++ (n, string_bytes e.1) ∷ entry_texts rest) (sym named) ∙ ap (λ v. entry_texts done ++ (name, v) ∷ entry_texts rest) (sym valued)
+entry_among all done left rest e name value is next named valued = grind (arith, common_steps)
 
 -- One entry after others.
 pub entry_behind : (done : List Entry) (e : Entry) (name value : List ℕ) → name ≡ string_bytes e.0 → value ≡ string_bytes e.1 → entry_texts (done ++ e ∷ []) ≡ entry_texts done ++ (name, value) ∷ []

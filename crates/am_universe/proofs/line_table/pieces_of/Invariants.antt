@@ -1,4 +1,4 @@
-use Rattle.std.proofs.Common.{◌≡◌, map, take, string_bytes}
+use Rattle.std.proofs.Common.{◌≡◌, map, take}
 use Rattle.am_universe.specs.LineTable.{piece_text}
 use Rattle.am_universe.specs.UniverseView.{texts_of}
 use Rattle.am_universe.proofs.line_table.pieces_of.Given as goal
