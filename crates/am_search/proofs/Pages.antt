@@ -1,5 +1,5 @@
 -- The choices from a start on, and the pages of the answers among them.
-use Rattle.std.proofs.Common.{◌≡◌, ◌↔◌, ℕ, ◌+◌, ◌-◌, ◌<◌, ◌≤◌, Bool, true, not, List, [], ◌∷◌, ◌++◌, length, take, drop, get_or, Contains, Option, Some, None, IfSome, MatchOption, codes, ap, sym, subst, ◌∙◌, refl, inl, inr, arith, append-nil, length-drop, rules}
+use Rattle.std.proofs.Common.{◌≡◌, ◌↔◌, ℕ, ◌-◌, ◌<◌, ◌≤◌, Bool, true, not, List, [], ◌∷◌, ◌++◌, length, take, drop, get_or, Contains, Option, Some, None, IfSome, MatchOption, codes, ap, sym, subst, ◌∙◌, refl, inl, inr, arith, append-nil, length-drop, rules}
 use Rattle.std.specs.Prelude.{IsTrue}
 use Rattle.std.specs.List.{filter}
 use Rattle.std.specs.List.Sorted.{IsStrictlySortedBy}

@@ -1,5 +1,5 @@
 -- Where a start begins, the choice that follows another, and the first answer.
-use Rattle.std.proofs.Common.{◌≡◌, ℕ, zero, suc, true, false, not, Bool, List, [], ◌∷◌, length, Option, Some, None, IfSome, MatchOption, slice_get, nat_eq, ap, sym, subst, ◌∙◌, refl, arith, rules}
+use Rattle.std.proofs.Common.{◌≡◌, ℕ, zero, suc, true, false, Bool, List, [], ◌∷◌, length, Option, Some, None, IfSome, MatchOption, slice_get, nat_eq, ap, sym, subst, ◌∙◌, refl, arith, rules}
 use Rattle.std.specs.Prelude.{⊤, option_map}
 use Rattle.std.specs.List.{filter, find, starts_with}
 use Rattle.std.specs.Iterator.{YieldsFirst, MakesProgress, item_count}

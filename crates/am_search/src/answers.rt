@@ -273,6 +273,7 @@ fn first_choice<J: Judge>(judge: &J, start: &Start) -> Option<Choice>
 }
 
 /// The choice that follows a whole one in declared order, if there is one.
+#[tactic(auto, using(std::proofs::lemmas::Grind::common_steps, crate::proofs::Odometer::positive, crate::proofs::Walks::next_choice_is))]
 fn choice_after<J: Judge>(judge: &J, choice: &Choice) -> Option<Choice>
     requires { IsStart (J.sizes judge.now) (After choice.now) }
     ensures { result ≡ first_of_start (J.sizes judge.now) (After choice.now) }

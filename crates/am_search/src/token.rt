@@ -84,6 +84,7 @@ fn parse_whole(text: &str, universe: &Universe) -> Option<Choice>
 }
 
 /// Reads the positions of a choice that the universe admits.
+#[tactic(auto, using(std::proofs::lemmas::Grind::common_steps, crate::proofs::Odometer::admits_at_most))]
 fn parse_positions(text: &str, universe: &Universe) -> Option<Choice>
     ensures { MatchOption result
         ((c : List ℕ) → IsTrue (admits (sizes universe.now) c) → positions_text c ≢ text.now)

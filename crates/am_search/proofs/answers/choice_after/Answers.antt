@@ -1,6 +1,5 @@
-use Rattle.std.proofs.Common.{ap, sym, ◌∙◌, arith}
+use Rattle.std.proofs.Common.{ap, sym, ◌∙◌}
 use Rattle.std.specs.Prelude.{option_map}
-use Rattle.std.proofs.lemmas.Grind.{common_steps}
 use Rattle.am_search.proofs.Odometer.{filled, positive, first_completion_is}
 use Rattle.am_search.proofs.NextPrefix.{beside_is}
 use Rattle.am_search.proofs.Walks.{next_choice_is}
@@ -17,6 +16,3 @@ returns-then-go_beside g c =
     let admitted = (beside_is ns c.args.choice.now c.go_beside.new.prefix c.requires.0 c.if-go_beside.ensures).admitted in
     sym (next_choice_is ns c.args.choice.now some c.requires ∙ ap (option_map (filled ns)) c.if-go_beside.ensures
     ∙ sym (first_completion_is ns c.go_beside.new.prefix some admitted) ∙ c.complete.ensures)
-
-pub returns-else-go_beside : goal.returns-else-go_beside
-returns-else-go_beside g c = grind (arith, common_steps, positive, next_choice_is, filled)

@@ -5,7 +5,6 @@ use Rattle.std.proofs.lemmas.Bool.Decides.{nat_tests}
 use Rattle.std.proofs.lemmas.List.{length-map}
 use Rattle.std.proofs.lemmas.Option.{get_or_from_slice_get}
 use Rattle.std.proofs.lemmas.Iterator.Splits.{YieldsList-from_str_split}
-use Rattle.std.proofs.lemmas.Grind.{common_steps}
 use Rattle.am_universe.specs.Universe.{Label, sizes}
 use Rattle.am_search.proofs.Positions.{pieces_of, decimal-injective}
 use Rattle.am_search.proofs.Odometer.{admits_at_most}
@@ -40,9 +39,6 @@ returns-in_err-position c =
     let at = seam (split_steps FindsChar (λ a b. b ≡ a)) ns c.args.text.now c.loop-part.prefix d _ c.next.new.self c.in-Some.part (sizes_of_universe u c.len-in-loop-part.ensures.universe).values some c.loop-part.invariant c.in-Some.ensures.steps a e in
     none at.position (omega (arith, at.below, at.limit)) at.is)
 
-pub size-requires : goal.size-requires
-size-requires c = grind (arith, common_steps, admits_at_most, length-map)
-
 pub returns-then-from-size : goal.returns-then-from-size
 returns-then-from-size c = λ d a e.
     let u = c.args.universe.now in
@@ -53,9 +49,6 @@ returns-then-from-size c = λ d a e.
     let same : at.position ≡ c.in_ok-position.position = decimal-injective at.position c.in_ok-position.position (omega (arith, at.below, at.limit)) (omega arith) (at.is ∙ sym position) in
     let size : slice_index ns (length c.loop-part.prefix) ≡ c.size.result = get_or_from_slice_get ns (length c.loop-part.prefix) c.size.result 0 (rw c.len-in-loop-part-2.ensures.len at c.size.ensures.size) in
     omega (arith, at.below, size, same)
-
-pub push-requires : goal.push-requires
-push-requires c = grind (arith, common_steps, admits_at_most, length-map)
 
 pub loop-part-preserved : goal.loop-part-preserved
 loop-part-preserved c = search (rules, next_piece, get_or_from_slice_get, admits_at_most, piece_read, length-map)
