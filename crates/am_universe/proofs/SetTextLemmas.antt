@@ -2,6 +2,7 @@
 use Rattle.std.proofs.Common.{◌≡◌, ℕ, zero, suc, ◌+◌, ◌<◌, List, [], ◌∷◌, ◌++◌, length, map, take, drop, Some, None, slice_get, slice_index, option_and_then, ap, sym, ◌∙◌, refl, arith, add-one, append_assoc, append-nil}
 use Rattle.std.specs.List.{join_with_byte}
 use Rattle.std.proofs.lemmas.List.{take_all}
+use Rattle.std.proofs.lemmas.Grind.{common_steps}
 use Rattle.am_universe.specs.Universe.{Label, names}
 use Rattle.am_universe.specs.LabelSet.{value_at, with_label, label_pairs}
 use Rattle.am_universe.specs.WrittenLabelSet.{pair_text, pairs_text}
@@ -37,9 +38,7 @@ following-append (p ∷ ps) qs = ap (λ t. 44 ∷ (pair_text p ++ t)) (following
 -- One pair, with others before and after it.
 pub joined_through : (ps : Pairs) (p : List ℕ × List ℕ) (qs : Pairs) → joined (ps ++ p ∷ qs) ≡ joined ps ++ ((separator ps ++ pair_text p) ++ following qs)
 joined_through [] p qs = joined-cons p qs
-joined_through (o ∷ ps) p qs =
-    joined-cons o (ps ++ p ∷ qs) ∙ ap (λ t. pair_text o ++ t) (following-append ps (p ∷ qs)) ∙ sym (append_assoc (pair_text o) (following ps) (following (p ∷ qs)))
-    ∙ ap (λ t. t ++ following (p ∷ qs)) (sym (joined-cons o ps))
+joined_through (o ∷ ps) p qs = grind (arith, common_steps, joined-cons, following-append)
 
 -- One pair after others.
 pub joined_more : (ps : Pairs) (p : List ℕ × List ℕ) → joined (ps ++ p ∷ []) ≡ joined ps ++ (separator ps ++ pair_text p)
@@ -82,10 +81,7 @@ pair_among u c i p name text whole k is named valued =
 
 pub set_through : (pairs ps : Pairs) (p : List ℕ × List ℕ) (qs : Pairs) (s : List ℕ) → pairs ≡ ps ++ p ∷ qs → s ≡ separator ps
     → (123 ∷ joined ps) ++ ((s ++ pair_text p) ++ (following qs ++ 125 ∷ [])) ≡ pairs_text pairs
-set_through pairs ps p qs s are is =
-    let next : List ℕ = s ++ pair_text p in
-    ap (λ t. 123 ∷ t) (ap (λ t. joined ps ++ t) (sym (append_assoc next (following qs) (125 ∷ []))) ∙ sym (append_assoc (joined ps) (next ++ following qs) (125 ∷ []))
-    ∙ ap (λ t. t ++ 125 ∷ []) (ap (λ t. joined ps ++ ((t ++ pair_text p) ++ following qs)) is ∙ sym (joined_through ps p qs) ∙ ap joined (sym are)))
+set_through pairs ps p qs s are is = grind (arith, common_steps, joined_through)
 
 pub set_more : (pairs ps : Pairs) (p : List ℕ × List ℕ) (s : List ℕ) → pairs ≡ ps ++ p ∷ [] → s ≡ separator ps → (123 ∷ joined ps) ++ (s ++ pair_text p) ≡ 123 ∷ joined pairs
 set_more pairs ps p s are is = ap (λ t. 123 ∷ t) (ap (λ t. joined ps ++ (t ++ pair_text p)) is ∙ sym (joined_more ps p) ∙ ap joined (sym are))
