@@ -1,8 +1,8 @@
 -- A reading decides what is said if its parts do.
-use Rattle.std.proofs.Common.{◌≡◌, ◌⊎◌, ◌≤◌, ℕ, List, [], length, Bool, true, false, not}
+use Rattle.std.proofs.Common.{◌≡◌, ◌⊎◌, ◌≤◌, ℕ, List, [], length, Bool, true}
 use Rattle.std.proofs.Common.{Option, Some, None, Result, Ok, ap, option_and_then, inl, inr}
 use Rattle.std.proofs.Common.{arith, refl, subst, sym, ◌∙◌}
-use Rattle.std.specs.Prelude.{⊤, IsTrue, ok_or}
+use Rattle.std.specs.Prelude.{⊤, ok_or}
 use Rattle.std.specs.Result.{result_map_both}
 use Rattle.std.proofs.Math.Bool.{and-false}
 use Rattle.std.proofs.lemmas.Grind.{common_steps}
@@ -12,7 +12,7 @@ use Rattle.serde_json.specs.Find as find
 use Rattle.am_universe.specs.declared.kind.Kind.{Kind}
 use Rattle.am_universe.specs.declared.kind.Kind.TheVariants as kinds
 use Rattle.am_json.specs.declared.limits.TheConstants.{MAX_FILE_BYTES}
-use Rattle.am_json.specs.Json.{json_of, is_null, is_one_of, is_unknown, field}
+use Rattle.am_json.specs.Json.{json_of, is_null, field}
 use Rattle.am_json.specs.Json.{SaysBooleanOr, FileSays}
 use Rattle.am_json.specs.Json.{unknown_field, items_of, AreOnlyFields, HasOnlyFields}
 use Rattle.am_json.specs.OptionalItems.{HasItems, optional_items, read_optional_items}
@@ -153,16 +153,11 @@ none_says known no_members h = tt
 none_says known (member key d rest) h =
     grind (arith, common_steps, null_is, none_says known rest)
 
-known_reads : (known : List (List ℕ)) (key : List ℕ) (d : Data) → (d ≡ null)
-    ⊎ IsTrue (is_one_of key known) → is_unknown known key d ≡ false
-known_reads known key d (inl e) = rw e refl
-known_reads known key d (inr e) = rw e (and-false (not (is_null d)))
-
 only_none : (known : List (List ℕ)) (ms : Members) → AreOnlyFields known ms
     → unknown_field known ms ≡ None
 only_none known no_members only = refl
 only_none known (member key d rest) only =
-    rw (known_reads known key d only.0) (only_none known rest only.1)
+    grind (arith, common_steps, and-false, only_none known rest)
 
 not_refused : (found : Option (List ℕ)) (x : ⊤) → (refuse_unknown_field found).result ≡ Ok x
     → found ≡ None
