@@ -16,12 +16,16 @@ use Rattle.am_search.specs.Visits.{visited, given_at, given_by, up_to_budget, gi
 use Rattle.am_search.specs.BudgetPage.{page_under}
 use Rattle.am_search.specs.AnswersView.{answers_left, answers_stop, answers_page}
 use Rattle.am_search.specs.Walk.{IsLeft, IsWalk}
+use Rattle.am_search.proofs.VisitsGive.{visited_give}
 
 -- ---- What is left of a budget.
 
 pub left_first : (budget : Option ℕ) (judged : List (List ℕ)) → judged ≡ [] → IsLeft budget budget judged
 left_first None judged none = refl
 left_first (Some n) judged none = ap Some (omega (arith, ap length none))
+
+-- the rules by which a search begins
+pub ruleset at_first = (left_first, visited_give)
 
 pub left_after : (budget left after : Option ℕ) (judged more : List (List ℕ)) (p : List ℕ) → IsLeft budget left judged
     → left ≡ option_map (λ n. 1 + n) after → more ≡ judged ++ p ∷ [] → IsLeft budget after more

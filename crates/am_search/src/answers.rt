@@ -73,7 +73,7 @@ impl<'a, J: Judge> Answers<'a, J> {
     ///
     /// The start must be a start over the sizes of the judge. With `steps`, at most that many
     /// prefixes are judged, and the answers are those that these prefixes give.
-    #[tactic(auto, using(crate::proofs::WalkBudgets::left_first, crate::proofs::VisitsGive::visited_give))]
+    #[tactic(auto, using(crate::proofs::WalkBudgets::at_first))]
     pub fn from(judge: &'a J, start: Start, steps: Option<u64>) -> Answers<'a, J>
         requires { IsStart (J.sizes judge.now) start }
         ensures left { steps ≡ None → answers_left result
