@@ -5,6 +5,7 @@ use Rattle.std.proofs.Common.{subst, ◌∙◌, append_assoc, append-nil, arith}
 use Rattle.std.specs.Prelude.{codes}
 use Rattle.std.specs.List.{AllZip, IsDistinct, position}
 use Rattle.std.proofs.lemmas.Slice.Zip.{AllZip-long}
+use borrow.Author.Tests.{ne_eqb}
 use Rattle.serde_json.specs.Data.{Data, string}
 use Rattle.am_universe.specs.declared.kind.Kind.TheVariants as kinds
 use Rattle.am_universe.specs.Text.{same_text}
@@ -54,16 +55,25 @@ free_or : (b : Bool) → cond b (Some kinds.Duplicate) None ≡ None → b ≡ f
 free_or true h = absurd cc
 free_or false h = refl
 
+-- a name that is not empty is at fault exactly if it is taken
+fault_of : (before : List (List ℕ)) (c : ℕ) (cs : List ℕ)
+    → receiver_name_fault before (c ∷ cs)
+    ≡ cond (is_one_of (c ∷ cs) before) (Some kinds.Duplicate) None
+fault_of before c cs =
+    ap (λ empty. cond empty (Some kinds.Empty)
+    (cond (is_one_of (c ∷ cs) before) (Some kinds.Duplicate) None))
+    (ne_eqb (length (c ∷ cs)) 0 (omega arith))
+
 name_is_free : (before : List (List ℕ)) (name : List ℕ) → receiver_name_fault before name ≡ None
     → (name ≢ []) × NameFits before name
 name_is_free before [] h = absurd cc
 name_is_free before (c ∷ cs) h =
-    (λ e. cc, free_or (is_one_of (c ∷ cs) before) h)
+    (λ e. cc, free_or (is_one_of (c ∷ cs) before) (sym (fault_of before c cs) ∙ h))
 
 free_name : (before : List (List ℕ)) (name : List ℕ) → name ≢ [] → NameFits before name
     → receiver_name_fault before name ≡ None
 free_name before [] some fits = absurd (some refl)
-free_name before (c ∷ cs) some fits = rw fits refl
+free_name before (c ∷ cs) some fits = fault_of before c cs ∙ rw fits refl
 
 free_decides : (before : List (List ℕ)) (name : List ℕ)
     → Decides (λ _. (name ≢ []) × NameFits before name)

@@ -1,4 +1,3 @@
-pub mod Positions
 pub mod Routing
 pub mod ConfigParts
 pub mod MatchersSay

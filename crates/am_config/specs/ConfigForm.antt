@@ -3,7 +3,7 @@
 -- value that it looks at. The form of a value around it puts the pointer to the part in front.
 use Rattle.std.specs.Prelude.{◌≡◌, ◌+◌, ◌&&◌, ℕ, zero, suc, List, [], ◌∷◌, ◌++◌, length, Bool}
 use Rattle.std.specs.Prelude.{true, false, not}
-use Rattle.std.specs.Prelude.{if◌then◌else◌, is_none, Option, Some, None}
+use Rattle.std.specs.Prelude.{if◌then◌else◌, ◌==◌, is_none, Option, Some, None}
 use Rattle.std.specs.Prelude.{position, codes}
 use Rattle.std.specs.List.{enumerate_from}
 use Rattle.serde_json.specs.Data.{Data}
@@ -39,9 +39,9 @@ use Rattle.am_list_files.specs.NamedText.{named_text_form}
 -- What is wrong with the name of a receiver that follows these: it is empty, or it is one of them.
 -- (Reference, "<receiver>": `name`.)
 abbrev pub receiver_name_fault : List (List ℕ) → List ℕ → Option Kind
-receiver_name_fault before [] = Some kinds.Empty
-receiver_name_fault before (c ∷ cs) =
-    if is_one_of (c ∷ cs) before then Some kinds.Duplicate else None
+receiver_name_fault before name =
+    if length name == 0 then Some kinds.Empty
+    else if is_one_of name before then Some kinds.Duplicate else None
 
 -- The name of a receiver, after the names that were read before it. Its other fields are not read.
 unfoldable pub next_receiver_form : List (List ℕ) → Data → Reading (List ℕ)

@@ -5,6 +5,7 @@ ghost use Rattle.std.specs.Prelude.{string_bytes, option_map, false};
 ghost use Rattle.serde_json.specs.Data.{Data};
 ghost use Rattle.serde_json.specs.View.{view};
 ghost use Rattle.am_universe.specs.declared.place.Place.TheVariants as places;
+ghost use Rattle.am_json.specs.Json.{is_one_of};
 ghost use Rattle.am_json.specs.Reading.{Gives, IsRefusalAt, Reading, check_only_fields};
 ghost use Rattle.am_json.specs.Reading.{read_counted, read_items};
 ghost use Rattle.am_config.specs.ConfigFile.{FileSaysConfig, route_fields, route_matcher_fields};
@@ -177,10 +178,16 @@ fn receiver_name_fault(before: &[String], name: &str) -> Option<Kind>
     if name.is_empty() {
         return Some(Kind::Empty);
     }
-    if position(before, name).is_some() {
+    if is_one_of(name, before) {
         return Some(Kind::Duplicate);
     }
     None
+}
+
+fn is_one_of(name: &str, names: &[String]) -> bool
+    ensures { result ≡ is_one_of name.now (names_of names.now) }
+{
+    names.iter().any(|other| other.as_str() == name)
 }
 
 // ---- The routes.
