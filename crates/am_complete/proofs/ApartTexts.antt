@@ -57,16 +57,14 @@ apart_pushed ms xs x apart none i j y z at_y at_z same =
 
 -- ---- How many there are.
 
-alike_itself_is : (ms : List Condition) (x : List ℕ) → alike ms x x ≡ true
-alike_itself_is ms x = alike_is ms x x (alike_itself ms x)
-
 alike_through : (ms : List Condition) (x y z : List ℕ) → alike ms x y ≡ true
     → alike ms x z ≡ alike ms y z
 alike_through ms x y z e =
     grind (arith, common_steps, is_alike, same_where_both, alike_is, alike_joined, alike_turned)
 
 alike_equivalence : (ms : List Condition) → IsEquivalence (alike ms)
-alike_equivalence ms = grind (arith, common_steps, alike_itself_is, turned, alike_through)
+alike_equivalence ms =
+    grind (arith, common_steps, alike_is, alike_itself, turned, alike_through)
 
 -- if no two of some texts are alike, and each is alike to one of others, they are no more than the
 -- others

@@ -1,6 +1,8 @@
 -- Labels that are asked about: their names, and the matchers on them.
-use Rattle.std.proofs.Common.{◌≡◌, ◌≢◌, ℕ, List, [], ◌∷◌, Contains, refl, sym, ◌∙◌, subst, inl, inr}
+use Rattle.std.proofs.Common.{◌≡◌, ◌≢◌, ℕ, List, [], ◌∷◌, Some, None, refl, sym, ◌∙◌, subst, inl}
+use Rattle.std.proofs.Common.{inr}
 use Rattle.std.specs.Prelude.{IsTrue}
+use Rattle.std.specs.List.{find}
 use Rattle.std.specs.Cmp.Lexicographic.{bytes_decides}
 use Rattle.std.proofs.lemmas.Bool.{cases_Bool}
 use Rattle.am_universe.specs.Text.{same_text}
@@ -10,10 +12,12 @@ use Rattle.am_universe.proofs.Members.{joined_in}
 use Rattle.am_labels.specs.Matcher.{Condition}
 use Rattle.am_complete.specs.Complete.{about, asks_only_of, AreAmong, impossible_conditions}
 use Rattle.am_complete.specs.Complete.{HaveSameMatchers}
-use Rattle.am_complete.specs.AskedLabel.{AskedLabel, asked_names, IsAskedOf}
+use Rattle.am_complete.specs.AskedLabel.{AskedLabel, IsAskedOf}
 use Rattle.am_complete.specs.FoundState.{HasThoseOfLists}
 use Rattle.am_complete.proofs.Alike.{is_about, is_among}
 use Rattle.am_complete.proofs.AmongMatchers.{among_by}
+use Rattle.am_complete.proofs.CompleteUniverses.{named_by}
+use Rattle.am_complete.proofs.LabelTexts.{finds_in}
 use Rattle.am_complete.proofs.PossibleTexts.{all_pass}
 use Rattle.am_complete.proofs.SameMatchers.{in_back}
 
@@ -37,36 +41,26 @@ on_name asked ms l asks i some =
     asks.matchers i some
 
 -- and the matchers of impossible lists that ask about it alone are among them
-all_on : (name : List ℕ) (list : List Condition) → IsTrue (asks_only_of name list)
-    → (m : Condition) → IsIn list m → m.name ≡ name
-all_on name list alone m i =
-    (bytes_decides m.name name).0 (all_pass (λ n. same_text n.name name) list m alone i)
-
-those_of_lists : (ms : List Condition) (l : AskedLabel) (impossible : List (List Condition))
-    → AreAmong (impossible_conditions impossible) ms
-    → HaveSameMatchers l.matchers (about l.name ms) → HasThoseOfLists impossible l
-those_of_lists ms l impossible among same =
-    AllByRecursion-each (λ list. IsTrue (asks_only_of l.name list) → AreAmong list l.matchers)
-    impossible (λ list i alone.
-    among_by list l.matchers (λ m j.
-    let there = joined_in (λ xs. xs) impossible list m i j in
-    in_back l.matchers (about l.name ms) m same
-    (is_about l.name ms m (is_among (impossible_conditions impossible) ms m among there)
-    (all_on l.name list alone m j))))
-
 pub asked_for : (impossible : List (List Condition)) (asked : List AskedLabel)
     (ms : List Condition) (l : AskedLabel) → IsAskedOf asked ms
     → AreAmong (impossible_conditions impossible) ms → IsIn asked l → l.name ≢ []
     → HasThoseOfLists impossible l
 asked_for impossible asked ms l asks among i some =
-    those_of_lists ms l impossible among (on_name asked ms l asks i some)
+    AllByRecursion-each (λ list. IsTrue (asks_only_of l.name list) → AreAmong list l.matchers)
+    impossible (λ list j alone.
+    among_by list l.matchers (λ m k.
+    let there = joined_in (λ xs. xs) impossible list m j k in
+    in_back l.matchers (about l.name ms) m (on_name asked ms l asks i some)
+    (is_about l.name ms m (is_among (impossible_conditions impossible) ms m among there)
+    ((bytes_decides m.name l.name).0 (all_pass (λ n. same_text n.name l.name) list m alone k)))))
 
 -- a name that is not asked about has no matcher on it
 pub not_asked : (asked : List AskedLabel) (ms : List Condition) (name : List ℕ)
-    → IsAskedOf asked ms → (Contains (asked_names asked) name → ⊥) → name ≢ []
+    → IsAskedOf asked ms → find (λ l. same_text l.name name) asked ≡ None → name ≢ []
     → about name ms ≡ []
 not_asked asked ms name asks none some =
     none_on name ms (λ m i e.
-    none (subst (Contains (asked_names asked)) e
-    (AllByRecursion-at (λ x. x.name ≢ [] → Contains (asked_names asked) x.name) ms m asks.every
-    i (λ empty. some (sym e ∙ empty)))))
+    let l = named_by asked ms m asks i (λ empty. some (sym e ∙ empty)) in
+    let there : find (λ k. same_text k.name name) asked ≡ Some l.0 =
+    subst (λ n. find (λ k. same_text k.name n) asked ≡ Some l.0) (l.2 ∙ e)
+    (finds_in (λ k. k.name) asked l.0 asks.distinct l.1) in cc)

@@ -165,26 +165,17 @@ pub apart_from_distinct_texts : (ms : List Condition) (xs : List (List ℕ))
 apart_from_distinct_texts ms xs distinct i j x y at_x at_y h =
     grind (arith, common_steps, cases_lt, apart_before, alike_turned)
 
-apart_moved : (ms : List Condition) (xs ys : List (List ℕ)) → IsPermutation xs ys
-    → AreApart ms xs → AreApart ms ys
-apart_moved ms xs ys moved apart =
-    apart_from_distinct_texts ms ys
-    (IsDistinct-IsPermutation (alike ms) (turned ms) xs ys moved (distinct_from_apart ms xs apart))
-
-over_moved : (alphabet : Alphabet) (xs ys : List (List ℕ)) → IsPermutation xs ys
-    → AreOver alphabet xs → AreOver alphabet ys
-over_moved alphabet xs ys moved over =
-    AllByRecursion-each (IsOver alphabet) ys (λ y i.
-    AllByRecursion-at (IsOver alphabet) xs y over
-    (IsIn-from_Contains xs y
-    (Contains-permutation ys xs y (IsPermutation-sym xs ys moved) (Contains-from_IsIn ys y i))))
-
 pub classes_moved : (alphabet : Alphabet) (ms : List Condition) (xs ys : List (List ℕ)) (all : Bool)
     → IsPermutation xs ys → AreClasses alphabet ms xs all → AreClasses alphabet ms ys all
 classes_moved alphabet ms xs ys all moved classes = record {
   covers = λ whole text valid.
       let one = classes.covers whole text valid in
       (one.0, Contains-permutation xs ys one.0 moved one.1, one.2);
-  apart = apart_moved ms xs ys moved classes.apart;
-  over = over_moved alphabet xs ys moved classes.over;
+  apart = apart_from_distinct_texts ms ys
+      (IsDistinct-IsPermutation (alike ms) (turned ms) xs ys moved
+      (distinct_from_apart ms xs classes.apart));
+  over = AllByRecursion-each (IsOver alphabet) ys (λ y i.
+      AllByRecursion-at (IsOver alphabet) xs y classes.over
+      (IsIn-from_Contains xs y
+      (Contains-permutation ys xs y (IsPermutation-sym xs ys moved) (Contains-from_IsIn ys y i))));
 }

@@ -65,22 +65,13 @@ pub by_names : (P : List ℕ → Type 0) (ms : List Condition)
 by_names P ms without on name some = grind (arith, common_steps, some_about)
 
 -- or at the labels that are asked about
-named_by : (asked : List AskedLabel) (ms : List Condition) (m : Condition) → IsAskedOf asked ms
+pub named_by : (asked : List AskedLabel) (ms : List Condition) (m : Condition) → IsAskedOf asked ms
     → IsIn ms m → m.name ≢ [] → (l : AskedLabel) × IsIn asked l × (l.name ≡ m.name)
 named_by asked ms m asks i some =
     IsIn-unmap (λ l. l.name) asked m.name
     (IsIn-from_Contains (asked_names asked) m.name
     (AllByRecursion-at (λ x. x.name ≢ [] → Contains (asked_names asked) x.name) ms m asks.every i
     some))
-
-by_asked : (P : List ℕ → Type 0) (asked : List AskedLabel) (ms : List Condition)
-    → IsAskedOf asked ms → ((name : List ℕ) → about name ms ≡ [] → P name)
-    → ((l : AskedLabel) → IsIn asked l → l.name ≢ [] → P l.name)
-    → (name : List ℕ) → name ≢ [] → P name
-by_asked P asked ms asks without on =
-    by_names P ms without (λ m i some.
-    let r = named_by asked ms m asks i some in
-    subst P r.2 (on r.0 r.1 (λ empty. some (sym r.2 ∙ empty))))
 
 -- ---- Spaces.
 
@@ -93,9 +84,12 @@ pub space_complete_where_asked : (alphabet : Alphabet) (s : Space) (asked : List
     → IsUniverse s.labels → IsAskedOf asked ms
     → ((l : AskedLabel) → IsIn asked l → l.name ≢ [] → IsSpaceCompleteAt alphabet s ms l.name)
     → IsSpaceComplete alphabet s ms
-space_complete_where_asked alphabet s asked ms h asks =
-    by_asked (IsSpaceCompleteAt alphabet s ms) asked ms asks
-    (λ name none. space_complete_without_matchers alphabet s ms name h none)
+space_complete_where_asked alphabet s asked ms h asks on =
+    by_names (IsSpaceCompleteAt alphabet s ms) ms
+    (λ name none. space_complete_without_matchers alphabet s ms name h none) (λ m i some.
+    let r = named_by asked ms m asks i some in
+    subst (IsSpaceCompleteAt alphabet s ms) r.2
+    (on r.0 r.1 (λ empty. some (sym r.2 ∙ empty))))
 
 -- ---- Impossible lists that ask about one label alone.
 

@@ -16,7 +16,7 @@ use Rattle.am_universe.specs.Universe.{Label, Values, IsLabel, IsUniverse, names
 use Rattle.am_universe.specs.Universe.{same_value, is_empty_text, label_fault, memory_fault}
 use Rattle.am_universe.proofs.DistinctLists.{all_push, distinct_push}
 use Rattle.am_universe.proofs.LabelFaultLemmas.{universe_was_added}
-use Rattle.am_universe.proofs.ListLemmas.{IsIn, Contains-from_IsIn}
+use Rattle.am_universe.proofs.ListLemmas.{Contains-from_IsIn}
 use Rattle.am_labels.proofs.Passing.{any_in}
 use Rattle.am_complete.specs.Covering.{IsFullFor}
 
@@ -51,10 +51,7 @@ distinct_texts (v ∷ vs) whole =
 pub no_such_name : (ns : List (List ℕ)) (name : List ℕ) → (Contains ns name → ⊥)
     → list_any (λ n. same_text n name) ns ≡ false
 no_such_name ns name fresh =
-    false_from_ne_true (list_any (λ n. same_text n name) ns) (λ some.
-    let found = any_in (λ n. same_text n name) ns some in
-    fresh (Contains-from_IsIn ns name
-    (subst (IsIn ns) ((bytes_decides found.0 name).0 found.2) found.1)))
+    grind (arith, common_steps, bytes_decides, false_from_ne_true, any_in, Contains-from_IsIn)
 
 some_of : (texts : List (List ℕ)) → texts ≢ [] → 0 < length texts
 some_of [] h = absurd (h refl)

@@ -28,17 +28,6 @@ pub name_at : (labels : List AskedLabel) (i : ℕ) (l : AskedLabel) (name : List
     → slice_get labels i ≡ Some l → l.name ≡ name → slice_get (asked_names labels) i ≡ Some name
 name_at labels i l name at named = grind (arith, common_steps, slice_get-map)
 
--- the label at the position of a name has that name
-pub named_at : (labels : List AskedLabel) (i : ℕ) (l : AskedLabel) (name : List ℕ)
-    → slice_get labels i ≡ Some l → slice_get (asked_names labels) i ≡ Some name → l.name ≡ name
-named_at labels i l name at there =
-    same_Some l.name name (sym (name_at labels i l l.name at refl) ∙ there)
-
--- there are as many labels as names
-pub within_names : (labels : List AskedLabel) (i : ℕ) (name : List ℕ)
-    → slice_get (asked_names labels) i ≡ Some name → i < length labels
-within_names labels i name at = grind (arith, common_steps, slice_get_within, length-map)
-
 -- a name that no label has is at no position
 unnamed : (labels : List AskedLabel) (name : List ℕ)
     → list_any (λ l. same_text l.name name) labels ≡ false
@@ -149,7 +138,8 @@ pub asked_again : (positions : BTreeMap (Bor (List ℕ)) ℕ) (labels : List Ask
     → position_in positions m.name ≡ Some i → slice_get labels i ≡ Some l
     → set labels i (with_matcher m l) ≡ with_asked labels (origin, m)
 asked_again positions labels origin m i l indexed at there =
-    let name = named_at labels i l m.name there ((indexed m.name i).0 at) in
+    let name = same_Some l.name m.name
+    (sym (name_at labels i l l.name there refl) ∙ (indexed m.name i).0 at) in
     let test : AskedLabel → Bool = λ x. same_text x.name m.name in
     let some : list_any test labels ≡ true =
     in_any test labels l (in_at labels i l there) ((bytes_decides l.name m.name).1 name) in
@@ -178,4 +168,9 @@ indexed_again positions labels i l next indexed there same q j =
 pub within : (positions : BTreeMap (Bor (List ℕ)) ℕ) (labels : List AskedLabel) (name : List ℕ)
     (i : ℕ) → IsIndexed positions labels → position_in positions name ≡ Some i
     → i < length labels
-within positions labels name i indexed at = within_names labels i name ((indexed name i).0 at)
+within positions labels name i indexed at =
+    omega (
+      arith,
+      slice_get_within (asked_names labels) i name ((indexed name i).0 at),
+      length-map labels (λ (l : AskedLabel). l.name),
+    )

@@ -2,15 +2,13 @@
 use Rattle.std.proofs.Common.{◌≡◌, ◌≢◌, ◌<◌, ◌+◌, ◌==◌, ℕ, Bool, true, false, not, List, [], ◌∷◌}
 use Rattle.std.proofs.Common.{◌++◌, length, map, take, get_or, Option, Some, None, Contains, refl}
 use Rattle.std.proofs.Common.{sym, ap, ◌∙◌, subst, inl, inr, arith, String, string_bytes}
-use Rattle.std.proofs.Common.{append_assoc, cond}
 use Rattle.std.specs.Prelude.{IsTrue, slice_get, unwrap_or, is_some, IfSome, IfNone}
-use Rattle.std.specs.List.{AllByRecursion, filter, find, list_any, list_all}
+use Rattle.std.specs.List.{AllByRecursion, find, list_any, list_all}
 use Rattle.std.specs.Cmp.Lexicographic.{bytes_decides}
 use Rattle.std.specs.declared.alloc.Global.{Global}
 use Rattle.std.proofs.lemmas.Bool.{cases_Bool, false_from_ne_true, or_from}
 use Rattle.std.proofs.lemmas.Bool.Decides.{nat_tests}
-use Rattle.std.proofs.lemmas.List.{map-append, append-nil, take_more}
-use Rattle.std.proofs.lemmas.List.Elements.{filter-append}
+use Rattle.std.proofs.lemmas.List.{map-append, take_more}
 use Rattle.std.proofs.lemmas.List.Folds.{find_at, list_any_more}
 use Rattle.std.proofs.lemmas.List.Quantifiers.{position-Some}
 use Rattle.std.proofs.lemmas.Option.{slice_get-get_or, get_or_from_slice_get, slice_get_within}
@@ -30,12 +28,12 @@ use Rattle.am_classes.specs.Alike.{HasAlikeIn}
 use Rattle.am_complete.specs.declared.label_state.Completeness.{Completeness}
 use Rattle.am_complete.specs.declared.label_state.Completeness.TheVariants as state_is
 use Rattle.am_complete.specs.declared.label_state.LabelState.{LabelState}
-use Rattle.am_complete.specs.Complete.{about, label_texts, texts_of_label}
-use Rattle.am_complete.specs.Complete.{IsSpaceComplete, IsSpaceCompleteAt}
+use Rattle.am_complete.specs.Complete.{about, label_texts, texts_of_label, IsSpaceComplete}
+use Rattle.am_complete.specs.Complete.{IsSpaceCompleteAt}
 use Rattle.am_complete.specs.AskedLabel.{AskedLabel, asked_names, IsAskedOf}
 use Rattle.am_complete.specs.Covering.{CoverPossible, standing_texts}
 use Rattle.am_complete.specs.LabelState.{IsSoAt, is_settled, is_declared, reported_names}
-use Rattle.am_complete.specs.FoundState.{IsFoundAt, IsSoOfName, begins, is_unseen}
+use Rattle.am_complete.specs.FoundState.{IsFoundAt, IsSoOfName, begins}
 use Rattle.am_complete.proofs.Alike.{alike_joined}
 use Rattle.am_complete.proofs.CompleteUniverses.{space_complete_without_matchers}
 use Rattle.am_complete.proofs.CompleteUniverses.{space_complete_where_asked}
@@ -44,7 +42,6 @@ use Rattle.am_complete.proofs.AskedLabels.{on_name}
 use Rattle.am_complete.proofs.SameMatchers.{has_alike_among, cover_among, pattern_among}
 use Rattle.am_complete.proofs.SameMatchers.{same_classes}
 use Rattle.am_complete.proofs.PossibleTexts.{all_pass}
-use Rattle.am_complete.proofs.Pushed.{one_longer}
 
 -- ---- The texts of a label, by its position.
 
@@ -77,7 +74,7 @@ pub covered : (alphabet : Alphabet) (impossible : List (List Condition)) (name :
 covered alphabet impossible name ms have texts covers each text valid possible =
     grind (arith, common_steps, alike_joined)
 
-found_is_so : (alphabet : Alphabet) (s : Space) (asked : List AskedLabel) (ms : List Condition) (l : AskedLabel)
+pub found_is_so : (alphabet : Alphabet) (s : Space) (asked : List AskedLabel) (ms : List Condition) (l : AskedLabel)
     (c : Completeness) → IsAskedOf asked ms → IsIn asked l → l.name ≢ [] → IsFoundAt alphabet s l c
     → IsSoAt alphabet s ms asked l.name c
 found_is_so alphabet s asked ms l (state_is.Complete n) asks i some h =
@@ -108,29 +105,12 @@ found_is_so alphabet s asked ms l (state_is.Unproved origin) asks i some h = (
   pattern_among l.matchers (about l.name ms) (on_name asked ms l asks i some).there h.1,
 )
 
-pub state_is_so : (alphabet : Alphabet) (s : Space) (asked : List AskedLabel) (alerts : Option (List LabelMap))
-    (l : AskedLabel) (state : LabelState) → IsIn asked l → string_bytes state.name ≡ l.name
-    → IsFoundAt alphabet s l state.completeness
-    → state.unseen ≡ is_unseen alerts (string_bytes state.name)
-    → IsSoOfName alphabet s asked alerts state
-state_is_so alphabet s asked alerts l state i named found unseen =
-    record {
-      so = λ ms asks.
-          rw named (λ some.
-          found_is_so alphabet s asked ms l state.completeness asks i some found);
-      unseen = unseen;
-    }
-
 -- a name is declared exactly if a label has it
 pub declared_where : (u : List Label) (name : List ℕ) → IsIn (names u) name
     → is_declared u name ≡ true
 declared_where u name i =
     let found = IsIn-unmap (λ l. l.name) u name i in
     in_any (has_name name) u found.0 found.1 ((bytes_decides found.0.name name).1 found.2)
-
-pub declared_by : (u : List Label) (i : ℕ) (name : List ℕ) → slice_get (names u) i ≡ Some name
-    → is_declared u name ≡ true
-declared_by u i name at = declared_where u name (in_at (names u) i name at)
 
 pub declared_in : (u : List Label) (name : List ℕ) → is_declared u name ≡ true → IsIn (names u) name
 declared_in u name some =
@@ -144,14 +124,13 @@ undeclared_by u name none =
     false_from_ne_true (is_declared u name) (λ some.
     none (Contains-from_IsIn (names u) name (declared_in u name some)))
 
-pub not_declared : (u : List Label) (name : List ℕ) (found : Option ℕ) (none : Bool)
+pub declared_if : (u : List Label) (name : List ℕ) (found : Option ℕ) (some : Bool)
     → IfSome found (λ i. slice_get (names u) i ≡ Some name)
-    → IfNone found (Contains (names u) name → ⊥) → is_some found ≡ not none
-    → none ≡ not (is_declared u name)
-not_declared u name None true at absent is = ap not (sym (undeclared_by u name absent))
-not_declared u name None false at absent is = absurd (cc)
-not_declared u name (Some i) true at absent is = absurd (cc)
-not_declared u name (Some i) false at absent is = ap not (sym (declared_by u i name at))
+    → IfNone found (Contains (names u) name → ⊥) → some ≡ is_some found
+    → some ≡ is_declared u name
+declared_if u name None some at absent is = is ∙ sym (undeclared_by u name absent)
+declared_if u name (Some i) some at absent is =
+    is ∙ sym (declared_where u name (in_at (names u) i name at))
 
 -- ---- Label after label.
 
@@ -173,46 +152,6 @@ pub empty_begins : (text : List ℕ) → not (length text == 0) ≡ begins text
 empty_begins [] = refl
 empty_begins (c ∷ cs) = grind (arith, nat_tests)
 
--- the names of some states, and those that are not declared
-abbrev pub names_of : List LabelState → List (List ℕ)
-names_of states = map (λ state. string_bytes state.name) states
-
-abbrev pub undeclared : List Label → List (List ℕ) → List (List ℕ)
-undeclared u ns = filter (λ name. not (is_declared u name)) ns
-
--- one label more
-undeclared_more : (u : List Label) (asked : List AskedLabel) (i : ℕ) (l : AskedLabel)
-    → slice_get asked i ≡ Some l
-    → undeclared u (asked_names (take i asked)) ++ undeclared u (l.name ∷ [])
-    ≡ undeclared u (asked_names (take (i + 1) asked))
-undeclared_more u asked i l at =
-    sym (filter-append (λ name. not (is_declared u name)) (asked_names (take i asked))
-    (l.name ∷ []))
-    ∙ ap (undeclared u) (sym (map-append (λ x. x.name) (take i asked) (l ∷ []))
-    ∙ ap asked_names (one_longer asked i l at))
-
-pub passed_over : (u : List Label) (asked : List AskedLabel) (i : ℕ) (l : AskedLabel)
-    → slice_get asked i ≡ Some l → is_declared u l.name ≡ true
-    → undeclared u (asked_names (take i asked)) ≡ undeclared u (asked_names (take (i + 1) asked))
-passed_over u asked i l at declared =
-    sym (append-nil (undeclared u (asked_names (take i asked))))
-    ∙ ap (λ b. undeclared u (asked_names (take i asked)) ++ cond (not b) (l.name ∷ []) [])
-    (sym declared) ∙ undeclared_more u asked i l at
-
-pub added : (u : List Label) (asked : List AskedLabel) (i : ℕ) (l : AskedLabel)
-    (first before : List LabelState) (state : LabelState) → slice_get asked i ≡ Some l
-    → is_declared u l.name ≡ false → string_bytes state.name ≡ l.name
-    → names_of before ≡ names_of first ++ undeclared u (asked_names (take i asked))
-    → names_of (before ++ state ∷ [])
-    ≡ names_of first ++ undeclared u (asked_names (take (i + 1) asked))
-added u asked i l first before state at absent named so_far =
-    let done = undeclared u (asked_names (take i asked)) in
-    map-append (λ x. string_bytes x.name) before (state ∷ [])
-    ∙ (λ k. so_far k ++ named k ∷ [])
-    ∙ append_assoc (names_of first) done (l.name ∷ [])
-    ∙ ap (λ b. names_of first ++ (done ++ cond (not b) (l.name ∷ []) [])) (sym absent)
-    ∙ ap (λ xs. names_of first ++ xs) (undeclared_more u asked i l at)
-
 -- ---- All labels.
 
 settled_complete : (alphabet : Alphabet) (s : Space) (ms : List Condition) (asked : List AskedLabel)
@@ -230,9 +169,9 @@ reported : (u : List Label) (asked : List AskedLabel) (l : AskedLabel) → IsIn 
     → IsIn (reported_names u asked) l.name
 reported u asked l i = elim (cases_Bool (is_declared u l.name)) [
   | inl some ↦
-      IsIn-left (names u) (undeclared u (asked_names asked)) l.name (declared_in u l.name some)
+      IsIn-left (names u) _ l.name (declared_in u l.name some)
   | inr none ↦
-      IsIn-right (names u) (undeclared u (asked_names asked)) l.name
+      IsIn-right (names u) _ l.name
       (kept_from_passes (λ name. not (is_declared u name)) (asked_names asked) l.name
       (IsIn-map (λ x. x.name) asked l i) (ap not none))
 ]
@@ -240,7 +179,7 @@ reported u asked l i = elim (cases_Bool (is_declared u l.name)) [
 -- if each state is settled, the space is complete
 pub complete_where_settled : (alphabet : Alphabet) (s : Space) (asked : List AskedLabel)
     (alerts : Option (List LabelMap)) (states : List LabelState) → IsUniverse s.labels
-    → names_of states ≡ reported_names s.labels asked
+    → map (λ state. string_bytes state.name) states ≡ reported_names s.labels asked
     → AllByRecursion (IsSoOfName alphabet s asked alerts) states
     → (ms : List Condition) → IsAskedOf asked ms
     → IsTrue (list_all (λ state. is_settled state.completeness) states) → IsSpaceComplete alphabet s ms

@@ -1,21 +1,20 @@
 -- Universes that are made beside a space, from what the labels that are asked about lack there.
-use Rattle.std.proofs.Common.{◌≡◌, ◌≢◌, ◌<◌, ◌≤◌, ◌+◌, ℕ, List, [], ◌∷◌, ◌++◌}
-use Rattle.std.proofs.Common.{Bool, true, false, not, cond, length, map, take, Option, Some, None, Contains, refl}
-use Rattle.std.proofs.Common.{sym, ap, ◌∙◌, subst, inl, inr, arith, slice_get, ◌||◌, ◌&&◌, ◌⊎◌}
+use Rattle.std.proofs.Common.{◌≡◌, ◌≢◌, ◌<◌, ◌≤◌, ◌+◌, ℕ, List, [], ◌∷◌, ◌++◌, Bool, true, false}
+use Rattle.std.proofs.Common.{not, length, map, Option, Some, None, Contains, refl, sym, ap, ◌∙◌}
+use Rattle.std.proofs.Common.{subst, inl, inr, arith, slice_get, ◌||◌, ◌&&◌, ◌⊎◌}
 use Rattle.std.specs.Prelude.{unwrap_or, IfSome}
 use Rattle.std.specs.List.{find, filter, AllByRecursion, IsDistinct, enumerate_from}
 use Rattle.std.specs.Cmp.Lexicographic.{bytes_decides}
-use Rattle.std.proofs.lemmas.Bool.{both_ways, cases_Bool, and_from, and_parts}
-use Rattle.std.proofs.lemmas.Bool.{false_from_ne_true, true_from_ne_false, not-true}
-use Rattle.std.proofs.lemmas.List.{append-nil, map-append, length-take-le}
-use Rattle.std.proofs.lemmas.List.Elements.{filter-append}
+use Rattle.std.proofs.lemmas.Bool.{both_ways, cases_Bool, and_from, and_parts, false_from_ne_true}
+use Rattle.std.proofs.lemmas.Bool.{true_from_ne_false, not-true}
+use Rattle.std.proofs.lemmas.List.{append-nil}
 use Rattle.std.proofs.lemmas.Option.{slice_get_within}
 use Rattle.std.proofs.lemmas.Grind.{common_steps}
 use Rattle.am_universe.specs.Text.{same_text}
 use Rattle.am_universe.specs.Universe.{Label, Values, IsLabel, IsUniverse, names, is_empty_text}
-use Rattle.am_universe.proofs.ListLemmas.{IsIn, IsIn-left, IsIn-right, IsIn-map}
-use Rattle.am_universe.proofs.ListLemmas.{IsIn-unmap, IsIn-from_Contains, Contains-from_IsIn}
-use Rattle.am_universe.proofs.ListLemmas.{AllByRecursion-at, AllByRecursion-each}
+use Rattle.am_universe.proofs.ListLemmas.{IsIn, IsIn-left, IsIn-right, IsIn-map, IsIn-unmap}
+use Rattle.am_universe.proofs.ListLemmas.{IsIn-from_Contains, Contains-from_IsIn, AllByRecursion-at}
+use Rattle.am_universe.proofs.ListLemmas.{AllByRecursion-each}
 use Rattle.am_universe.proofs.Members.{in_at, at_in, is_numbered, item_at, numbered_at}
 use Rattle.am_labels.specs.Matcher.{Condition}
 use Rattle.am_labels.specs.Space.{Space}
@@ -27,24 +26,22 @@ use Rattle.am_complete.specs.Complete.{about, label_texts, texts_of_label, may_h
 use Rattle.am_complete.specs.Complete.{IsSpaceComplete}
 use Rattle.am_complete.specs.AskedLabel.{AskedLabel, asked_names, IsAskedOf}
 use Rattle.am_complete.specs.Covering.{standing_texts, standing_in, AreNeeded, CoverPossible}
-use Rattle.am_complete.specs.Covering.{CoversEachBut, KeepsLabels, HasNeeded}
-use Rattle.am_complete.specs.Covering.{AddsNeeded, HasTextsOver}
+use Rattle.am_complete.specs.Covering.{CoversEachBut, KeepsLabels, HasNeeded, AddsNeeded}
+use Rattle.am_complete.specs.Covering.{HasTextsOver}
 use Rattle.am_complete.specs.Room.{AreUnproved, MayBeUnproved}
 use Rattle.am_complete.specs.LabelState.{is_declared}
 use Rattle.am_complete.specs.Missing.{MissingTexts, IsMissingAt, AreMissing, texts_of_missing}
-use Rattle.am_complete.specs.Missing.{missing_for, whole_texts, IsWhole, has_some, is_to_declare}
-use Rattle.am_complete.specs.Missing.{needs_label, is_covered}
-use Rattle.am_complete.specs.Missing.{names_to_declare, open_positions}
+use Rattle.am_complete.specs.Missing.{missing_for, IsWhole, has_some, is_to_declare, needs_label}
+use Rattle.am_complete.specs.Missing.{is_covered, names_to_declare, open_positions, opens_from}
 use Rattle.am_complete.proofs.AskedLabels.{no_name, on_name}
 use Rattle.am_complete.proofs.SameMatchers.{cover_among, same_needed}
 use Rattle.am_complete.proofs.CompleteUniverses.{space_complete_where_asked}
 use Rattle.am_complete.proofs.LabelTexts.{has_name, finds_in, found_in, declared_texts}
 use Rattle.am_complete.proofs.LabelTexts.{unnamed_texts}
 use Rattle.am_complete.proofs.LabelStates.{declared_in, declared_where}
-use Rattle.am_complete.proofs.NeededTexts.{standing_within, cover_weaker, none_needed}
-use Rattle.am_complete.proofs.NeededTexts.{first_needed}
+use Rattle.am_complete.proofs.NeededTexts.{standing_within, cover_weaker, none_needed, first_needed}
 use Rattle.am_complete.proofs.PossibleTexts.{all_kept}
-use Rattle.am_complete.proofs.Pushed.{one_longer, zip_left, zip_right}
+use Rattle.am_complete.proofs.Pushed.{zip_left, zip_right}
 
 -- ---- Lists that are joined.
 
@@ -89,51 +86,7 @@ all_elsewhere missing i m at fresh =
     (kept_from_passes (λ q. not (is_covered q.1)) (enumerate_from 0 missing) (i, m)
     (numbered_at 0 missing i m at i (omega arith)) (ap not some)))))
 
-numbered_more : (from : ℕ) (ms : List MissingTexts) (m : MissingTexts)
-    → enumerate_from from (ms ++ m ∷ []) ≡ enumerate_from from ms ++ (from + length ms, m) ∷ []
-numbered_more from [] m = let n : from ≡ from + 0 = omega arith in λ k. (n k, m) ∷ []
-numbered_more from (x ∷ ms) m =
-    let n : from + 1 + length ms ≡ from + length (x ∷ ms) = omega arith in
-    ap (λ ns. (from, x) ∷ ns) (numbered_more (from + 1) ms m
-    ∙ ap (λ k. enumerate_from (from + 1) ms ++ (k, m) ∷ []) n)
-
-open_more : (missing : List MissingTexts) (i : ℕ) (m : MissingTexts)
-    → slice_get missing i ≡ Some m → open_positions (take i missing)
-    ++ map (λ (p : ℕ × MissingTexts). p.0) (cond (not (is_covered m)) ((i, m) ∷ []) [])
-    ≡ open_positions (take (i + 1) missing)
-open_more missing i m at =
-    let before = enumerate_from 0 (take i missing) in
-    let long : 0 + length (take i missing) ≡ i =
-    omega (arith, length-take-le i missing (omega (arith, slice_get_within missing i m at))) in
-    let first : ℕ × MissingTexts → ℕ = λ p. p.0 in
-    let test : ℕ × MissingTexts → Bool = λ p. not (is_covered p.1) in
-    sym (map-append first (filter test before) (filter test ((i, m) ∷ [])))
-    ∙ ap (map first) (sym (filter-append test before ((i, m) ∷ []))
-    ∙ ap (λ k. filter test (before ++ (k, m) ∷ [])) (sym long)
-    ∙ ap (filter test) (sym (numbered_more 0 (take i missing) m)))
-    ∙ ap open_positions (one_longer missing i m at)
-
-pub open_pushed : (missing : List MissingTexts) (i : ℕ) (m : MissingTexts)
-    → slice_get missing i ≡ Some m → is_covered m ≡ false
-    → open_positions (take i missing) ++ i ∷ [] ≡ open_positions (take (i + 1) missing)
-open_pushed missing i m at some =
-    ap (λ b. open_positions (take i missing)
-    ++ map (λ (p : ℕ × MissingTexts). p.0) (cond (not b) ((i, m) ∷ []) [])) (sym some)
-    ∙ open_more missing i m at
-
-pub open_kept : (missing : List MissingTexts) (i : ℕ) (m : MissingTexts)
-    → slice_get missing i ≡ Some m → is_covered m ≡ true
-    → open_positions (take i missing) ≡ open_positions (take (i + 1) missing)
-open_kept missing i m at all =
-    sym (append-nil (open_positions (take i missing)))
-    ∙ ap (λ b. open_positions (take i missing)
-    ++ map (λ (p : ℕ × MissingTexts). p.0) (cond (not b) ((i, m) ∷ []) [])) (sym all)
-    ∙ open_more missing i m at
-
 -- the first of the positions is the least
-abbrev opens_from : ℕ → List MissingTexts → List ℕ
-opens_from from missing = map (λ p. p.0) (filter (λ p. not (is_covered p.1)) (enumerate_from from missing))
-
 first_open : (from : ℕ) (missing : List MissingTexts) (i k : ℕ)
     → slice_get (opens_from from missing) 0 ≡ Some i → IsIn (opens_from from missing) k → i ≤ k
 first_open from [] i k at h = absurd h
@@ -266,14 +219,7 @@ module _ (a : Alphabet) (s : Space) where
   -- a label that is covered, and lacks texts, has to be declared
   labelled : (m : MissingTexts) → is_covered m ≡ true → has_some m.texts ≡ true
       → needs_label m ≡ true
-  labelled m covered some =
-      and_from m.named (has_some m.texts)
-      (by m.named (has_some m.texts) (and_parts m.all _ covered).1 some) some
-    where
-      by : (named some : Bool) → (named || not some) ≡ true → some ≡ true → named ≡ true
-      by true some h e = refl
-      by false true h e = absurd (cc)
-      by false false h e = absurd (cc)
+  labelled m covered some = grind (arith, common_steps, and_from, and_parts)
 
   none_there : (texts : List (List ℕ)) → has_some texts ≡ false → texts ≡ []
   none_there [] e = refl
@@ -284,10 +230,7 @@ module _ (a : Alphabet) (s : Space) where
       → IsUniverse v → AllByRecursion (IsWhole s missing) v → IsIn (names v) name
       → missing_for missing name ≡ Some m → label_texts v name ≡ standing_texts s name ++ m.texts
   whole_there missing v name m universe whole i found =
-      let k = IsIn-unmap (λ l. l.name) v name i in
-      ap (label_texts v) (sym k.2) ∙ declared_texts v k.0 universe k.1
-      ∙ AllByRecursion-at (IsWhole s missing) v k.0 whole k.1 ∙ ap (whole_texts s missing) k.2
-      ∙ ap (λ o. standing_texts s name ++ texts_of_missing o) found
+      grind (arith, common_steps, IsIn-unmap, declared_texts, AllByRecursion-at)
 
   -- and of one that is not declared, because it lacks none
   alone_there : (missing : List MissingTexts) (v : List Label) (l : AskedLabel)

@@ -1,11 +1,8 @@
 -- Texts that a label needs beside what stands there.
-use Rattle.std.proofs.Common.{◌≡◌, ◌<◌, ℕ, Bool, false}
-use Rattle.std.proofs.Common.{List, [], ◌∷◌, ◌++◌, length, Contains, refl, sym, ap}
+use Rattle.std.proofs.Common.{◌≡◌, ◌≢◌, ◌<◌, ℕ, false, List, [], ◌∷◌, ◌++◌, length, Contains, ap}
 use Rattle.std.proofs.Common.{◌∙◌, subst, arith}
-use Rattle.std.proofs.Common.{String, string_bytes}
 use Rattle.std.specs.Prelude.{IsTrue}
-use Rattle.std.specs.declared.alloc.Global.{Global}
-use Rattle.std.specs.List.{AllByRecursion}
+use Rattle.std.specs.List.{AllByRecursion, filter}
 use Rattle.std.proofs.lemmas.List.{append-nil}
 use Rattle.std.proofs.lemmas.Grind.{common_steps}
 use Rattle.am_universe.specs.Universe.{is_label_name}
@@ -16,19 +13,20 @@ use Rattle.am_classes.specs.Alphabet.{IsOver}
 use Rattle.am_labels.specs.Space.{Space}
 use Rattle.am_labels.proofs.Passing.{passes_from_kept, kept_from_passes}
 use Rattle.am_classes.specs.declared.alphabet.Alphabet.{Alphabet}
-use Rattle.am_classes.specs.Alike.{HasAlikeIn}
+use Rattle.am_classes.specs.Alike.{HasAlikeIn, HasPattern}
 use Rattle.am_complete.specs.Complete.{label_texts, may_have}
 use Rattle.am_complete.specs.AskedLabel.{AskedLabel}
-use Rattle.am_complete.specs.Covering.{AreNeeded, CoverPossible, standing_texts}
+use Rattle.am_complete.specs.Covering.{AreClasses, ArePossible, AreNeeded, CoverPossible}
+use Rattle.am_complete.specs.Covering.{standing_texts}
 use Rattle.am_complete.specs.Room.{NeedsText}
 use Rattle.am_complete.specs.declared.label_state.Completeness.TheVariants as state_is
 use Rattle.am_complete.specs.FoundState.{HasThoseOfLists, IsFoundAt}
-use Rattle.am_complete.specs.Missing.{ArePossibleClasses, IsMissingAt, MissingTexts}
+use Rattle.am_complete.specs.Missing.{IsMissingAt, MissingTexts}
 use Rattle.am_complete.specs.Truths.{AreNewIn}
 use Rattle.am_complete.proofs.ApartTexts.{one_apart}
 use Rattle.am_complete.proofs.LabelStates.{covered}
 use Rattle.am_complete.proofs.LabelTexts.{has_name}
-use Rattle.am_complete.proofs.PossibleTexts.{same_possible}
+use Rattle.am_complete.proofs.PossibleTexts.{are_possible, cover_possible, same_possible}
 use Rattle.am_complete.proofs.TestedTexts.{alike_within}
 
 -- ---- What stands in a space for a label.
@@ -75,76 +73,66 @@ pub cover_weaker : (a : Alphabet) (s : Space) (l : AskedLabel) (xs ys : List (Li
 cover_weaker a s l xs ys within cover text valid possible =
     alike_within l.matchers xs ys text within (cover text valid possible)
 
--- ---- What a label lacks, of texts that it may have.
+-- ---- What a label lacks, of texts that stand for classes.
 
-module _ (a : Alphabet) (s : Space) (l : AskedLabel) (texts kept : List (List ℕ)) (all : Bool)
-    (classes : ArePossibleClasses a s.impossible l texts all)
-    (new : AreNewIn l.matchers (standing_texts s l.name) texts kept) where
-  cover : IsTrue all
-      → CoverPossible a s.impossible l.name l.matchers (standing_texts s l.name ++ kept)
-  cover whole =
-      covered a s.impossible l.name l.matchers (standing_texts s l.name ++ kept) texts
-      (classes.cover whole) new.cover
+module _ (a : Alphabet) (s : Space) (l : AskedLabel) (m : MissingTexts) (found : List (List ℕ))
+    (lists : HasThoseOfLists s.impossible l) (classes : AreClasses a l.matchers found m.all)
+    (new : AreNewIn l.matchers (standing_texts s l.name)
+    (filter (may_have s.impossible l.name) found) m.texts) where
+  abbrev wanted : List (List ℕ)
+  wanted = filter (may_have s.impossible l.name) found
 
-  pub is_missing : (m : MissingTexts) → m.name ≡ l.name → m.named ≡ is_label_name l.name
-      → m.texts ≡ kept → m.all ≡ all → IsMissingAt a s l m
-  is_missing m name named are known =
-      subst (IsMissingAt a s l)
-      (λ i. record {
-        name = sym name i;
-        named = sym named i;
-        texts = sym are i;
-        all = sym known i;
-      })
-      (record {
-        name = refl;
-        named = refl;
-        needed = record {
-          possible = record {
-            over = all_from (IsOver a) texts kept classes.possible.over new.from;
-            possible = all_from (λ x. IsTrue (may_have s.impossible l.name x)) texts kept
-                classes.possible.possible new.from;
-            apart = new.apart;
-          };
-          new = new.new;
-        };
-        cover = cover;
-        pattern = classes.pattern;
-      })
+  possible : ArePossible a s.impossible l.name l.matchers wanted
+  possible = are_possible a s.impossible l.name l.matchers found classes.over classes.apart
 
+  cover : IsTrue m.all → CoverPossible a s.impossible l.name l.matchers wanted
+  cover whole = cover_possible a s.impossible l found lists (classes.covers whole)
+
+  pub is_missing : m.name ≡ l.name → l.name ≢ [] → m.named ≡ is_label_name l.name → length wanted ≡ m.count
+      → (m.all ≡ false → HasPattern l.matchers) → IsMissingAt a s l m
+  is_missing name some named counted pattern = record {
+    name = name;
+    some_name = some;
+    named = named;
+    needed = record {
+      possible = record {
+        over = all_from (IsOver a) wanted m.texts possible.over new.from;
+        possible = all_from (λ x. IsTrue (may_have s.impossible l.name x)) wanted m.texts
+            possible.possible new.from;
+        apart = new.apart;
+      };
+      new = new.new;
+    };
+    cover = λ whole. covered a s.impossible l.name l.matchers (standing_texts s l.name ++ m.texts)
+        wanted (cover whole) new.cover;
+    classes = λ whole. (wanted, record { cover = cover whole; possible = possible }, counted);
+    pattern = pattern;
+  }
+
+-- ---- What is found where it is known what is missing.
+
+module _ (a : Alphabet) (s : Space) (l : AskedLabel) (m : MissingTexts) (is : IsMissingAt a s l m) where
   -- none is missing
-  pub is_complete : IsTrue all → kept ≡ [] → IsFoundAt a s l (state_is.Complete (length texts))
+  pub is_complete : IsTrue m.all → m.texts ≡ [] → IsFoundAt a s l (state_is.Complete m.count)
   is_complete whole none = (
     cover_weaker a s l (standing_texts s l.name) (label_texts s.labels l.name)
         (standing_within s l.name)
         (subst (CoverPossible a s.impossible l.name l.matchers)
         (ap (λ ts. standing_texts s l.name ++ ts) none ∙ append-nil (standing_texts s l.name))
-        (cover whole)),
-    (texts, record { cover = classes.cover whole; possible = classes.possible }, refl),
+        (is.cover whole)),
+    is.classes whole,
   )
 
   -- one is
-  lacks_one : (x : List ℕ) → HasThoseOfLists s.impossible l → IsIn kept x
+  pub lacks_one : (x : List ℕ) → HasThoseOfLists s.impossible l → IsIn m.texts x
       → IsOver a x × IsTrue (may_have s.impossible l.name x)
       × (HasAlikeIn l.matchers (label_texts s.labels l.name) x → ⊥)
   lacks_one x lists i =
-      let wanted = IsIn-from_Contains texts x (AllByRecursion-at (Contains texts) kept x new.from i) in
-      let may = AllByRecursion-at (λ y. IsTrue (may_have s.impossible l.name y)) texts x
-      classes.possible.possible wanted in (
-        AllByRecursion-at (IsOver a) texts x classes.possible.over wanted,
+      let may = AllByRecursion-at (λ y. IsTrue (may_have s.impossible l.name y)) m.texts x
+      is.needed.possible.possible i in (
+        AllByRecursion-at (IsOver a) m.texts x is.needed.possible.over i,
         may,
         λ one. AllByRecursion-at
-            (λ y. HasAlikeIn l.matchers (standing_texts s l.name) y → ⊥) kept x new.new i
+            (λ y. HasAlikeIn l.matchers (standing_texts s l.name) y → ⊥) m.texts x is.needed.new i
             (alike_standing s l x lists may one),
       )
-
-  pub lacks_text : (text : String Global) → HasThoseOfLists s.impossible l
-      → IsTrue (is_label_name l.name) → IsIn kept (string_bytes text)
-      → IsFoundAt a s l (state_is.Lacks text)
-  lacks_text text lists named i =
-      let r = lacks_one (string_bytes text) lists i in (named, r.0, r.1, r.2)
-
-  pub lacks_label : (x : List ℕ) → HasThoseOfLists s.impossible l
-      → is_label_name l.name ≡ false → IsIn kept x → IsFoundAt a s l state_is.Undeclarable
-  lacks_label x lists unnamed i =
-      let r = lacks_one x lists i in (unnamed, λ covers. r.2 (covers x r.0 r.1))

@@ -108,12 +108,6 @@ all_kept P test xs all =
     AllByRecursion-each P (filter test xs)
     (λ x i. AllByRecursion-at P xs x all (passes_from_kept test xs x i).0)
 
-pub apart_kept : (ms : List Condition) (test : List ℕ → Bool) (xs : List (List ℕ))
-    → AreApart ms xs → AreApart ms (filter test xs)
-apart_kept ms test xs apart =
-    apart_from_distinct_texts ms (filter test xs)
-    (distinct_kept (alike ms) test xs (distinct_from_apart ms xs apart))
-
 -- the texts that the label may have, from texts of which no two are alike
 pub are_possible : (alphabet : Alphabet) (impossible : List (List Condition)) (name : List ℕ)
     (ms : List Condition) (texts : List (List ℕ)) → AreOver alphabet texts → AreApart ms texts
@@ -124,7 +118,8 @@ are_possible alphabet impossible name ms texts over apart =
       over = all_kept (IsOver alphabet) test texts over;
       possible = AllByRecursion-each (λ text. IsTrue (test text)) (filter test texts)
           (λ x i. (passes_from_kept test texts x i).1);
-      apart = apart_kept ms test texts apart;
+      apart = apart_from_distinct_texts ms (filter test texts)
+          (distinct_kept (alike ms) test texts (distinct_from_apart ms texts apart));
     }
 
 -- from texts that cover all, they cover all that the label may have

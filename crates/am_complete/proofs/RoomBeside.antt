@@ -20,7 +20,7 @@ use Rattle.am_universe.specs.Universe.{Label, IsLabel, IsUniverse, names, is_lab
 use Rattle.am_universe.proofs.ListLemmas.{IsIn, IsIn-split, IsIn-map, IsIn-unmap}
 use Rattle.am_universe.proofs.ListLemmas.{IsIn-from_Contains, Contains-from_IsIn}
 use Rattle.am_universe.proofs.ListLemmas.{AllByRecursion-at, AllByRecursion-each}
-use Rattle.am_universe.proofs.Members.{in_at, at_in}
+use Rattle.am_universe.proofs.Members.{in_at}
 use Rattle.am_labels.specs.Space.{Space}
 use Rattle.am_labels.proofs.Passing.{passes_from_kept}
 use Rattle.am_classes.specs.declared.alphabet.Alphabet.{Alphabet}
@@ -43,7 +43,7 @@ use Rattle.am_complete.proofs.MadeUniverses.{same_names, standing_of}
 use Rattle.am_complete.proofs.ApartTexts.{one_distinct}
 use Rattle.am_complete.proofs.NeededTexts.{first_needed}
 use Rattle.am_complete.proofs.PossibleTexts.{distinct_kept}
-use Rattle.am_complete.proofs.Pushed.{one_longer, zip_right}
+use Rattle.am_complete.proofs.Pushed.{one_longer}
 
 -- ---- The texts of a label.
 
@@ -105,24 +105,15 @@ module _ (a : Alphabet) (s : Space) (asked : List AskedLabel) (missing : List Mi
   asked_there : (name : List ℕ) → IsIn (names_to_declare s.labels missing) name
       → (m : MissingTexts) × IsIn missing m × (m.name ≡ name)
       × (has_some m.texts ≡ true) × (is_declared s.labels name ≡ false) × (m.named ≡ true)
-  asked_there name i =
-      let k = IsIn-unmap (λ m. m.name) (filter (is_to_declare s.labels) missing) name i in
-      let r = passes_from_kept (is_to_declare s.labels) missing k.0 k.1 in
-      let both = to_declare k.0 r.1 in
-      (k.0, r.0, k.2, both.0, subst (λ n. is_declared s.labels n ≡ false) k.2 both.1, both.2)
+  asked_there name i = grind (arith, common_steps, IsIn-unmap, passes_from_kept, to_declare)
 
   -- an entry is found by its name
   entry_named : (m : MissingTexts) → IsIn missing m
       → (l : AskedLabel) × IsIn asked l × IsMissingAt a s l m
       × (missing_for missing m.name ≡ Some m)
   entry_named m i =
-      let at = at_in missing m i in
-      let l = zip_right (IsMissingAt a s) asked missing at.0 m zip at.1 in (
-        l.0,
-        in_at asked at.0 l.0 l.1,
-        l.2,
-        finds_missing a s asked missing m zip distinct i,
-      )
+      let found = finds_missing a s asked missing m zip distinct i in
+      let r = by_name a s asked missing m.name m zip found in (r.0, r.1, r.3, found)
 
   -- the name of a label that lacks nothing is one of the space
   pub named_before : (name : List ℕ)
@@ -246,10 +237,6 @@ module _ (a : Alphabet) (s : Space) (asked : List AskedLabel) (missing : List Mi
         | inr fails ↦ rw fails rest
       ]
 
-  longer_names : (labels : List AskedLabel) (ns : List (List ℕ)) → asked_names labels ≡ ns
-      → length labels ≡ length ns
-  longer_names labels ns are = grind (arith, common_steps, length-map)
-
   pub no_room : AreTooLarge s missing (names s.labels ++ names_to_declare s.labels missing)
       → HaveNoRoom a s asked
   no_room (inl many) =
@@ -260,7 +247,8 @@ module _ (a : Alphabet) (s : Space) (asked : List AskedLabel) (missing : List Mi
         omega (
           arith,
           many,
-          longer_names labels (names_to_declare s.labels missing) r.1,
+          ap (λ (ns : List (List ℕ)). length ns) r.1,
+          length-map labels (λ (l : AskedLabel). l.name),
           length-append (names s.labels) (names_to_declare s.labels missing),
           length-map s.labels (λ (l : Label). l.name),
         ),

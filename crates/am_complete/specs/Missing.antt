@@ -8,37 +8,31 @@ use Rattle.am_universe.specs.Universe.{Label, is_label_name}
 use Rattle.am_labels.specs.Space.{Space}
 use Rattle.am_classes.specs.declared.alphabet.Alphabet.{Alphabet}
 use Rattle.am_classes.specs.Alike.{HasPattern}
-use Rattle.am_labels.specs.Matcher.{Condition}
 use Rattle.am_complete.specs.Complete.{texts_of_label}
 use Rattle.am_complete.specs.AskedLabel.{AskedLabel}
-use Rattle.am_complete.specs.Covering.{ArePossible, AreNeeded, CoverPossible, standing_texts}
-use Rattle.am_complete.specs.LabelState.{is_declared}
+use Rattle.am_complete.specs.Covering.{AreNeeded, CoverPossible, standing_texts}
+use Rattle.am_complete.specs.LabelState.{HasClasses, is_declared}
 
--- Some texts stand for classes of texts that a label may have. If `all`, they cover all texts that
--- it may have. `all` always holds if no matcher on the label takes a pattern.
-pub record ArePossibleClasses (a : Alphabet) (impossible : List (List Condition)) (l : AskedLabel)
-    (texts : List (List ℕ)) (all : Bool) : Type 0 where
-  pub possible : ArePossible a impossible l.name l.matchers texts
-  pub cover : IsTrue all → CoverPossible a impossible l.name l.matchers texts
-  pub pattern : all ≡ false → HasPattern l.matchers
-
--- A label's name, whether it is a label name, texts that the label lacks, and whether these are all
--- that it lacks.
+-- A label's name, whether it is a label name, texts that the label lacks, whether these are all
+-- that it lacks, and if they are, the number of classes of texts that it may have.
 pub record MissingTexts : Type 0 where
   pub name : List ℕ
   pub named : Bool
   pub texts : List (List ℕ)
   pub all : Bool
+  pub count : ℕ
 
 -- A label lacks these texts in a space. If they are all, they and those that stand there cover all
 -- that it may have.
 pub record IsMissingAt (a : Alphabet) (s : Space) (l : AskedLabel)
     (m : MissingTexts) : Type 0 where
   pub name : m.name ≡ l.name
+  pub some_name : l.name ≢ []
   pub named : m.named ≡ is_label_name l.name
   pub needed : AreNeeded a s l.name l.matchers m.texts
   pub cover : IsTrue m.all
       → CoverPossible a s.impossible l.name l.matchers (standing_texts s l.name ++ m.texts)
+  pub classes : IsTrue m.all → HasClasses a s.impossible l.name l.matchers m.count
   pub pattern : m.all ≡ false → HasPattern l.matchers
 
 abbrev pub AreMissing : Alphabet → Space → List AskedLabel → List MissingTexts → Type 0
@@ -93,7 +87,11 @@ AreTooLarge s missing ns =
     (MAX_LABELS < length ns)
     ⊎ ((name : List ℕ) × Contains ns name × (MAX_VALUES < length (whole_texts s missing name)))
 
--- The positions of the labels that a universe with their texts may not cover, in order.
+-- The positions of the labels that a universe with their texts may not cover, in order. Positions
+-- count from a number, or from 0.
+abbrev pub opens_from : ℕ → List MissingTexts → List ℕ
+opens_from from missing =
+    map (λ p. p.0) (filter (λ p. not (is_covered p.1)) (enumerate_from from missing))
+
 abbrev pub open_positions : List MissingTexts → List ℕ
-open_positions missing =
-    map (λ p. p.0) (filter (λ p. not (is_covered p.1)) (enumerate_from 0 missing))
+open_positions missing = opens_from 0 missing

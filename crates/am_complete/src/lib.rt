@@ -18,7 +18,6 @@ pub use origin::Origin;
 mod found_texts;
 mod label_texts;
 mod missing_texts;
-mod possible_classes;
 mod possible_texts;
 mod representatives;
 mod tested;
@@ -30,7 +29,6 @@ mod made_universe;
 pub use made_universe::{MadeUniverse, is_label_name, universe_beside};
 
 // What a space has, and lacks, at each label.
-mod completeness_at;
 mod label_state;
 mod states_of_labels;
 

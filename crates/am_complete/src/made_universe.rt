@@ -19,6 +19,7 @@ ghost use Rattle.am_universe.specs.UniverseView.{texts_of};
 ghost use Rattle.am_labels.specs.Matcher.{Condition};
 ghost use Rattle.am_complete.specs.Complete.{AreAmong, impossible_conditions, IsSpaceComplete};
 ghost use Rattle.am_complete.specs.AskedLabel.{IsAskedOf};
+ghost use Rattle.am_complete.specs.LabelState.{is_declared};
 ghost use Rattle.am_complete.specs.Covering.{KeepsLabels, AddsNeeded, CoversEachBut, HasTextsOver};
 ghost use Rattle.am_complete.specs.Covering.{IsWithLabel, IsFullFor, IsLimitOrMemory};
 ghost use Rattle.am_complete.specs.Room.{AreUnproved, HaveNoRoom};
@@ -152,7 +153,14 @@ fn add_names<'n>(
 fn is_to_declare(universe: &Universe, label: &Missing<'_>) -> bool
     ensures { result ≡ is_to_declare universe.now label.now }
 {
-    label.needs_label() && universe.position(label.name()).is_none()
+    label.needs_label() && !is_declared(universe, label.name())
+}
+
+/// Whether a universe declares the label of this name.
+pub(crate) fn is_declared(universe: &Universe, name: &str) -> bool
+    ensures { result ≡ is_declared universe.now name.now }
+{
+    universe.position(name).is_some()
 }
 
 /// Makes the universe whose labels have these names. Each label has the texts that stand for it in

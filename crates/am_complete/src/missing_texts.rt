@@ -1,32 +1,35 @@
-//! The texts that a label lacks in a space.
+//! The texts that a label lacks in a space, and what that says about the label.
 
-ghost use Rattle.std.specs.Prelude.{◌≡◌, ◌≢◌, [], IfOk, map, string_bytes};
-ghost use Rattle.am_complete.specs.Covering.{standing_texts};
-ghost use Rattle.am_complete.specs.FoundState.{HasThoseOfLists};
-ghost use Rattle.am_complete.specs.Missing.{ArePossibleClasses, IsMissingAt};
-ghost use Rattle.am_complete.specs.Missing.{needs_label, is_covered};
+ghost use Rattle.std.specs.Prelude.{◌≡◌, ◌≢◌, [], IfOk, map, string_bytes, false};
+ghost use Rattle.am_classes.specs.Alike.{HasPattern};
+ghost use Rattle.am_complete.specs.Covering.{AreClasses, standing_texts};
+ghost use Rattle.am_complete.specs.FoundState.{HasThoseOfLists, IsFoundAt};
+ghost use Rattle.am_complete.specs.Missing.{IsMissingAt, needs_label, is_covered};
 ghost use Rattle.am_complete.specs.Truths.{AreNewIn};
 
-use crate::AskedLabel;
 use crate::found_texts::found_texts;
 use crate::label_texts::standing_texts;
 use crate::made_universe::is_label_name;
-use crate::possible_classes::possible_classes;
 use crate::possible_texts::possible_texts;
+use crate::representatives::representatives;
 use crate::tested::{new_texts, tested_texts};
-use am_classes::{Alphabet, ClassTexts};
+use crate::{AskedLabel, Completeness};
+use am_classes::{Alphabet, ClassTexts, classes};
 use am_labels::Space;
 use am_list_files::Alerts;
+use am_universe::limits::MAX_VALUES;
 use std::alloc::{AllocError, Global};
 use std::marker::Model;
 
-/// The texts that a label lacks in a space.
+/// The texts that a label lacks in a space. If they are all, `count` is the number of classes of
+/// texts that the label may have.
 #[derive(Drop)]
 pub(crate) struct Missing<'m> {
     name: &'m str,
     named: bool,
     texts: Vec<String>,
     all: bool,
+    count: usize,
 }
 
 impl<'m> Model for Missing<'m> {
@@ -40,6 +43,7 @@ impl<'m> Model for Missing<'m> {
       named = m.named;
       texts = map string_bytes m.texts.items;
       all = m.all;
+      count = m.count;
     } };
 }
 
@@ -74,8 +78,35 @@ impl<'m> Missing<'m> {
     }
 }
 
+/// Finds what a space lacks at a label that is asked about. A label that is not declared has
+/// absence alone. If texts are missing, returns the first of them, in the order of a made universe.
+/// If not all classes were found, but more than a label may have values, every universe lacks one.
+pub(crate) fn completeness_at(
+    alloc: Global,
+    alphabet: Alphabet,
+    space: &Space,
+    label: &AskedLabel<'_>,
+    alerts: Option<&Alerts>,
+) -> Result<Completeness, AllocError>
+    requires { label.now.name ≢ [] → HasThoseOfLists space.now.impossible label.now }
+    ensures { IfOk result (IsFoundAt alphabet space.now label.now) }
+{
+    let missing = missing_at(alloc, alphabet, space, label, alerts)?;
+    let (named, all) = (missing.named, missing.all);
+    if !all && (!named || missing.count <= MAX_VALUES) {
+        return Ok(Completeness::Unproved(label.first()));
+    }
+    match missing.texts.first() {
+        Some(text) if named => Ok(Completeness::Lacks(String::from_str(alloc, text.as_str())?)),
+        Some(_) => Ok(Completeness::Undeclarable),
+        None if all => Ok(Completeness::Complete(missing.count)),
+        None => Ok(Completeness::Unproved(label.first())),
+    }
+}
+
 /// Finds which texts a label that is asked about lacks in a space. Of one text for each class that
-/// the label may have, these are the texts that are alike to none that stands there.
+/// the label may have, or else of texts that were found, these are the texts that are alike to none
+/// that stands there.
 pub(crate) fn missing_at<'m>(
     alloc: Global,
     alphabet: Alphabet,
@@ -87,41 +118,44 @@ pub(crate) fn missing_at<'m>(
     ensures { IfOk result (IsMissingAt alphabet space.now label.now) }
 {
     let name = label.name();
-    let wanted = wanted_texts(alloc, alphabet, space, label, alerts)?;
-    let all = wanted.all;
-    let texts = missing_texts(alloc, space, label, wanted.texts)?;
+    let found = class_texts(alloc, alphabet, label, alerts)?;
+    let all = found.all;
+    let wanted = possible_texts(alloc, space.impossible(), name, found.texts)?;
+    let count = wanted.len();
+    let texts = missing_texts(alloc, space, label, wanted)?;
     Ok(Missing {
         name,
         named: is_label_name(alloc, name),
         texts,
         all,
+        count,
     })
 }
 
-/// Returns texts, for each of which the label is to have an alike text: one for each class that it
-/// may have, or else texts that were found.
-fn wanted_texts(
+/// Returns one text for each class of a label's texts. If the classes cannot be computed, returns
+/// texts that were found.
+fn class_texts(
     alloc: Global,
     alphabet: Alphabet,
-    space: &Space,
     label: &AskedLabel<'_>,
     alerts: Option<&Alerts>,
 ) -> Result<ClassTexts, AllocError>
-    requires { label.now.name ≢ [] → HasThoseOfLists space.now.impossible label.now }
-    ensures { IfOk result (λ wanted. ArePossibleClasses alphabet space.now.impossible label.now
-        (map string_bytes wanted.texts.items) wanted.all) }
+    ensures classes { IfOk result (λ found. AreClasses alphabet label.now.matchers
+        (map string_bytes found.texts.items) found.all) }
+    ensures pattern { IfOk result (λ found. found.all ≡ false → HasPattern label.now.matchers) }
 {
-    if let Some(classes) = possible_classes(alloc, alphabet, space, label, alerts)? {
-        return Ok(classes);
-    }
-    let found = found_texts(alloc, alphabet, label, alerts)?;
-    let texts = possible_texts(alloc, space.impossible(), label.name(), found)?;
-    Ok(ClassTexts { texts, all: false })
+    let Some(classes) = classes(alloc, alphabet, label.matchers())? else {
+        let texts = found_texts(alloc, alphabet, label, alerts)?;
+        return Ok(ClassTexts { texts, all: false });
+    };
+    let all = classes.all;
+    let texts = representatives(alloc, alphabet, label, alerts, classes)?;
+    Ok(ClassTexts { texts, all })
 }
 
 /// Returns those of these texts that are alike to none that stands in a space for a label, and to
 /// none before them.
-pub(crate) fn missing_texts(
+fn missing_texts(
     alloc: Global,
     space: &Space,
     label: &AskedLabel<'_>,

@@ -1,11 +1,27 @@
-use Rattle.std.proofs.Common.{map, string_bytes, refl, ap, ◌∙◌}
+use Rattle.std.proofs.Common.{◌≡◌, length, map, string_bytes, ap, ◌∙◌, subst, arith, List, ℕ}
+use Rattle.std.specs.List.{filter}
+use Rattle.std.proofs.lemmas.List.{length-map}
 use Rattle.am_universe.specs.Universe.{is_label_name}
+use Rattle.am_complete.specs.Complete.{may_have}
+use Rattle.am_complete.specs.Covering.{standing_texts}
+use Rattle.am_complete.specs.Truths.{AreNewIn}
 use Rattle.am_complete.proofs.NeededTexts.{is_missing}
 use Rattle.am_complete.proofs.missing_texts.missing_at.Goals as goal
 
 pub returns : goal.returns
 returns c =
-    is_missing c.args.alphabet c.args.space.now c.args.label.now
-    (map string_bytes c.in_ok-wanted.wanted.texts.items) (map string_bytes c.in_ok-texts.texts.items)
-    c.in_ok-wanted.wanted.all c.in_ok-wanted.ensures c.in_ok-texts.ensures _ c.name-name.ensures.name
-    (c.is_label_name.ensures.named ∙ ap is_label_name c.name-name.ensures.name) refl refl
+    let s = c.args.space.now in
+    let l = c.args.label.now in
+    let found = map string_bytes c.in_ok-found.found.texts.items in
+    let wanted = c.in_ok-wanted.wanted in
+    let named = c.name-name.ensures.name in
+    let kept : map string_bytes wanted.items ≡ filter (may_have s.impossible l.name) found =
+    c.in_ok-wanted.ensures
+    ∙ (λ i. filter (may_have (c.impossible.ensures.lists i) (named i)) found) in
+    is_missing c.args.alphabet s l _ found (c.requires c.name-name.ensures.named)
+    c.in_ok-found.ensures.classes
+    (subst (λ (ws : List (List ℕ)). AreNewIn l.matchers (standing_texts s l.name) ws
+    (map string_bytes c.in_ok-texts.texts.items)) kept c.in_ok-texts.ensures)
+    named c.name-name.ensures.named (c.is_label_name.ensures.named ∙ ap is_label_name named)
+    (omega (arith, length-map wanted.items string_bytes, ap length kept, wanted.ok.0, c.len-count.ensures))
+    c.in_ok-found.ensures.pattern
