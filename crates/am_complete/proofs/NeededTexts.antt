@@ -127,12 +127,4 @@ module _ (a : Alphabet) (s : Space) (l : AskedLabel) (m : MissingTexts) (is : Is
   pub lacks_one : (x : List ℕ) → HasThoseOfLists s.impossible l → IsIn m.texts x
       → IsOver a x × IsTrue (may_have s.impossible l.name x)
       × (HasAlikeIn l.matchers (label_texts s.labels l.name) x → ⊥)
-  lacks_one x lists i =
-      let may = AllByRecursion-at (λ y. IsTrue (may_have s.impossible l.name y)) m.texts x
-      is.needed.possible.possible i in (
-        AllByRecursion-at (IsOver a) m.texts x is.needed.possible.over i,
-        may,
-        λ one. AllByRecursion-at
-            (λ y. HasAlikeIn l.matchers (standing_texts s l.name) y → ⊥) m.texts x is.needed.new i
-            (alike_standing s l x lists may one),
-      )
+  lacks_one x lists i = grind (arith, common_steps, AllByRecursion-at, alike_standing)
