@@ -4,7 +4,7 @@ pub mod TailLemmas
 pub mod OverLemmas
 pub mod Utf8Lemmas
 pub mod AutomataLemmas
-pub mod EndsLemmas
+pub mod FrontLemmas
 pub mod StateLemmas
 pub mod AskedLemmas
 pub mod ExplorationLemmas

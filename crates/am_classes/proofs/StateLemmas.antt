@@ -1,35 +1,23 @@
 -- What states say about texts.
 use Rattle.std.proofs.Common.{Result, Ok, Vec, Bool, IfOk, IfSome, ◌≡◌, ℕ, true, false, List, arith}
-use Rattle.std.proofs.Common.{[], ◌∷◌, Option, Some, None, slice_get, refl, sym, ◌∙◌}
+use Rattle.std.proofs.Common.{[], ◌∷◌, Option, Some, sym, ◌∙◌}
 use Rattle.std.specs.declared.alloc.Global.{Global}
 use Rattle.am_scan.specs.declared.pattern_automaton.PatternAutomaton.{PatternAutomaton}
-use Rattle.std.specs.List.{list_all}
+use Rattle.std.specs.List.{list_all, list_any}
 use Rattle.std.proofs.lemmas.Bool.{and_parts, not-true}
 use Rattle.std.proofs.lemmas.Grind.{common_steps}
 use Rattle.am_scan.specs.Automaton.{is_ascii}
 use Rattle.am_classes.specs.declared.alphabet.Alphabet.{Alphabet}
 use Rattle.am_classes.specs.declared.alphabet.Alphabet.TheVariants.{Unicode, Ascii}
 use Rattle.am_classes.specs.declared.tail.Tail.{Tail}
-use Rattle.am_classes.specs.Utf8.{tail_of}
-use Rattle.am_classes.specs.Automata.{AreScanned, numbers_of, fits, found_by}
+use Rattle.am_classes.specs.Fronts.{ends_with}
+use Rattle.am_classes.specs.Utf8.{text_step, tail_of}
+use Rattle.am_classes.specs.Automata.{AreScanned, MakeSame, numbers_of, fits, found_by}
 use Rattle.am_classes.specs.declared.questions.Questions.{Questions}
 use Rattle.am_classes.specs.declared.label_state.LabelState.{LabelState}
-use Rattle.am_classes.specs.declared.rest.Rest.{Rest}
-use Rattle.am_classes.specs.Rest.{RestFollows}
-use Rattle.am_classes.specs.State.{FollowsLabel, IsNamed, named_texts}
+use Rattle.am_classes.specs.State.{FollowsLabel, named_texts}
+use Rattle.am_classes.proofs.FrontLemmas.{none_before}
 use Rattle.am_classes.proofs.TailLemmas.{scanned_of_tail}
-
--- What is kept of a named text is kept of no other text. So a state that follows a named text
--- follows no other text.
-named_alone : (texts : List (List ℕ)) (rest : Option Rest) (x y : List ℕ) (k : ℕ)
-    → slice_get texts k ≡ Some x → RestFollows texts rest x → RestFollows texts rest y → x ≡ y
-named_alone texts (Some rest) x y k at follows also = sym follows.bytes ∙ also.bytes
-named_alone texts None x y k at follows also = absurd (follows k x [] at refl)
-
-pub only_named : (q : Questions) (state : LabelState) (x y : List ℕ) → IsNamed q x
-    → FollowsLabel q state x → FollowsLabel q state y → x ≡ y
-only_named q state x y named follows also =
-    named_alone (named_texts q) state.rest x y named.0 named.1 follows.rest also.rest
 
 -- The patterns are followed over the texts that a state follows.
 not_ascii : (a : Alphabet) (scan : PatternAutomaton) → fits a scan ≡ true → a ≡ Unicode
@@ -60,10 +48,19 @@ found_of_numbers q state automata numbers (Ok (Some answers)) s t h = λ text fo
     grind (arith, common_steps, scanned_of_followed)
 found_of_numbers q state automata numbers r s t h = tt
 
--- A state follows every text that a state with the same parts follows.
-pub same_follows : (q : Questions) (state other : LabelState) (text : List ℕ)
-    → state.tail ≡ other.tail
-    → (RestFollows (named_texts q) state.rest text → RestFollows (named_texts q) other.rest text)
-    → state.numbers.items ≡ other.numbers.items → FollowsLabel q state text
-    → FollowsLabel q other text
-same_follows q state other text tails rests same follows = grind (arith, common_steps)
+-- A state that follows a text with a byte before it also follows it with another byte, if the tail
+-- and the patterns treat both alike, and no named text goes on with either.
+pub follows_again : (q : Questions) (state next : LabelState) (text : List ℕ) (one other : ℕ)
+    → text_step q.alphabet state.tail one ≡ text_step q.alphabet state.tail other
+    → list_any (λ f. ends_with one f.now) state.fronts.items ≡ false
+    → list_any (λ f. ends_with other f.now) state.fronts.items ≡ false
+    → MakeSame q.automata.items one other → FollowsLabel q state text
+    → FollowsLabel q next (one ∷ text) → FollowsLabel q next (other ∷ text)
+follows_again q state next text one other tails none none_other alike follows before =
+    let step = rw follows.tail at before.tail in
+    record {
+      tail = rw follows.tail (sym tails ∙ step);
+      fronts = before.fronts ∙ none_before one state.fronts.items (named_texts q) text follows.fronts none
+          ∙ sym (none_before other state.fronts.items (named_texts q) text follows.fronts none_other);
+      numbers = before.numbers ∙ alike text;
+    }

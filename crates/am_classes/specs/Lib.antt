@@ -2,8 +2,7 @@ pub mod Alphabet
 pub mod Alike
 pub mod Utf8
 pub mod Automata
-pub mod Ends
-pub mod Rest
+pub mod Fronts
 pub mod State
 pub mod Values
 pub mod Asked

@@ -79,7 +79,7 @@ fn other_text(alloc: Global, questions: &Questions) -> Result<String, AllocError
 pub(crate) fn add(
     alloc: Global,
     questions: &Questions,
-    item: &ReachedState,
+    item: &ReachedState<'_>,
     candidates: &mut Vec<Candidate>,
 ) -> Result<bool, AllocError>
     requires follows { FollowsLabel questions.now item.now.state item.now.text.items }

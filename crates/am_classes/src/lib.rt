@@ -18,14 +18,12 @@ mod automata;
 mod questions;
 
 // What matters about a text of which only the end has been read.
-mod ends;
+mod fronts;
 mod label_state;
-mod rest;
 mod tail;
 
 // The states that texts lead to.
 mod exploration;
-mod led;
 mod reached_state;
 
 // The texts that stand for the classes, one for each.

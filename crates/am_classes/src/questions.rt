@@ -1,16 +1,16 @@
 ghost use Rattle.std.specs.Prelude.{◌≡◌, ◌↔◌, ◌∷◌, [], ℕ, List, Some, false, true, IsTrue, map};
 ghost use Rattle.std.specs.Prelude.{IfOk, IfSome, IfNone, string_bytes, slice_get};
+ghost use Rattle.am_classes.specs.declared.label_state.LabelState.{LabelState};
 ghost use Rattle.am_classes.specs.Utf8.{text_step};
-ghost use Rattle.am_classes.specs.Rest.{RestFollows};
-ghost use Rattle.am_classes.specs.Automata.{numbers_of, AreClasses, MakeSame, fits, found_by};
+ghost use Rattle.am_classes.specs.Automata.{AreClasses, MakeSame, fits, found_by};
 ghost use Rattle.std.specs.List.{list_all};
 ghost use Rattle.am_classes.specs.Alike.{HasPattern};
 ghost use Rattle.am_classes.specs.Values.{AreValues, counts};
 
 use crate::Alphabet;
 use crate::automata::{automata_of, byte_classes, end_numbers, found_patterns, next_numbers};
+use crate::fronts::{all_fronts, any_ends_with, fronts_before, has_nothing};
 use crate::label_state::LabelState;
-use crate::rest::Rest;
 use crate::tail::Tail;
 use am_labels::{Comparison, Matcher};
 use am_scan::PatternAutomaton;
@@ -70,64 +70,48 @@ impl Questions {
     }
 
     /// Whether a text that a state follows is a named text.
-    pub(crate) fn names_followed(&self, state: &LabelState) -> bool
+    pub(crate) fn names_followed(&self, state: &LabelState<'_>) -> bool
         ensures { (text : List ℕ) → FollowsLabel self.now state.now text
             → (IsTrue result ↔ IsNamed self.now text) }
     {
-        match &state.rest {
-            Some(rest) => rest.is_named(self.texts.as_slice()),
-            None => false,
-        }
+        has_nothing(state.fronts.as_slice())
     }
 
     /// The state of the empty text.
-    pub(crate) fn end(&self, alloc: Global) -> Result<LabelState, AllocError>
+    pub(crate) fn end(&self, alloc: Global) -> Result<LabelState<'_>, AllocError>
         ensures { IfOk result (λ state. FollowsLabel self.now state []) }
     {
         Ok(LabelState {
             tail: Tail::Whole,
-            rest: Some(Rest::end(alloc, self.texts.as_slice())?),
+            fronts: all_fronts(alloc, self.texts.as_slice())?,
             numbers: end_numbers(alloc, self.automata.as_slice())?,
         })
     }
 
-    /// Returns the state of a text with one more byte before it, if the alphabet allows this byte
-    /// there and the text then has this tail. Returns `None` if the count of the state's numbers is
-    /// not the count of patterns.
-    pub(crate) fn step(
+    /// Returns the state of a text with one more byte before it. Returns `None` if the alphabet has
+    /// no such text, or the count of the state's numbers is not the count of patterns.
+    pub(crate) fn step<'q>(
         &self,
         alloc: Global,
-        state: &LabelState,
+        state: &LabelState<'q>,
         byte: u8,
-        tail: Tail,
-    ) -> Result<Option<LabelState>, AllocError>
+    ) -> Result<Option<LabelState<'q>>, AllocError>
         ensures { IfOk result (λ found. IfSome found (λ next. (text : List ℕ)
-            → FollowsLabel self.now state.now text
-            → text_step self.now.alphabet state.now.tail byte ≡ Some tail
-            → FollowsLabel self.now next (byte ∷ text))) }
+            → FollowsLabel self.now state.now text → FollowsLabel self.now next (byte ∷ text))) }
     {
+        let Some(tail) = state.tail.step(self.alphabet, byte) else {
+            return Ok(None);
+        };
         let automata = self.automata.as_slice();
         let Some(numbers) = next_numbers(alloc, automata, state.numbers.as_slice(), byte)? else {
             return Ok(None);
         };
-        let rest = self.rest(alloc, &state.rest, byte)?;
+        let fronts = fronts_before(alloc, state.fronts.as_slice(), byte)?;
         Ok(Some(LabelState {
             tail,
-            rest,
+            fronts,
             numbers,
         }))
-    }
-
-    /// Returns what is kept of a text with one more byte before it.
-    fn rest(&self, alloc: Global, rest: &Option<Rest>, byte: u8) -> Result<Option<Rest>, AllocError>
-        ensures { IfOk result (λ next. (text : List ℕ)
-            → RestFollows (named_texts self.now) rest.now text
-            → RestFollows (named_texts self.now) next (byte ∷ text)) }
-    {
-        match rest {
-            Some(rest) => rest.step(alloc, self.texts.as_slice(), byte),
-            None => Ok(None),
-        }
     }
 
     /// Returns the class of a byte: a byte that every pattern treats like it.
@@ -140,32 +124,20 @@ impl Questions {
         }
     }
 
-    /// Whether the state to which one byte leads serves for another byte too, if every pattern
-    /// treats both alike. Only `true` promises something.
-    pub(crate) fn lead_alike(
-        &self,
-        alloc: Global,
-        state: &LabelState,
-        one: u8,
-        other: u8,
-        next: &LabelState,
-    ) -> Result<bool, AllocError>
-        ensures tails { IfOk result (λ alike. IsTrue alike
-            → text_step self.now.alphabet state.now.tail one
-            ≡ text_step self.now.alphabet state.now.tail other) }
-        ensures follows { IfOk result (λ alike. IsTrue alike → (text : List ℕ)
-            → FollowsLabel self.now state.now text → FollowsLabel self.now next.now (one ∷ text)
-            → next.now.numbers.items ≡ numbers_of self.now.automata.items (other ∷ text)
-            → FollowsLabel self.now next.now (other ∷ text)) }
+    /// Whether two bytes lead from a state to the same state, if every pattern treats both alike:
+    /// no named text goes on with either. Only `true` promises something.
+    pub(crate) fn lead_alike(&self, state: &LabelState<'_>, one: u8, other: u8) -> bool
+        ensures tails { IsTrue result → text_step self.now.alphabet state.now.tail one
+            ≡ text_step self.now.alphabet state.now.tail other }
+        ensures follows { IsTrue result → MakeSame self.now.automata.items one other
+            → (text : List ℕ) (next : LabelState) → FollowsLabel self.now state.now text
+            → FollowsLabel self.now next (one ∷ text)
+            → FollowsLabel self.now next (other ∷ text) }
     {
-        let alphabet = self.alphabet;
-        if next.rest.is_some()
-            || state.tail.step(alphabet, one) != state.tail.step(alphabet, other)
-        {
-            return Ok(false);
-        }
-        let rest = self.rest(alloc, &state.rest, other)?;
-        Ok(rest.is_none())
+        let fronts = state.fronts.as_slice();
+        state.tail.step(self.alphabet, one) == state.tail.step(self.alphabet, other)
+            && !any_ends_with(fronts, one)
+            && !any_ends_with(fronts, other)
     }
 
     /// Returns which patterns find the texts that a state follows. Returns `None` if the count of
@@ -173,7 +145,7 @@ impl Questions {
     pub(crate) fn found(
         &self,
         alloc: Global,
-        state: &LabelState,
+        state: &LabelState<'_>,
     ) -> Result<Option<Vec<bool>>, AllocError>
         ensures { IfOk result (λ found. IfSome found (λ answers. (text : List ℕ)
             → FollowsLabel self.now state.now text

@@ -49,48 +49,22 @@ fn add_text(
 }
 
 /// Returns a text with its state, or `None` if the alphabet has no such text.
-fn item_of(
+fn item_of<'q>(
     alloc: Global,
-    questions: &Questions,
+    questions: &'q Questions,
     text: &[u8],
-) -> Result<Option<ReachedState>, AllocError>
+) -> Result<Option<ReachedState<'q>>, AllocError>
     ensures { IfOk result (λ found. IfSome found (λ item.
         FollowsLabel questions.now item.state item.text.items)) }
 {
-    let mut item = ReachedState {
-        state: questions.end(alloc)?,
-        text: Vec::new(alloc),
-    };
+    let mut item = ReachedState::end(alloc, questions)?;
     for byte in text.iter().rev() {
-        let Some(longer) = longer_item(alloc, questions, &item, *byte)? else {
+        let Some(longer) = item.longer(alloc, questions, *byte)? else {
             return Ok(None);
         };
         item = longer;
     }
     Ok(Some(item))
-}
-
-/// Returns a text with one more byte before it, and its state, or `None` if the alphabet has no
-/// such text.
-fn longer_item(
-    alloc: Global,
-    questions: &Questions,
-    item: &ReachedState,
-    byte: u8,
-) -> Result<Option<ReachedState>, AllocError>
-    requires { FollowsLabel questions.now item.now.state item.now.text.items }
-    ensures { IfOk result (λ found. IfSome found (λ longer.
-        FollowsLabel questions.now longer.state longer.text.items)) }
-{
-    let Some(tail) = item.state.tail.step(questions.alphabet, byte) else {
-        return Ok(None);
-    };
-    let Some(state) = questions.step(alloc, &item.state, byte, tail)? else {
-        return Ok(None);
-    };
-    let mut text = vec![in alloc; byte]?;
-    text.extend_from_slice(item.text.as_slice())?;
-    Ok(Some(ReachedState { state, text }))
 }
 
 /// A number of an automaton, and a text that leads to it.

@@ -1,5 +1,4 @@
-use Rattle.std.proofs.Common.{◌≡◌, [], ◌∷◌, Some, slice_get, length, string_bytes, refl, sym, ap, ◌∙◌, subst, arith}
-use Rattle.std.proofs.lemmas.Grind.{common_steps}
+use Rattle.std.proofs.Common.{◌≡◌, [], ◌∷◌, Some, slice_get, length, string_bytes, refl, sym, ap, ◌∙◌, subst}
 use Rattle.am_classes.specs.declared.candidate.Candidate.{Candidate}
 use Rattle.am_classes.specs.declared.tail.Tail.TheVariants.{Whole}
 use Rattle.am_classes.specs.Automata.{found_by}
@@ -8,12 +7,8 @@ use Rattle.am_classes.proofs.OverLemmas.{followed_over}
 use Rattle.am_classes.specs.Candidates.{AreApartCandidates, IsCandidate, HasFound}
 use Rattle.am_scan.proofs.Places.{get_kept, get_last}
 use Rattle.am_classes.proofs.TailLemmas.{whole_from}
-use Rattle.am_classes.proofs.StateLemmas.{only_named}
 use Rattle.am_classes.proofs.CandidateLemmas.{apart_pushed}
 use Rattle.am_classes.proofs.candidates.add.Goals as goal
-
-pub returns-then-names_followed-clause-added : goal.returns-then-names_followed-clause-added
-returns-then-names_followed-clause-added c = λ _ text follows whole unnamed. grind (arith, common_steps, only_named)
 
 pub returns-then-has_found-clause-added : goal.returns-then-has_found-clause-added
 returns-then-has_found-clause-added c =

@@ -1,20 +1,17 @@
-use Rattle.std.proofs.Common.{◌≡◌, ℕ, ◌<◌, ◌≤◌, Some, [], slice_get, vec_len}
+use Rattle.std.proofs.Common.{◌≡◌, ℕ, ◌<◌, ◌≤◌, Some, [], slice_get, length}
 use Rattle.am_classes.specs.declared.reached_state.ReachedState.{ReachedState}
-use Rattle.am_classes.specs.State.{FollowsLabel}
-use Rattle.am_classes.specs.Exploration.{AreListed, LeadsWithin}
+use Rattle.am_classes.specs.Exploration.{AreListed, HasState, LeadsOn}
 use Rattle.am_classes.specs.Candidates.{AreApartCandidates, Represents}
 use Rattle.am_classes.proofs.exploration.explored.Given as goal
 
+-- The states so far lead to listed states, and are represented.
 abbrev pub invariant-loop-at : goal.invariant-loop-at
 invariant-loop-at l = record {
-  within : l.at ≤ vec_len l.exploration.listed;
+  within : l.at ≤ length l.exploration.listed.items;
   own : AreListed l.questions l.exploration.listed.items;
-  first : (k : ℕ) × (item : ReachedState) × (slice_get l.exploration.listed.items k ≡ Some item)
-      × FollowsLabel l.questions item.state [];
-  leads : (k : ℕ) (item : ReachedState) → k < l.at → slice_get l.exploration.listed.items k ≡ Some item
-      → LeadsWithin l.questions l.exploration.listed.items item.state 0 256;
+  first : HasState l.questions l.exploration.listed.items [];
+  done : (k : ℕ) (item : ReachedState) → k < l.at → slice_get l.exploration.listed.items k ≡ Some item
+      → ((byte : ℕ) → byte < 256 → LeadsOn l.questions l.exploration.listed.items item.state byte)
+      × Represents l.questions l.items.items item.state;
   distinct : AreApartCandidates l.questions l.items.items;
-  represented : (k : ℕ) (item : ReachedState) → k < l.at
-      → slice_get l.exploration.listed.items k ≡ Some item
-      → Represents l.questions l.items.items item.state;
 }

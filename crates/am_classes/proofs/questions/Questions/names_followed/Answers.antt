@@ -1,7 +1,8 @@
-use Rattle.std.proofs.Common.{[], refl}
+use Rattle.am_classes.specs.State.{named_texts}
+use Rattle.am_classes.proofs.FrontLemmas.{nothing_before}
 use Rattle.am_classes.proofs.questions.Questions.names_followed.Goals as goal
 
-pub returns-in-None : goal.returns-in-None
-returns-in-None c = λ text follows.
-    let none = rw c.in-None.is at follows.rest in
-    (λ yes. absurd cc, λ named. absurd (none named.0 text [] named.1 refl))
+pub returns : goal.returns
+returns c = λ text follows.
+    rw (c.has_nothing.ensures, c.as_slice.ensures.value)
+    (nothing_before c.args.state.now.fronts.items (named_texts c.args.self.now) text follows.fronts)

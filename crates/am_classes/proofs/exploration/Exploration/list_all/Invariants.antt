@@ -1,0 +1,16 @@
+use Rattle.std.proofs.Common.{◌≡◌, ◌++◌, ℕ, List}
+use Rattle.std.specs.Vec.Iter.{into_iter_items}
+use Rattle.am_classes.specs.declared.questions.Questions.{Questions}
+use Rattle.am_classes.specs.Exploration.{AreListed, Grows, HasState}
+use Rattle.am_classes.proofs.exploration.Exploration.list_all.Given as goal
+
+-- The states so far are served.
+abbrev pub invariant-loop-item : goal.invariant-loop-item
+invariant-loop-item l = record {
+  left : l.yielded ++ into_iter_items l.item-iterator ≡ l.fn.items.items;
+  grows : Grows l.fn.self.listed.items l.self.listed.items;
+  own : (q : Questions) → AreListed q l.fn.self.listed.items → AreListed q l.fn.items.items
+      → AreListed q l.self.listed.items;
+  serves : (q : Questions) (text : List ℕ) → HasState q l.yielded text
+      → HasState q l.self.listed.items text;
+}
