@@ -1,15 +1,18 @@
 -- The values of matchers, with one more matcher.
-use Rattle.std.proofs.Common.{◌≡◌, ◌+◌, ◌<◌, ◌≤◌, ℕ, List, [], ◌∷◌, ◌++◌, Some, slice_get, length, inl, inr, refl, ap, sym, ◌∙◌, ◌⊎◌, arith, IsTrue}
+use Rattle.std.proofs.Common.{◌≡◌, ◌+◌, ◌<◌, ◌≤◌, ℕ, List, [], ◌∷◌, ◌++◌, Some, slice_get, length, inl, inr, refl, ap, sym, subst, ◌∙◌, ◌⊎◌, arith, IsTrue}
 use Rattle.std.specs.List.{list_any}
 use Rattle.std.specs.Str.{bytes_eq}
 use Rattle.std.proofs.Common.{true, zero, suc}
-use Rattle.std.proofs.lemmas.Bool.{or_cases, or_left, or_right, cases_Bool}
+use Rattle.std.proofs.lemmas.Bool.{cases_Bool}
 use Rattle.std.proofs.lemmas.Slice.Eq.{bytes_eq-Decides}
 use Rattle.std.proofs.lemmas.Option.{same_Some}
 use Rattle.std.proofs.lemmas.Grind.{common_steps}
+use Rattle.am_universe.proofs.ListLemmas.{IsIn}
+use Rattle.am_universe.proofs.Members.{at_in, in_at}
 use Rattle.am_labels.specs.declared.op.Comparison.{Comparison}
 use Rattle.am_labels.specs.declared.op.Comparison.TheVariants.{Text}
 use Rattle.am_labels.specs.Matcher.{Condition, comparison}
+use Rattle.am_labels.proofs.Passing.{any_in, in_any}
 use Rattle.am_classes.specs.Alike.{HasPattern}
 use Rattle.am_classes.specs.declared.alphabet.Alphabet.{Alphabet}
 use Rattle.am_classes.specs.Values.{AreValues, counts}
@@ -87,18 +90,15 @@ values_push a ms m t vs h takes counted new = record {
 -- A text that a test of each text finds is at a position.
 pub among_place : (xs : List (List ℕ)) (text : List ℕ) → list_any (λ x. bytes_eq x text) xs ≡ true
     → (k : ℕ) × (slice_get xs k ≡ Some text)
-among_place [] text e = absurd cc
-among_place (x ∷ xs) text e = elim (or_cases (bytes_eq x text) (list_any (λ y. bytes_eq y text) xs) e) [
-  | inl a ↦ (0, ap Some ((bytes_eq-Decides x text).0 a))
-  | inr b ↦ (let r = among_place xs text b in (suc r.0, r.1))
-]
+among_place xs text e =
+    let one = any_in (λ x. bytes_eq x text) xs e in
+    at_in xs text (subst (IsIn xs) ((bytes_eq-Decides one.0 text).0 one.2) one.1)
 
 -- A text that is at a position is found by the test.
 pub among_found : (xs : List (List ℕ)) (text : List ℕ) (k : ℕ) → slice_get xs k ≡ Some text
     → list_any (λ x. bytes_eq x text) xs ≡ true
-among_found [] text k e = absurd cc
-among_found (x ∷ xs) text zero e = grind (arith, common_steps, or_left, bytes_eq-Decides, same_Some)
-among_found (x ∷ xs) text (suc k) e = grind (arith, common_steps, or_right, among_found xs text k e)
+among_found xs text k e =
+    in_any (λ x. bytes_eq x text) xs text (in_at xs k text e) ((bytes_eq-Decides text text).1 refl)
 
 -- A text is at some position, or at none.
 pub among_cases : (xs : List (List ℕ)) (text : List ℕ)

@@ -1,7 +1,7 @@
 -- Many patterns, with one more.
 use Rattle.std.proofs.Common.{◌≡◌, ℕ, ◌+◌, ◌∷◌, ◌<◌, Some, slice_get, List, [], ◌++◌, length, map, arith}
-use Rattle.std.proofs.Common.{take, get_or, zero, suc, ap}
-use Rattle.std.proofs.lemmas.Option.{same_Some}
+use Rattle.std.proofs.Common.{take, get_or, ap, option_map, ◌∙◌}
+use Rattle.std.proofs.lemmas.Option.{same_Some, slice_get-map}
 use Rattle.std.proofs.lemmas.Grind.{common_steps}
 use Rattle.am_scan.specs.declared.pattern_automaton.PatternAutomaton.{PatternAutomaton}
 use Rattle.am_scan.specs.Automaton.{number_of}
@@ -17,9 +17,7 @@ mapped_more f xs i x ys all y below is more before here = grind (arith, common_s
 -- The result of a function for the element at a position is at the same position.
 pub get_under : {X Y : Type 0} (f : X → Y) (xs : List X) (k : ℕ) (x : X) → slice_get xs k ≡ Some x
     → slice_get (map f xs) k ≡ Some (f x)
-get_under f [] k x e = absurd cc
-get_under f (y ∷ xs) zero x e = ap Some (ap f (same_Some y x e))
-get_under f (y ∷ xs) (suc k) x e = get_under f xs k x e
+get_under f xs k x e = slice_get-map f xs k ∙ ap (option_map f) e
 
 -- The number that one pattern gives a text.
 pub number_at : (automata : List PatternAutomaton) (numbers : List ℕ) (text : List ℕ) (k : ℕ)

@@ -21,10 +21,6 @@ pub represents_kept : (q : Questions) (old new : List Candidate) (state : LabelS
 represents_kept q old new state grows represents = λ text follows whole unnamed.
     let has = represents text follows whole unnamed in (has.0, has.1, grows has.0 has.1 has.2, has.3)
 
--- If there is no candidate, no two are found by the same patterns.
-pub none_apart : (q : Questions) → AreApartCandidates q []
-none_apart q = record { own = λ k y at. absurd cc; apart = λ i j y z at also same. absurd cc }
-
 -- Candidates stay apart with one more, if none of them is found by the same patterns.
 pub apart_pushed : (q : Questions) (old : List Candidate) (x : Candidate) → AreApartCandidates q old
     → IsCandidate q x → (HasFound old x.found.items → ⊥) → AreApartCandidates q (old ++ x ∷ [])
