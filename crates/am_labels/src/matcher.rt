@@ -3,6 +3,7 @@ ghost use Rattle.std.specs.Prelude.{string_bytes};
 ghost use Rattle.am_labels.specs.PatternProfile.{in_profile};
 ghost use Rattle.am_labels.specs.Matcher.{holds, takes_pattern};
 ghost use Rattle.am_labels.specs.MatcherRefusals.{has_valid_pattern, MatcherRefusedFor};
+ghost use Rattle.am_labels.specs.declared.op.Op.TheVariants.{Equal};
 ghost use Rattle.am_universe.specs.declared.kind.Kind.TheVariants as kinds;
 
 use crate::Op;
@@ -108,7 +109,9 @@ impl Matcher {
             None => None,
         };
         Ok(PreparedMatcher {
-            matcher: self,
+            name: self.name(),
+            op: self.op,
+            value: self.value(),
             search,
         })
     }
@@ -118,7 +121,9 @@ impl Matcher {
 /// next, and a test cannot fail.
 #[derive(Drop)]
 pub struct PreparedMatcher<'m> {
-    matcher: &'m Matcher,
+    name: &'m str,
+    op: Op,
+    value: &'m str,
     search: Option<PatternMatcher<'m>>,
 }
 
@@ -128,13 +133,32 @@ impl<'m> Model for PreparedMatcher<'m> {
 
     ghost Value = { Condition };
 
-    ghost view = { λ t. t.matcher.now };
+    ghost view = { λ t. record { name = t.name.now; op = t.op; value = t.value.now } };
 
     ghost invariant = { λ t.
-        t.search ≡ (if takes_pattern t.matcher.now.op then Some t.matcher.now.value else None) };
+        t.search ≡ (if takes_pattern t.op then Some t.value.now else None) };
 }
 
 impl<'m> PreparedMatcher<'m> {
+    /// The matcher `name="value"`, for any name and any value. It takes no memory.
+    pub(crate) fn of_value(name: &'m str, value: &'m str) -> PreparedMatcher<'m>
+        ensures { result ≡ record { name = name.now; op = Equal; value = value.now } }
+    {
+        PreparedMatcher {
+            name,
+            op: Op::Equal,
+            value,
+            search: None,
+        }
+    }
+
+    /// The name of the label.
+    pub(crate) fn name(&self) -> &'m str
+        ensures { result.now ≡ self.now.name }
+    {
+        self.name
+    }
+
     /// Whether the operator and the value are true of a text.
     pub fn holds(&mut self, text: &str) -> bool
         ensures truth { result ≡ holds self.old.op self.old.value text.now }
@@ -142,8 +166,8 @@ impl<'m> PreparedMatcher<'m> {
     {
         let found = match &mut self.search {
             Some(search) => search.is_match(text),
-            None => text == self.matcher.value(),
+            None => text == self.value,
         };
-        found != self.matcher.op().negates()
+        found != self.op.negates()
     }
 }

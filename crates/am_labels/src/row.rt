@@ -61,12 +61,8 @@ impl Row {
         ensures row { IfOk result (λ row. row ≡ row_of universe.now
             (record { name = name.now; op = Equal; value = value.now })) }
     {
-        let label = universe.position(name);
-        let truths = match label {
-            Some(i) => declared_equalities(alloc, universe, i, value)?,
-            None => undeclared_equality(alloc, value)?,
-        };
-        Ok(Row { label, truths })
+        let mut matcher = PreparedMatcher::of_value(name, value);
+        matcher.row(alloc, universe)
     }
 }
 
@@ -82,11 +78,22 @@ impl Matcher {
         ensures sized { IfOk result (λ row. IfSome row.label (λ i.
             slice_get (sizes universe.now) i ≡ Some (length row.truths))) }
     {
-        let label = universe.position(self.name());
         let mut prepared = self.prepare(alloc)?;
+        prepared.row(alloc, universe)
+    }
+}
+
+impl<'m> PreparedMatcher<'m> {
+    /// The row of this matcher.
+    fn row(&mut self, alloc: Global, universe: &Universe) -> Result<Row, AllocError>
+        ensures row { IfOk result (λ row. row ≡ row_of universe.now self.old) }
+        ensures sized { IfOk result (λ row. IfSome row.label (λ i.
+            slice_get (sizes universe.now) i ≡ Some (length row.truths))) }
+    {
+        let label = universe.position(self.name());
         let truths = match label {
-            Some(i) => declared_truths(alloc, &mut prepared, universe, i)?,
-            None => undeclared_truths(alloc, &mut prepared)?,
+            Some(i) => declared_truths(alloc, self, universe, i)?,
+            None => undeclared_truths(alloc, self)?,
         };
         Ok(Row { label, truths })
     }
@@ -122,36 +129,5 @@ fn undeclared_truths(
 {
     let mut truths = Vec::with_capacity(alloc, 1)?;
     truths.push(prepared.holds(""))?;
-    Ok(truths)
-}
-
-/// For each value of a label, whether it is the text.
-fn declared_equalities(
-    alloc: Global,
-    universe: &Universe,
-    i: usize,
-    text: &str,
-) -> Result<Vec<bool>, AllocError>
-    requires { i < length universe.now }
-    ensures truths { IfOk result (λ truths. truths.items
-        ≡ map (truth_on_value (record { name = []; op = Equal; value = text.now }))
-        (values_at universe.now i)) }
-{
-    let size = universe.size(i);
-    let mut truths = Vec::with_capacity(alloc, size)?;
-    for j in 0..size {
-        let value = universe.value(i, j).unwrap_or("");
-        truths.push(value == text)?;
-    }
-    Ok(truths)
-}
-
-/// Whether a text is empty.
-fn undeclared_equality(alloc: Global, text: &str) -> Result<Vec<bool>, AllocError>
-    ensures { IfOk result (λ truths. truths.items
-        ≡ truth_on_value (record { name = []; op = Equal; value = text.now }) None ∷ []) }
-{
-    let mut truths = Vec::with_capacity(alloc, 1)?;
-    truths.push("" == text)?;
     Ok(truths)
 }
