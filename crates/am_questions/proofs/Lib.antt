@@ -1,5 +1,4 @@
 pub mod QuotedTexts
-pub mod BraceLists
 pub mod LexemeTexts
 pub mod Boundaries
 pub mod Fronts

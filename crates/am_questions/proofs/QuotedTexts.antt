@@ -1,5 +1,6 @@
--- A value is read between quotes exactly if it is spelled there.
-use Rattle.std.proofs.Common.{◌≡◌, refl, sym, ◌∙◌, ap, inl, inr, ℕ, zero, suc, ◌+◌, ◌<◌, ◌≤◌}
+-- A text in quotes is read run by run: bytes that stand for themselves, and then an escape or the
+-- closing quote.
+use Rattle.std.proofs.Common.{◌≡◌, refl, ◌∙◌, ap, inl, inr, ℕ, ◌+◌, ◌<◌, ◌≤◌}
 use Rattle.std.proofs.Common.{List, [], ◌∷◌, ◌++◌}
 use Rattle.std.proofs.Common.{length, take, drop, get_or, true, false, Option, Some, None}
 use Rattle.std.proofs.Common.{option_map, arith, append_assoc, add-one, drop-cons}
@@ -7,18 +8,12 @@ use Rattle.std.proofs.lemmas.List.{append-nil, take-append-drop, drop_all}
 use Rattle.std.proofs.lemmas.List.Sums.{prefix_len_stops}
 use Rattle.std.specs.Prelude.{◌==◌, ◌≢◌}
 use Rattle.std.specs.List.{list_all, prefix_len}
-use Rattle.std.proofs.lemmas.Bool.{and_parts, cases_Bool, cases_lt, eqb-true}
+use Rattle.std.proofs.lemmas.Bool.{and_parts, cases_lt}
 use Rattle.std.proofs.lemmas.Bool.Decides.{nat_tests}
 use Rattle.std.proofs.lemmas.Grind.{common_steps}
 use Rattle.am_labels.specs.MatcherText.{has_escape, byte_of_escape}
 use Rattle.am_labels.proofs.MatcherTextLists.{all_of_prefix}
-use Rattle.am_labels.proofs.MatcherTextWhole.{said_again}
-use Rattle.am_questions.specs.Lexemes.{SpellsCharacter, SpellsQuoted}
-use Rattle.am_questions.specs.LexemeReading.{is_plain, begun_with, read_quoted}
-
--- the text after an opening quote stands for a value, followed by the closing quote and the rest
-abbrev pub IsQuoted : List ℕ → List ℕ → List ℕ → Type 0
-IsQuoted text value rest = (body : List ℕ) × (text ≡ body ++ 34 ∷ rest) × SpellsQuoted body value
+use Rattle.am_questions.specs.Lexemes.{is_plain, begun_with, read_quoted}
 
 -- ---- one step
 
@@ -49,86 +44,6 @@ read_empty = refl
 pub read_backslash : read_quoted (92 ∷ []) ≡ None
 unfolding read_quoted
 read_backslash = refl
-
--- ---- what is spelled is read
-
-character_is_read : (head : List ℕ) (c : ℕ) (text : List ℕ) → SpellsCharacter head c
-    → read_quoted (head ++ text) ≡ begun_with c (read_quoted text)
-character_is_read head c text s = grind (arith, common_steps, escape_step, nat_tests, plain_step)
-
-pub quoted_is_read : (value body rest : List ℕ) → SpellsQuoted body value
-    → read_quoted (body ++ 34 ∷ rest) ≡ Some (value, rest)
-quoted_is_read [] body rest s = rw s (quote_step rest)
-quoted_is_read (c ∷ cs) body rest s =
-    let text : List ℕ = s.1 ++ 34 ∷ rest in
-    let parts : body ++ 34 ∷ rest ≡ s.0 ++ text = rw (s.2, append_assoc) refl in
-    let more : read_quoted text ≡ Some (cs, rest) = quoted_is_read cs s.1 rest s.4 in
-    rw parts (character_is_read s.0 c text s.3 ∙ ap (begun_with c) more)
-
--- ---- what is read is spelled
-
--- one more byte
-byte_before : (c : ℕ) (head text value rest : List ℕ) (read : Option (List ℕ × List ℕ))
-    → SpellsCharacter head c
-    → ((v r : List ℕ) → read ≡ Some (v, r) → IsQuoted text v r)
-    → begun_with c read ≡ Some (value, rest) → IsQuoted (head ++ text) value rest
-byte_before c head text value rest None s h e = absurd cc
-byte_before c head text value rest (Some p) s h e =
-    let given = h p.0 p.1 refl in
-    said_again (IsQuoted (head ++ text)) (c ∷ p.0) value p.1 rest e (
-      head ++ given.0,
-      rw (append_assoc, given.1) refl,
-      (head, given.0, refl, s, given.2),
-    )
-
--- at the closing quote
-closed : (text value rest : List ℕ) → read_quoted (34 ∷ text) ≡ Some (value, rest)
-    → IsQuoted (34 ∷ text) value rest
-closed text value rest e =
-    said_again (IsQuoted (34 ∷ text)) [] value text rest (sym (quote_step text) ∙ e) ([], refl, refl)
-
-escape_spells : (d : ℕ) → has_escape d ≡ true → SpellsCharacter (92 ∷ d ∷ []) (byte_of_escape d)
-escape_spells d h = grind (arith, common_steps, cases_Bool, eqb-true, nat_tests)
-
--- after a backslash
-escaped : (text value rest : List ℕ)
-    → ((d : ℕ) (more v r : List ℕ) → text ≡ d ∷ more → read_quoted more ≡ Some (v, r)
-    → IsQuoted more v r)
-    → read_quoted (92 ∷ text) ≡ Some (value, rest) → IsQuoted (92 ∷ text) value rest
-escaped [] value rest h e = absurd (let n = read_backslash in cc)
-escaped (d ∷ more) value rest h e = elim (cases_Bool (has_escape d)) [
-  | inl y ↦
-      byte_before (byte_of_escape d) (92 ∷ d ∷ []) more value rest (read_quoted more) (escape_spells d y)
-      (λ v r. h d more v r refl) (sym (escape_step d more y) ∙ e)
-  | inr n ↦ absurd (let z = no_escape d more n in cc)
-]
-
-read_within : (n : ℕ) (text value rest : List ℕ) → length text ≤ n
-    → read_quoted text ≡ Some (value, rest)
-    → IsQuoted text value rest
-read_within n [] value rest l e = absurd (let z = read_empty in cc)
-read_within zero (c ∷ text) value rest l e = absurd (omega arith)
-read_within (suc n) (c ∷ text) value rest l e = elim (cases_Bool (c == 34)) [
-  | inl q ↦
-      let is : c ≡ 34 = eqb-true c 34 q in rw is (closed text value rest (rw is at e))
-  | inr q ↦ elim (cases_Bool (c == 92)) [
-    | inl b ↦
-        let is : c ≡ 92 = eqb-true c 92 b in
-        rw is (escaped text value rest
-        (λ d more v r same read.
-        read_within n more v r (let t = ap length same in omega arith) read) (rw is at e))
-    | inr b ↦
-        let one : c ≢ 34 = grind (arith, nat_tests) in
-        let two : c ≢ 92 = grind (arith, nat_tests) in
-        byte_before c (c ∷ []) text value rest (read_quoted text) (inr (inr (inr (refl, one, two))))
-        (λ v r read. read_within n text v r (omega arith) read)
-        (sym (plain_step c text q b) ∙ e)
-  ]
-]
-
-pub read_is_quoted : (text value rest : List ℕ) → read_quoted text ≡ Some (value, rest)
-    → IsQuoted text value rest
-read_is_quoted text value rest e = read_within (length text) text value rest (omega arith) e
 
 -- ---- a run of bytes that stand for themselves, and what follows it
 

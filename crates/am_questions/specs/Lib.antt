@@ -1,5 +1,4 @@
 pub mod Lexemes
-pub mod LexemeReading
 pub mod Grammar
 pub mod GrammarExamples
 pub mod GrammarReading

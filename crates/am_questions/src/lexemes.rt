@@ -1,14 +1,14 @@
 //! The lexemes of a question's text.
 
-ghost use Rattle.std.specs.Prelude.{◌≡◌, ◌≢◌, ◌≤◌, List, length, map, true, false, Some, None};
-ghost use Rattle.std.specs.Prelude.{IfOk, IfErr, string_bytes};
+ghost use Rattle.std.specs.Prelude.{◌≡◌, ◌≢◌, ◌<◌, ◌≤◌, List, length, map, true, false, Some, None};
+ghost use Rattle.std.specs.Prelude.{IfOk, IfErr, string_bytes, slice_index};
 ghost use Rattle.std.specs.List.{prefix_len};
 ghost use Rattle.am_universe.specs.declared.kind.Kind.TheVariants as kinds;
-ghost use Rattle.am_labels.specs.MatcherText.{has_escape, byte_of_escape};
+ghost use Rattle.am_labels.specs.MatcherText.{is_space, has_escape, byte_of_escape};
 ghost use Rattle.am_questions.specs.Lexemes as spec;
 ghost use Rattle.am_questions.specs.Lexemes.{SpellsLexemes, is_word_character};
+ghost use Rattle.am_questions.specs.Lexemes.{is_plain, read_quoted, read_lexeme};
 ghost use Rattle.am_questions.specs.LexemeView.{lexeme_view};
-ghost use Rattle.am_questions.specs.LexemeReading.{is_plain, read_quoted, read_lexeme};
 
 use am_labels::brace_len;
 use am_universe::Kind;
@@ -50,9 +50,11 @@ pub fn read_lexemes(alloc: Global, text: &str) -> Result<Vec<Lexeme<'_>>, Kind>
 
 /// Reads the first lexeme of a text that does not begin with whitespace. Returns it and the text
 /// after it.
-#[tactic(auto, unfolding(crate::specs::LexemeReading::read_lexeme))]
+#[tactic(auto, unfolding(crate::specs::Lexemes::read_lexeme))]
 fn read_lexeme(alloc: Global, text: &str) -> Result<(Lexeme<'_>, &str), Kind>
     ensures read { IfOk result (λ x. read_lexeme text.now ≡ Some (lexeme_view x.0, x.1.now)) }
+    ensures shorter { IfOk result (λ x. 0 < length text.now
+        → is_space (slice_index text.now 0) ≡ false → length x.1.now < length text.now) }
     ensures refused { IfErr result (λ kind. kind ≢ kinds.Memory → (kind ≡ kinds.QuestionSyntax)
         × (read_lexeme text.now ≡ None)) }
 {
@@ -78,6 +80,7 @@ fn read_lexeme(alloc: Global, text: &str) -> Result<(Lexeme<'_>, &str), Kind>
 /// closing quote.
 fn read_quoted(alloc: Global, text: &str) -> Result<(String, &str), Kind>
     ensures read { IfOk result (λ x. read_quoted text.now ≡ Some (string_bytes x.0, x.1.now)) }
+    ensures shorter { IfOk result (λ x. length x.1.now < length text.now) }
     ensures refused { IfErr result (λ kind. kind ≢ kinds.Memory → (kind ≡ kinds.QuestionSyntax)
         × (read_quoted text.now ≡ None)) }
 {

@@ -1,10 +1,13 @@
-use Rattle.std.proofs.Common.{◌<◌, length, ap, map, arith}
+use Rattle.std.proofs.Common.{◌≡◌, ◌<◌, length, ap, map, arith}
 use Rattle.std.proofs.lemmas.Grind.{common_steps}
-use Rattle.std.proofs.lemmas.List.{map-append}
+use Rattle.std.proofs.lemmas.List.{map-append, length-drop}
+use Rattle.std.specs.List.{prefix_len}
+use Rattle.am_labels.specs.MatcherText.{is_space}
 use Rattle.std.proofs.lemmas.Str.Ascii.{trim_ascii_start_is}
 use Rattle.std.proofs.lemmas.Result.{err_from_is_err_and}
 use Rattle.am_questions.specs.LexemeView.{lexeme_view}
-use Rattle.am_questions.proofs.LexemeTexts.{at_first, one_more, at_end, none_here, shorter}
+use Rattle.am_questions.proofs.LexemeTexts.{at_first, one_more, at_end, none_here}
+use Rattle.am_questions.proofs.LexemeTexts.{trimmed_first}
 use Rattle.am_questions.proofs.lexemes.read_lexemes.Goals as goal
 
 pub loop-rest-init : goal.loop-rest-init
@@ -20,8 +23,7 @@ returns-in_err-lexeme-clause-refused c =
     rw (p.1, p.2) (λ other.
     let refused = c.in_err-lexeme.ensures.refused other in (
       refused.0,
-      none_here c.args.text.now (map lexeme_view c.loop-rest.lexemes.items)
-          c.loop-rest.rest.now some c.loop-rest.invariant.1 refused.1,
+      none_here _ _ _ c.loop-rest.invariant.1 some refused.1,
     ))
 
 pub loop-rest-smaller : goal.loop-rest-smaller
@@ -31,9 +33,10 @@ loop-rest-smaller c =
     (trim_ascii_start_is c.in_ok-lexeme.behind.now
     c.trim_ascii_start-rest-in-loop-rest.result.now
     c.trim_ascii_start-rest-in-loop-rest.ensures.value) in
-    let less =
-    shorter c.loop-rest.rest.now (lexeme_view c.in_ok-lexeme.lexeme) c.in_ok-lexeme.behind.now some
-    c.loop-rest.invariant.1.trimmed c.in_ok-lexeme.ensures.read in
+    let on = c.loop-rest.invariant.1 in
+    let first = rw (← on.trimmed) at (trimmed_first on.left) in
+    let less = c.in_ok-lexeme.ensures.shorter some first in
+    let cut = length-drop (prefix_len is_space c.in_ok-lexeme.behind.now) c.in_ok-lexeme.behind.now in
     omega arith
 
 pub loop-rest-preserved : goal.loop-rest-preserved
@@ -43,10 +46,11 @@ loop-rest-preserved c =
     let is =
     trim_ascii_start_is c.in_ok-lexeme.behind.now trimmed.result.now trimmed.ensures.value in
     let more =
-    one_more c.args.text.now (map lexeme_view c.loop-rest.lexemes.items) c.loop-rest.rest.now
-    (lexeme_view c.in_ok-lexeme.lexeme) c.in_ok-lexeme.behind.now some c.loop-rest.invariant.1
-    c.in_ok-lexeme.ensures.read in
+    one_more _ _ _ c.loop-rest.invariant.1 (lexeme_view c.in_ok-lexeme.lexeme)
+    c.in_ok-lexeme.behind.now some c.in_ok-lexeme.ensures.read in
     (trimmed.utf8, rw (is, c.in_ok-push.ensures.items, map-append) more)
 
 pub returns-clause-read : goal.returns-clause-read
-returns-clause-read c = grind (arith, common_steps, at_end)
+returns-clause-read c =
+    let none : length c.loop-rest.rest.now ≡ 0 = grind (arith, common_steps) in
+    at_end _ _ _ c.loop-rest.invariant.1 none

@@ -6,7 +6,7 @@ use Rattle.std.proofs.lemmas.Str.{IsCharBoundary-after_ascii, encode_ascii}
 use Rattle.std.specs.String.{string_bytes}
 use Rattle.std.specs.List.{prefix_len}
 use Rattle.am_labels.specs.MatcherText.{has_escape, byte_of_escape}
-use Rattle.am_questions.specs.LexemeReading.{is_plain}
+use Rattle.am_questions.specs.Lexemes.{is_plain}
 use Rattle.am_labels.proofs.MatcherTextUtf8.{escape_ascii, escaped_ascii}
 use Rattle.am_questions.proofs.Boundaries.{behind_plain}
 use Rattle.am_questions.proofs.QuotedTexts.{quote_closes, escape_goes_on, no_escape_here}
@@ -83,4 +83,4 @@ loop-value-preserved c =
     c.in_ok-push-in-92.ensures.bytes ∙ rw (run, gives, one) refl in
     let behind_is : c.range_from-rest.result.now ≡ drop (n + 2) rest =
     grind (arith, common_steps) in
-    (c.range_from-rest.utf8, rw (value_is, behind_is) goes_on)
+    (c.range_from-rest.utf8, rw (value_is, behind_is) goes_on, grind (arith, common_steps))
