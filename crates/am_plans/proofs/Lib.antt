@@ -5,7 +5,6 @@ pub mod SpaceExample
 pub mod OneList
 pub mod WalkLemmas
 pub mod RouteMade
-pub mod QuestionMade
 pub mod QuestionSteps
 pub mod PairSteps
 pub mod SilenceSteps

@@ -1,15 +1,9 @@
 //! Questions, with lists in place of their matchers.
 
-ghost use Rattle.std.specs.Prelude.{◌≡◌, ℕ, List, IfOk, IsTrue};
-ghost use Rattle.am_universe.specs.Choice.{admits};
-ghost use Rattle.am_universe.specs.Universe.{sizes};
-ghost use Rattle.am_eval.specs.World.{World};
+ghost use Rattle.std.specs.Prelude.{◌≡◌, IfOk};
 ghost use Rattle.am_eval.specs.QuestionView.{question_view};
-ghost use Rattle.am_judged_lists.specs.declared.certainty.Certainty.{Certainty};
-ghost use Rattle.am_judged_lists.specs.Certainty.{passes};
-ghost use Rattle.am_plans.specs.Verdicts.{verdict_of_question};
-ghost use Rattle.am_plans.specs.WorldByLists.{WorldSeen, world_seen, Serves};
-ghost use Rattle.am_plans.specs.QuestionByLists.{question_by};
+ghost use Rattle.am_plans.specs.WorldByLists.{world_seen};
+ghost use Rattle.am_plans.specs.QuestionByLists.{question_by, AreListsOf};
 
 use crate::world_lists::WorldLists;
 use am_eval::{Property, Question, Reach};
@@ -43,12 +37,7 @@ impl<'q> QuestionLists<'q> {
         universe: &Universe,
         question: &'q Question,
     ) -> Result<QuestionLists<'q>, AllocError>
-        ensures exact { IfOk result (λ lists.
-            (w : World) (prefix : List ℕ) (seen : WorldSeen) (m : Certainty)
-            → IsTrue (admits (sizes universe.now) prefix)
-            → Serves universe.now w prefix seen (question_view question.now)
-            → question_by prefix seen lists m
-            ≡ passes m (verdict_of_question universe.now w (question_view question.now) prefix)) }
+        ensures exact { IfOk result (AreListsOf universe.now (question_view question.now)) }
     {
         match question {
             Question::Is(property) => Ok(QuestionLists::Is(*property)),

@@ -187,8 +187,7 @@ fn pairs_if(
     Ok(Some(PairLists::of(alloc, universe, world)?))
 }
 
-/// The list of each active silence. A list that never matches is left out, because it does not
-/// change an `or`.
+/// The list of each active silence.
 fn lists_of_silences(
     alloc: Global,
     universe: &Universe,
@@ -202,11 +201,22 @@ fn lists_of_silences(
     let mut lists = Vec::new(alloc);
     for i in 0..world.silences().len() {
         if world.active(i) {
-            let cube = Cube::of(alloc, world.silences().get(i).matchers(), universe)?;
-            if !cube.is_empty() {
-                lists.push(cube)?;
-            }
+            let list = Cube::of(alloc, world.silences().get(i).matchers(), universe)?;
+            add_list(&mut lists, list)?;
         }
     }
     Ok(lists)
+}
+
+/// Adds a list, unless it never matches: then it does not change an `or`.
+fn add_list(lists: &mut Vec<Cube>, list: Cube) -> Result<(), AllocError>
+    ensures { OnOk result ((prefix : List ℕ) (m : Certainty)
+        → list_any (λ cube. passes m (verdict_at cube prefix)) lists.new.items
+        ≡ (list_any (λ cube. passes m (verdict_at cube prefix)) lists.old.items
+        || passes m (verdict_at list prefix))) }
+{
+    if !list.is_empty() {
+        lists.push(list)?;
+    }
+    Ok(())
 }
