@@ -1,7 +1,8 @@
 -- The lists of a pair of a rule and a firing alert say what its condition says.
 use Rattle.std.proofs.Common.{◌≡◌, ℕ, Bool, true, false, not, ◌&&◌, List, [], ◌∷◌, ◌++◌, map, cond}
 use Rattle.std.proofs.Common.{Option, Some, None, option_map, length, get_or, Contains, ◌<◌, ◌≤◌}
-use Rattle.std.proofs.Common.{◌⊎◌, ◌||◌, zero, suc, inl, inr, refl, sym, ap, ◌∙◌, arith}
+use Rattle.std.proofs.Common.{◌⊎◌, ◌||◌, zero, suc, inl, inr, refl, sym, ap, ◌∙◌, arith, String}
+use Rattle.std.proofs.Common.{string_bytes}
 use Rattle.std.specs.Prelude.{slice_get}
 use Rattle.std.specs.List.{list_all, list_any}
 use Rattle.std.proofs.lemmas.Bool.{cases_lt, and_right, or_right}
@@ -10,9 +11,8 @@ use Rattle.std.specs.declared.vec.Vec.{Vec}
 use Rattle.std.proofs.lemmas.List.{length-map, map-append}
 use Rattle.std.proofs.lemmas.Option.{slice_get-map, same_Some, slice_get_read, slice_get_within}
 use Rattle.std.proofs.lemmas.Simd.{map-map}
-use Rattle.am_universe.specs.LabelSet.{LabelMap, value_of}
+use Rattle.am_universe.specs.LabelSet.{LabelMap}
 use Rattle.am_universe.proofs.UniverseLemmas.{list_any-map}
-use Rattle.am_labels.specs.declared.op.Op.TheVariants.{Equal}
 use Rattle.am_universe.specs.Universe.{Label}
 use Rattle.am_labels.specs.Row.{TruthRow, row_of}
 use Rattle.am_labels.specs.Matcher.{all_hold}
@@ -82,16 +82,18 @@ target_at u targets rules i rows rule same at_rows at_rule =
 -- the rows of a target side, and those of the alert's values
 pub rows_of_pair : (u : List Label) (targets : List (Vec TruthRow Global)) (rules : List Rule)
     (i : ℕ) (rows : Vec TruthRow Global) (rule : Rule) (firing : LabelMap)
-    (front values : List TruthRow) (names : List (List ℕ)) → AreTargets u targets rules
+    (front values : List TruthRow) (names : List (String Global)) → AreTargets u targets rules
     → rows ≡ get_or targets i rows → slice_get rules i ≡ Some rule → front ≡ rows.items
-    → values ≡ map (λ name. row_of u (same_value firing name)) names → names ≡ rule.equal
+    → values ≡ map (λ name. row_of u (same_value firing (string_bytes name))) names
+    → map string_bytes names ≡ rule.equal
     → front ++ values ≡ map (row_of u) (rule.target ++ map (same_value firing) rule.equal)
 rows_of_pair u targets rules i rows rule firing front values names same is at_rule e f h =
     let within = targets_within u targets rules i same (slice_get_within rules i rule at_rule) in
     let at_rows = slice_get_read targets (length targets) i rows refl within is in
     let ms = map (same_value firing) rule.equal in
     let of_values : values ≡ map (row_of u) ms =
-    f ∙ ap (map (λ name. row_of u (same_value firing name))) h
+    f ∙ sym (map-map (λ name. row_of u (same_value firing name)) string_bytes names)
+    ∙ ap (map (λ name. row_of u (same_value firing name))) h
     ∙ sym (map-map (row_of u) (same_value firing) rule.equal) in
     ap (λ rs. rs ++ values) (e ∙ target_at u targets rules i rows rule same at_rows at_rule)
     ∙ ap (λ rs. map (row_of u) rule.target ++ rs) of_values
@@ -240,11 +242,3 @@ no_pair_more test fails vs sides from i next side before none at spared same j v
       | inr last ↦
           and_right (test v) (fails other) (ap fails (same j side other last low at with) ∙ spared)
     ]
-
--- the row of an alert's value
-pub row_of_value : (u : List Label) (alert : LabelMap) (row : TruthRow) (name read value : List ℕ)
-    → row ≡ row_of u (record { name = read; op = Equal; value = value }) → read ≡ name
-    → value ≡ value_of alert name → row ≡ row_of u (same_value alert name)
-row_of_value u alert row name read value e f g =
-    e ∙ ap (λ n. row_of u (record { name = n; op = Equal; value = value })) f
-    ∙ ap (λ v. row_of u (record { name = name; op = Equal; value = v })) g

@@ -1,9 +1,9 @@
 -- A tree of cubes is seen as the routes of which it has the cubes.
-use Rattle.std.proofs.Common.{◌≡◌, ◌≤◌, ℕ, List, [], ◌∷◌, Bool, true, false, not, ◌&&◌, Option, Some}
-use Rattle.std.proofs.Common.{None, length, take, map, refl, sym, ap, ◌∙◌}
+use Rattle.std.proofs.Common.{◌≡◌, ◌≤◌, ℕ, List, [], ◌∷◌, Bool, true, false, not, ◌&&◌, Some}
+use Rattle.std.proofs.Common.{length, take, map, refl, sym, ap, ◌∙◌}
 use Rattle.std.specs.Prelude.{slice_get}
 use Rattle.std.specs.List.{list_all, list_any}
-use Rattle.std.proofs.lemmas.Bool.{and_left, and_right}
+use Rattle.std.proofs.lemmas.Bool.{and_right}
 use Rattle.std.proofs.lemmas.Option.{slice_get_past}
 use Rattle.am_universe.specs.Universe.{Label}
 use Rattle.am_config.specs.ConfigFile.{RouteTree, Routes, route, no_routes, next_route, matchers_of}
@@ -43,51 +43,16 @@ module _ (prefix : List ℕ) (m : Certainty) (reach : Reach) (r : RouteCubes) (r
       ap (list_all (λ c. fails_at prefix m (out-RouteCubes c).cube)) are
       ∙ sym (λ i. reaches_at prefix m (ends i) r (no_more i))
 
-  pub one_down : (p : ℕ) (rest : List ℕ) (o : Option RouteCubes) → path ≡ p ∷ rest
-      → slice_get rs p ≡ o
-      → (list_all (gets_past (holds_at prefix m) (fails_at prefix m)) (take p rs)
-      && goes_into (holds_at prefix m) (fails_at prefix m)
-      (λ child. reaches_at prefix m reach child rest) o) ≡ reaches_at prefix m reach r path
-  one_down p rest o goes at =
-      (λ i. list_all (gets_past (holds_at prefix m) (fails_at prefix m)) (take p (are i))
-      && goes_into (holds_at prefix m) (fails_at prefix m)
-      (λ child. reaches_at prefix m reach child rest)
-      ((sym at ∙ ap (λ xs. slice_get xs p) are) i))
-      ∙ sym (ap (reaches_at prefix m reach r) goes)
-
-  abbrev closed : ℕ → Bool
-  closed p = list_all (gets_past (holds_at prefix m) (fails_at prefix m)) (take p rs)
-
   pub no_child : (p : ℕ) (rest : List ℕ) → path ≡ p ∷ rest → length rs ≤ p
       → false ≡ reaches_at prefix m reach r path
   no_child p rest goes past =
-      sym (and_right (closed p) false refl)
-      ∙ one_down p rest None goes (slice_get_past rs p past)
-
-  pub not_past : (p : ℕ) (rest : List ℕ) → path ≡ p ∷ rest → closed p ≡ false
-      → false ≡ reaches_at prefix m reach r path
-  not_past p rest goes stops =
-      sym (and_left (closed p) (goes_into (holds_at prefix m) (fails_at prefix m)
-      (λ child. reaches_at prefix m reach child rest) (slice_get rs p)) stops)
-      ∙ one_down p rest (slice_get rs p) goes refl
-
-  pub not_into : (p : ℕ) (rest : List ℕ) (child : RouteCubes) → path ≡ p ∷ rest
-      → slice_get rs p ≡ Some child → holds_at prefix m (out-RouteCubes child).cube ≡ false
-      → false ≡ reaches_at prefix m reach r path
-  not_into p rest child goes at fails =
-      sym (and_right (closed p) (holds_at prefix m (out-RouteCubes child).cube
-      && reaches_at prefix m reach child rest)
-      (and_left (holds_at prefix m (out-RouteCubes child).cube)
-      (reaches_at prefix m reach child rest) fails))
-      ∙ one_down p rest (Some child) goes at
-
-  pub goes_down : (p : ℕ) (rest : List ℕ) (child : RouteCubes) → path ≡ p ∷ rest
-      → slice_get rs p ≡ Some child → closed p ≡ true
-      → holds_at prefix m (out-RouteCubes child).cube ≡ true
-      → reaches_at prefix m reach child rest ≡ reaches_at prefix m reach r path
-  goes_down p rest child goes at past holds =
-      (λ i. sym past i && (sym holds i && reaches_at prefix m reach child rest))
-      ∙ one_down p rest (Some child) goes at
+      let passed = list_all (gets_past (holds_at prefix m) (fails_at prefix m)) in
+      let into = goes_into (holds_at prefix m) (fails_at prefix m)
+      (λ child. reaches_at prefix m reach child rest) in
+      let none = sym (slice_get_past rs p past) ∙ ap (λ xs. slice_get xs p) are in
+      sym (and_right (passed (take p rs)) false refl)
+      ∙ (λ i. passed (take p (are i)) && into (none i))
+      ∙ sym (ap (reaches_at prefix m reach r) goes)
 
 -- ---- The routes of a world.
 

@@ -145,10 +145,9 @@ says Yes b h = rw h refl
 says No b h = rw h refl
 says Open b h = absurd h
 
-says_truth : (v : Verdict) (b : Bool) → Agrees ⊥ v b → is_yes v ≡ b
-says_truth Yes b h = sym h
-says_truth No b h = sym h
-says_truth Open b h = absurd h
+yes_of : (b : Bool) → is_yes (cond b Yes No) ≡ b
+yes_of true = refl
+yes_of false = refl
 
 lists_agree : (u : List Label) (c : List ℕ) → IsWhole (sizes u) c → (ms : List Condition)
     → Agrees ⊥ (verdict_of_list u ms c) (matches_at u ms c)
@@ -169,8 +168,7 @@ module _ (s : Space) (w : World) (q : Question) where
 
   pub verdict_says_truth : (c : List ℕ) → IsWhole (sizes s.labels) c
       → is_yes (verdict_of s w q c) ≡ is_answer s w q c
-  verdict_says_truth c whole =
-      says_truth (verdict_of s w q c) (is_answer s w q c) (at_whole c whole)
+  verdict_says_truth c whole = ap is_yes (verdict_says c whole) ∙ yes_of (is_answer s w q c)
 
   -- with the truths and verdicts of the question
   module _ (truth : List ℕ → Bool) (verdict : List ℕ → Verdict)

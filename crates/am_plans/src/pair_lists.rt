@@ -66,8 +66,7 @@ impl PairLists {
             ≡ passes m (verdict_of_simple universe.now world.now (Is Inhibited) prefix)) }
     {
         let rules = world.config().rules();
-        let sources = lists_of_sources(alloc, universe, rules)?;
-        let targets = rows_of_targets(alloc, universe, rules)?;
+        let (sources, targets) = lists_of_rules(alloc, universe, rules)?;
         let pairs = lists_of_pairs(alloc, universe, world, targets.as_slice())?;
         let (lists, sides) = parts_of_pairs(alloc, pairs)?;
         Ok(PairLists {
@@ -146,36 +145,24 @@ fn parts_of_pairs(
     Ok((lists, sides))
 }
 
-/// The list of the source side of each rule.
-fn lists_of_sources(
+/// The list of the source side of each rule, and the rows of its target side.
+fn lists_of_rules(
     alloc: Global,
     universe: &Universe,
     rules: &[Rule],
-) -> Result<Vec<Cube>, AllocError>
+) -> Result<(Vec<Cube>, Vec<Vec<Row>>), AllocError>
     ensures sources { IfOk result (λ lists. (prefix : List ℕ)
         → IsTrue (admits (sizes universe.now) prefix)
-        → AreSources universe.now prefix lists.items rules.now) }
+        → AreSources universe.now prefix lists.0.items rules.now) }
+    ensures targets { IfOk result (λ lists. AreTargets universe.now lists.1.items rules.now) }
 {
-    let mut lists = Vec::with_capacity(alloc, rules.len())?;
-    for rule in rules {
-        lists.push(Cube::of(alloc, rule.source(), universe)?)?;
-    }
-    Ok(lists)
-}
-
-/// The rows of the target side of each rule.
-fn rows_of_targets(
-    alloc: Global,
-    universe: &Universe,
-    rules: &[Rule],
-) -> Result<Vec<Vec<Row>>, AllocError>
-    ensures targets { IfOk result (λ targets. AreTargets universe.now targets.items rules.now) }
-{
+    let mut sources = Vec::with_capacity(alloc, rules.len())?;
     let mut targets = Vec::with_capacity(alloc, rules.len())?;
     for rule in rules {
+        sources.push(Cube::of(alloc, rule.source(), universe)?)?;
         targets.push(rows_of(alloc, universe, rule.target())?)?;
     }
-    Ok(targets)
+    Ok((sources, targets))
 }
 
 /// The lists of the pairs of a world. A pair is left out if its list never matches, or if it says
@@ -282,8 +269,8 @@ fn rows_of_values(
     alert: &LabelSet,
 ) -> Result<Vec<Row>, AllocError>
     ensures rows { IfOk result (λ rows. rows.items
-        ≡ map (λ name. row_of universe.now (same_value alert.now name))
-        (map string_bytes names.now)) }
+        ≡ map (λ name. row_of universe.now (same_value alert.now (string_bytes name)))
+        names.now) }
 {
     let mut rows = Vec::with_capacity(alloc, names.len())?;
     for name in names {

@@ -61,11 +61,10 @@ pub(crate) fn reaches(
     if position >= children.len() {
         return false;
     }
-    if !gets_past(&children[..position], certainty, prefix) {
-        return false;
-    }
     let child = &children[position];
-    certainty.holds(&child.cube, prefix) && reaches(child, certainty, reach, rest, prefix)
+    gets_past(&children[..position], certainty, prefix)
+        && certainty.holds(&child.cube, prefix)
+        && reaches(child, certainty, reach, rest, prefix)
 }
 
 /// The first position of a path and the rest of it, or `None` if it has no position.
