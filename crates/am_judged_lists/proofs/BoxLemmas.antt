@@ -1,7 +1,8 @@
 -- Boxes that keep some positions of a label, and how a cube matches them.
-use Rattle.std.proofs.Common.{◌≡◌, ◌≢◌, ℕ, zero, suc, ◌+◌, ◌<◌, ◌≤◌, Bool, true, false, not, ◌&&◌, ◌||◌, ◌==◌, ◌⊎◌, ◌↔◌}
+use Rattle.std.proofs.Common.{◌≡◌, ◌≢◌, ℕ, zero, suc, ◌+◌, ◌<◌, Bool, true, false, not, ◌&&◌, ◌||◌, ◌==◌, ◌⊎◌, ◌↔◌}
 use Rattle.std.proofs.Common.{List, [], ◌∷◌, length, take, get_or, set, nat_lt, refl, ap, sym, ◌∙◌, inl, inr, arith}
 use Rattle.std.specs.List.{list_all}
+use Rattle.std.proofs.Math.Bool.{and-false, and_self, not-not}
 use Rattle.std.proofs.lemmas.Bool.{cases_eq, and_parts, and_from, eq-eqb, ne_eqb, lt-ltb, ltb-true}
 use Rattle.std.proofs.lemmas.List.{get_or_read, get_or-set_same, get_or-set_other, length-set}
 use Rattle.std.proofs.lemmas.List.Folds.{list_all_more}
@@ -61,42 +62,35 @@ from_zero P first rest (suc j) = rest j
 abbrev pub Keeps : List Bool → List Bool → (ℕ → Bool) → Type 0
 Keeps old new test = (j : ℕ) → get_or new j false ≡ (get_or old j false && test j)
 
--- a position that is out cannot be kept
-not_taken_in : (b : Bool) → true ≡ (false && b) → ⊥
-not_taken_in b e = cc
-
--- a mask that keeps positions has no more of them
-no_more : (old new : List Bool) (test : ℕ → Bool) → length new ≡ length old → Keeps old new test → count_true new ≤ count_true old
-no_more [] [] test e kept = omega arith
-no_more [] (n ∷ new) test e kept = absurd (omega (arith, e))
-no_more (o ∷ old) [] test e kept = absurd (omega (arith, e))
-no_more (true ∷ old) (true ∷ new) test e kept = omega (arith, no_more old new (λ j. test (suc j)) (omega (arith, e)) (λ j. kept (suc j)))
-no_more (true ∷ old) (false ∷ new) test e kept = omega (arith, no_more old new (λ j. test (suc j)) (omega (arith, e)) (λ j. kept (suc j)))
-no_more (false ∷ old) (false ∷ new) test e kept = omega (arith, no_more old new (λ j. test (suc j)) (omega (arith, e)) (λ j. kept (suc j)))
-no_more (false ∷ old) (true ∷ new) test e kept = absurd (not_taken_in (test 0) (kept 0))
-
--- there are fewer, or all passed the test
-less_or_none : (old new : List Bool) (test : ℕ → Bool) → length new ≡ length old → Keeps old new test
-    → (count_true new < count_true old) ⊎ ((j : ℕ) → (get_or old j false && not (test j)) ≡ false)
-less_or_none [] [] test e kept = inr (λ j. refl)
-less_or_none [] (n ∷ new) test e kept = absurd (omega (arith, e))
-less_or_none (o ∷ old) [] test e kept = absurd (omega (arith, e))
-less_or_none (true ∷ old) (true ∷ new) test e kept = elim (less_or_none old new (λ j. test (suc j)) (omega (arith, e)) (λ j. kept (suc j))) [
+-- a mask that keeps positions has fewer of them, or as many, and then all passed the test
+less_or_same : (old new : List Bool) (test : ℕ → Bool) → length new ≡ length old → Keeps old new test
+    → (count_true new < count_true old)
+    ⊎ ((count_true new ≡ count_true old) × ((j : ℕ) → (get_or old j false && not (test j)) ≡ false))
+less_or_same [] [] test e kept = inr (refl, λ j. refl)
+less_or_same [] (n ∷ new) test e kept = absurd (omega (arith, e))
+less_or_same (o ∷ old) [] test e kept = absurd (omega (arith, e))
+less_or_same (true ∷ old) (true ∷ new) test e kept = elim (less_or_same old new (λ j. test (suc j)) (omega (arith, e)) (λ j. kept (suc j))) [
   | inl less ↦ inl (omega (arith, less))
-  | inr none ↦ inr (from_zero (λ j. (get_or (true ∷ old) j false && not (test j)) ≡ false) (ap not (sym (kept 0))) none)
+  | inr same ↦ inr (
+    omega (arith, same.0),
+    from_zero (λ j. (get_or (true ∷ old) j false && not (test j)) ≡ false) (ap not (sym (kept 0))) same.1,
+  )
 ]
-less_or_none (true ∷ old) (false ∷ new) test e kept = inl (omega (arith, no_more old new (λ j. test (suc j)) (omega (arith, e)) (λ j. kept (suc j))))
-less_or_none (false ∷ old) (false ∷ new) test e kept = elim (less_or_none old new (λ j. test (suc j)) (omega (arith, e)) (λ j. kept (suc j))) [
+less_or_same (true ∷ old) (false ∷ new) test e kept = elim (less_or_same old new (λ j. test (suc j)) (omega (arith, e)) (λ j. kept (suc j))) [
   | inl less ↦ inl (omega (arith, less))
-  | inr none ↦ inr (from_zero (λ j. (get_or (false ∷ old) j false && not (test j)) ≡ false) refl none)
+  | inr same ↦ inl (omega (arith, same.0))
 ]
-less_or_none (false ∷ old) (true ∷ new) test e kept = absurd (not_taken_in (test 0) (kept 0))
+less_or_same (false ∷ old) (false ∷ new) test e kept = elim (less_or_same old new (λ j. test (suc j)) (omega (arith, e)) (λ j. kept (suc j))) [
+  | inl less ↦ inl (omega (arith, less))
+  | inr same ↦ inr (omega (arith, same.0), from_zero (λ j. (get_or (false ∷ old) j false && not (test j)) ≡ false) refl same.1)
+]
+less_or_same (false ∷ old) (true ∷ new) test e kept = absurd (let b = kept 0 in cc)
 
 -- if one did not pass, there are fewer
 fewer_true : (old new : List Bool) (test : ℕ → Bool) → length new ≡ length old → Keeps old new test → (((j : ℕ) → (get_or old j false && not (test j)) ≡ false) → ⊥) → count_true new < count_true old
-fewer_true old new test e kept some = elim (less_or_none old new test e kept) [
+fewer_true old new test e kept some = elim (less_or_same old new test e kept) [
   | inl less ↦ less
-  | inr none ↦ absurd (some none)
+  | inr same ↦ absurd (some same.1)
 ]
 
 -- fewer positions of one label are fewer in all
@@ -138,11 +132,7 @@ module _ (b : List (List Bool)) (label : ℕ) (mask : List Bool) (test : ℕ →
 pub open_out : (b : List (List Bool)) (cube : MaskedLabels) (label : ℕ) (part : Part) → IsOpen b cube label
     → ((p : ℕ) → (box_permits b label p && not (is_in_part part (permits_position cube label p))) ≡ false) → ⊥
 open_out b cube label Within h none = h.each Outside none
-open_out b cube label Outside h none = h.each Within (λ p. ap (λ c. box_permits b label p && c) (sym (twice (permits_position cube label p))) ∙ none p)
-  where
-    twice : (c : Bool) → not (not c) ≡ c
-    twice true = refl
-    twice false = refl
+open_out b cube label Outside h none = h.each Within (λ p. ap (λ c. box_permits b label p && c) (sym (not-not (permits_position cube label p))) ∙ none p)
 
 -- what is kept by the mask of a cube
 pub kept_part : (cube : MaskedLabels) (label : ℕ) (part : Part) (old new other : List Bool) → ((p : ℕ) → permits_position cube label p ≡ get_or other p false)
@@ -153,11 +143,7 @@ kept_part cube label part old new other same kept j =
 -- without a mask, no label is open
 pub not_open : (b : List (List Bool)) (cube : MaskedLabels) (label : ℕ) → ((p : ℕ) → permits_position cube label p ≡ true) → IsOpen b cube label → ⊥
 not_open b cube label all h =
-    h.each Outside (λ p. ap (λ c. box_permits b label p && not c) (all p) ∙ none (box_permits b label p))
-  where
-    none : (c : Bool) → (c && false) ≡ false
-    none true = refl
-    none false = refl
+    h.each Outside (λ p. ap (λ c. box_permits b label p && not c) (all p) ∙ and-false (box_permits b label p))
 
 -- ---- The choices of a box that a cube matches.
 
@@ -300,11 +286,6 @@ module _ (ns : List ℕ) (b : List (List Bool)) (count : ℕ) (full : IsFull ns 
 
 -- ---- Each label has some position.
 
--- a truth value with itself
-both_same : (x : Bool) → (x && x) ≡ x
-both_same true = refl
-both_same false = refl
-
 -- one label more that has a position
 pub chosen_more : (b : List (List Bool)) (k : ℕ) (mask : List Bool)
     → ((i : ℕ) → i < k → ((p : ℕ) → box_permits b i p ≡ false) → ⊥) → k < length b → mask ≡ get_or b k mask
@@ -313,7 +294,7 @@ pub chosen_more : (b : List (List Bool)) (k : ℕ) (mask : List Bool)
 chosen_more b k mask so_far within read some i low none = elim (cases_eq i k) [
   | inl same ↦
       some (λ p.
-      both_same (get_or mask p false)
+      and_self (get_or mask p false)
       ∙ ap (λ m. get_or m p false) (get_or_read b k mask within read [])
       ∙ ap (λ n. box_permits b n p) (sym same) ∙ none p)
   | inr other ↦ so_far i (omega (arith, low, other)) none
@@ -325,4 +306,4 @@ pub none_chosen : (b : List (List Bool)) (k : ℕ) (mask : List Bool) → k < le
 none_chosen b k mask within read none some =
     some k within (λ p.
     sym (ap (λ m. get_or m p false) (get_or_read b k mask within read []))
-    ∙ sym (both_same (get_or mask p false)) ∙ none p)
+    ∙ sym (and_self (get_or mask p false)) ∙ none p)

@@ -1,6 +1,7 @@
 -- A cube that is built label by label, from the rows of a list of matchers.
 use Rattle.std.proofs.Common.{◌≡◌, ℕ, zero, suc, ◌+◌, ◌<◌, Bool, true, false, not, ◌&&◌, List, [], ◌∷◌, ◌++◌, length, map, get_or, Option, Some, slice_get, All, refl, ap, sym, ◌∙◌, subst, inl, inr, arith}
 use Rattle.std.specs.List.{list_all, list_any, range_with_len, AllByRecursion}
+use Rattle.std.proofs.Math.Bool.{and_assoc}
 use Rattle.std.proofs.lemmas.Bool.{true_from_ne_false, cond_both, and_right, not-false, not-true}
 use Rattle.std.proofs.lemmas.List.{length-map, length-append, get_or_append_left, get_or-append-add}
 use Rattle.std.proofs.lemmas.List.Folds.{list_all-append, list_all-map, list_all_at}
@@ -27,7 +28,7 @@ use Rattle.am_judged_lists.proofs.ListLemmas.{each_map, each_pushed, one_fails, 
 use Rattle.am_search.proofs.Walks.{completion_whole}
 use Rattle.am_judged_lists.proofs.VerdictLemmas.{same_verdict}
 use Rattle.am_judged_lists.proofs.RowLemmas.{allow_first, allow_first_more, IsRowBelow, rows_by_labels}
-use Rattle.am_judged_lists.proofs.RowLemmas.{all_allow_joined, others_allow, grouped}
+use Rattle.am_judged_lists.proofs.RowLemmas.{all_allow_joined, others_allow}
 use Rattle.am_judged_lists.proofs.CubeLemmas.{fits, fits_at, IsProper, HaveValues, exact}
 use Rattle.am_judged_lists.proofs.JudgeLemmas.{ascend_pushed}
 
@@ -46,19 +47,14 @@ at_each test count j h all = true_from_ne_false (test j) (λ fails.
 
 -- ---- One label more.
 
-regrouped : (a x y : Bool) → (a && (x && (y && true))) ≡ ((a && x) && y)
-regrouped true true true = refl
-regrouped true true false = refl
-regrouped true false y = refl
-regrouped false x y = refl
-
 module _ (cube : MaskedLabels) (label : ℕ) (mask : List Bool) (size : ℕ) where
   may_of_pushed : (c : List ℕ) → label < length c
       → (not cube.empty && list_all (fits c) (cube.masks ++ record { label = label; mask = mask } ∷ [])) ≡ (may_at cube c && get_or mask (get_or c label 0) false)
   may_of_pushed c h =
       let m : LabelMask = record { label = label; mask = mask } in
       ap (λ b. not cube.empty && b) (list_all-append (fits c) cube.masks (m ∷ []) ∙ ap (λ b. list_all (fits c) cube.masks && (b && true)) (fits_at c m h))
-      ∙ regrouped (not cube.empty) (list_all (fits c) cube.masks) (get_or mask (get_or c label 0) false)
+      ∙ ap (λ b. not cube.empty && (list_all (fits c) cube.masks && b)) (and_true (get_or mask (get_or c label 0) false))
+      ∙ sym (and_assoc (not cube.empty) (list_all (fits c) cube.masks) (get_or mask (get_or c label 0) false))
 
   -- three cases: the mask permits all positions, none, or some
   by_mask : (P : MaskedLabels → Type 0) → (permits_all size mask ≡ true → P cube)
@@ -128,7 +124,7 @@ built_more u rows cube label mask size built at same =
           may_restricted cube label mask size c long below
           ∙ ap (λ b. may_at cube c && b) (same (get_or c label 0) below)
           ∙ ap (λ b. b && all_allow rows label (get_or c label 0)) (built.decided c whole)
-          ∙ grouped (not (list_any is_never_true rows)) (allow_first rows c label) (all_allow rows label (get_or c label 0))
+          ∙ and_assoc (not (list_any is_never_true rows)) (allow_first rows c label) (all_allow rows label (get_or c label 0))
           ∙ ap (λ b. not (list_any is_never_true rows) && b) (sym (allow_first_more rows c label));
       ascend = ascend_restricted cube label mask size built.ascend built.before;
       before = before_restricted cube label mask size built.before;

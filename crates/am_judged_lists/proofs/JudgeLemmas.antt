@@ -1,38 +1,13 @@
 -- The verdict of a cube, as the code computes it.
-use Rattle.std.proofs.Common.{◌≡◌, ℕ, zero, suc, ◌+◌, ◌<◌, ◌≤◌, min, max, Bool, true, false, not, cond, ◌&&◌, List, [], ◌∷◌, ◌++◌, length, drop, nat_lt, refl, ap, sym, ◌∙◌, inl, inr, arith}
+use Rattle.std.proofs.Common.{◌≡◌, ℕ, ◌+◌, ◌<◌, ◌≤◌, max, Bool, true, false, not, cond, ◌&&◌, List, [], ◌∷◌, ◌++◌, nat_lt, refl, ap, sym, ◌∙◌, inl, inr, arith}
 use Rattle.std.specs.List.{list_all, AllByRecursion}
 use Rattle.std.proofs.lemmas.Bool.{cases_lt, and_from, and_left, and_right, lt-ltb, le-ltb}
-use Rattle.std.proofs.lemmas.List.{drop_all}
-use Rattle.am_universe.proofs.ListLemmas.{AllByRecursion-each}
 use Rattle.am_search.specs.declared.verdict.Verdict.TheVariants.{Yes, No, Open}
 use Rattle.am_judged_lists.specs.declared.cube.LabelMask.{LabelMask}
 use Rattle.am_search.specs.Judge.{is_yes, is_no}
 use Rattle.am_judged_lists.specs.Cube.{MaskedLabels, reaches, may_at, reaches_all, verdict_at}
 use Rattle.am_judged_lists.specs.CubeView.{AscendByLabel, reach_of, IsKept}
-use Rattle.am_judged_lists.proofs.ListLemmas.{each_map, all_pass, each_pushed}
-use Rattle.am_judged_lists.proofs.CubeLemmas.{fits, fits_from}
-
--- ---- The masks are looked at up to the end of the prefix.
-
--- a mask of a label after the prefix forbids nothing
-past_fits : (prefix : List ℕ) (m : LabelMask) → length prefix ≤ m.label → fits prefix m ≡ true
-past_fits prefix m h = fits_from prefix m (λ within. absurd (omega (arith, h, within)))
-
--- if all labels are at least `k`, the label of the mask at `n` is at least `k + n`
-pub behind_fits : (prefix : List ℕ) (masks : List LabelMask) (k n : ℕ) → AscendByLabel masks → AllByRecursion (λ m. k ≤ m.label) masks → length prefix ≤ k + n
-    → list_all (fits prefix) (drop n masks) ≡ true
-behind_fits prefix [] k zero ascend from past = refl
-behind_fits prefix [] k (suc n) ascend from past = refl
-behind_fits prefix (m ∷ masks) k zero ascend from past =
-    all_pass (fits prefix) (m ∷ masks) (each_map (λ x. k ≤ x.label) (λ x. fits prefix x ≡ true) (m ∷ masks) (λ x h. past_fits prefix x (omega (arith, h, past))) from)
-behind_fits prefix (m ∷ masks) k (suc n) ascend from past =
-    behind_fits prefix masks (k + 1) n ascend.1 (each_map (λ x. m.label < x.label) (λ x. k + 1 ≤ x.label) masks (λ x h. omega (arith, h, from.0)) ascend.0) (omega (arith, past))
-
-pub from_within : (prefix : List ℕ) (masks : List LabelMask) (i n : ℕ) → AscendByLabel masks → i ≡ min (length masks) n → n ≡ length prefix → list_all (fits prefix) (drop i masks) ≡ true
-from_within prefix masks i n ascend is len = elim (cases_lt i (length masks)) [
-  | inl below ↦ behind_fits prefix masks 0 i ascend (AllByRecursion-each (λ m. 0 ≤ m.label) masks (λ m at. omega arith)) (omega (arith, is, len, below))
-  | inr past ↦ ap (list_all (fits prefix)) (drop_all i masks past)
-]
+use Rattle.am_judged_lists.proofs.ListLemmas.{each_pushed}
 
 -- ---- How far the masks reach.
 

@@ -24,11 +24,6 @@ others_allow (row ∷ rows) label j none =
     and_from (allows row label j) (all_allow rows label j)
     (ap (λ b. not b || truth_at row j) parts.0) (others_allow rows label j parts.1)
 
--- one position, narrowed by one more row: a row of the label, or a row of another label
-pub grouped : (a x y : Bool) → ((a && x) && y) ≡ (a && (x && y))
-grouped true x y = refl
-grouped false x y = refl
-
 -- ---- A choice by its labels.
 
 -- the rows allow the first positions of a choice

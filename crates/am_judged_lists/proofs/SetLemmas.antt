@@ -2,7 +2,7 @@
 use Rattle.std.proofs.Common.{◌≡◌, ◌≢◌, ℕ, ◌-◌, ◌*◌, ◌%◌, ◌^◌, ◌<◌, ◌≤◌, min, Bool, true, false, nat_eq, bit_and, bit_or, ap, sym, ◌∙◌, inl, inr, arith}
 use Rattle.std.specs.Int.{bit_at, bit_not, trailing_zeros}
 use Rattle.std.proofs.lemmas.Bool.{cases_eq, cases_lt, eqb-true}
-use Rattle.std.proofs.lemmas.Nat.Bits.{bit_at-zero, bit_at-lt, bit_at_and, bit_at_set_same, bit_at_set_other, bit_at_clear_other, bit_at_ones, ones_shl, bit_at_mask_inside, bit_at_mask_below, bit_at-trailing_zeros}
+use Rattle.std.proofs.lemmas.Nat.Bits.{bit_at-zero, bit_at-lt, bit_at_and, bit_at_set_same, bit_at_set_other, bit_at_clear_other, ones_shl, bit_at_mask_inside, bit_at_mask_below, bit_at-trailing_zeros}
 use Rattle.std.proofs.lemmas.Nat.{and_le_r}
 use mir.Syntax.{w128}
 use Rattle.am_judged_lists.specs.declared.list_set.TheConstants.{ROOM}
@@ -24,9 +24,6 @@ kept_in bits k i h e = elim (cases_eq i k) [
   | inl same ↦ ap (λ j. is_in (with_bit bits k) j) same ∙ inserted bits k h
   | inr other ↦ ap (λ b. nat_eq b 1) (bit_at_set_other w128 bits k h i other) ∙ e
 ]
-
-pub in_all : (k : ℕ) → k < ROOM → is_in (2 ^ ROOM - 1) k ≡ true
-in_all k h = ap (λ b. nat_eq b 1) (bit_at_ones ROOM k h)
 
 pub still_in : (bits k i : ℕ) → k < ROOM → i < ROOM → i ≢ k → is_in bits i ≡ true → is_in (bit_and bits (bit_not w128 (1 * 2 ^ k % 2 ^ ROOM))) i ≡ true
 still_in bits k i h within other e = ap (λ b. nat_eq b 1) (bit_at_clear_other w128 bits k h i within other) ∙ e

@@ -2,7 +2,7 @@
 use Rattle.std.proofs.Common.{◌≡◌, ◌≢◌, ◌↔◌, ℕ, Bool, true, false, not, List, [], ◌∷◌}
 use Rattle.std.proofs.Common.{cond, refl, ap, sym, ◌∙◌, inl, inr}
 use Rattle.std.specs.List.{list_all, list_any, AllByRecursion}
-use Rattle.std.proofs.lemmas.Bool.{cases_Bool, false_from_ne_true, both_ways}
+use Rattle.std.proofs.lemmas.Bool.{cases_Bool, false_from_ne_true, both_ways, not-true}
 use Rattle.am_search.specs.declared.verdict.Verdict.{Verdict}
 use Rattle.am_search.specs.declared.verdict.Verdict.TheVariants.{Yes, No, Open}
 use Rattle.am_universe.proofs.CompletionLemmas.{completions_of_whole}
@@ -50,25 +50,15 @@ no_exactly test cs c i = (
   λ none. verdict_no test cs (not_all test cs c i (AllByRecursion-at (λ d. test d ≡ false) cs c none i)) (none_passes test cs none),
 )
 
--- some pass, and some do not
-not_each_then : (test : List ℕ → Bool) (cs : List (List ℕ)) → list_all test cs ≡ false → list_any (λ c. not (test c)) cs ≡ true
-not_each_then test [] e = cc
-not_each_then test (c ∷ cs) e = elim (cases_Bool (test c)) [
-  | inl passes ↦ rw passes (not_each_then test cs (rw passes at e))
-  | inr fails ↦ rw fails refl
-]
-
-not_each_from : (test : List ℕ → Bool) (cs : List (List ℕ)) → list_any (λ c. not (test c)) cs ≡ true → list_all test cs ≡ false
-not_each_from test [] e = cc
-not_each_from test (c ∷ cs) e = elim (cases_Bool (test c)) [
-  | inl passes ↦ rw passes (not_each_from test cs (rw passes at e))
-  | inr fails ↦ rw fails refl
-]
+-- some do not pass exactly if not all do
+some_fails : (test : List ℕ → Bool) (cs : List (List ℕ)) → list_any (λ c. not (test c)) cs ≡ not (list_all test cs)
+some_fails test [] = refl
+some_fails test (c ∷ cs) = elim (cases_Bool (test c)) [ inl e ↦ rw e (some_fails test cs) | inr e ↦ rw e refl ]
 
 pub open_exactly : (test : List ℕ → Bool) (cs : List (List ℕ)) → (verdict_over test cs ≡ Open) ↔ ((list_any test cs ≡ true) × (list_any (λ c. not (test c)) cs ≡ true))
 open_exactly test cs = (
-  λ e. let both = (told Open (list_all test cs) (list_any test cs) e).2 refl in (both.1, not_each_then test cs both.0),
-  λ both. verdict_open test cs (not_each_from test cs both.1) both.0,
+  λ e. let both = (told Open (list_all test cs) (list_any test cs) e).2 refl in (both.1, some_fails test cs ∙ ap not both.0),
+  λ both. verdict_open test cs (not-true (list_all test cs) (sym (some_fails test cs) ∙ both.1)) both.0,
 )
 
 -- the verdict over one choice is `Yes` or `No`
@@ -82,6 +72,9 @@ list_says u ms c whole =
     ap (verdict_over (matches_at u ms)) (completions_of_whole (sizes u) c whole)
     ∙ verdict_over_one (matches_at u ms) c
 
-pub decided : (b : Bool) (v : Verdict) → v ≡ cond b Yes No → v ≢ Open
-decided true v e only_some = let yes : Yes ≡ Open = sym e ∙ only_some in cc
-decided false v e only_some = let no : No ≡ Open = sym e ∙ only_some in cc
+pub list_closed : (u : List Label) (ms : List Condition) (c : List ℕ) → IsWhole (sizes u) c → verdict_of_list u ms c ≢ Open
+list_closed u ms c whole e = never (matches_at u ms c) (sym (list_says u ms c whole) ∙ e)
+  where
+    never : (b : Bool) → cond b Yes No ≡ Open → ⊥
+    never true e = cc
+    never false e = cc

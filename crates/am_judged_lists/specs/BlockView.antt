@@ -1,11 +1,9 @@
 -- The sets that a block keeps of its cubes. Each set has all cubes with some feature. It does no
 -- harm if a set has more cubes, because a cube that is found is asked itself.
-use Rattle.std.specs.Prelude.{◌≡◌, ℕ, List, Bool, not, ◌&&◌, nat_lt, IsTrue}
+use Rattle.std.specs.Prelude.{◌≡◌, ℕ, List, Bool, nat_lt, IsTrue}
 use Rattle.std.specs.Prelude.{slice_get, Some}
 use Rattle.std.specs.List.{list_all}
 use Rattle.am_judged_lists.specs.declared.block.Block.{Block}
-use Rattle.am_judged_lists.specs.declared.block.Feature.{Feature}
-use Rattle.am_judged_lists.specs.declared.block.Feature.TheVariants.{Matched, Within}
 use Rattle.am_judged_lists.specs.declared.block.LabelRows.{LabelRows}
 use Rattle.am_judged_lists.specs.declared.list_set.ListSet.{ListSet}
 use Rattle.am_judged_lists.specs.Cube.{MaskedLabels, permits_position}
@@ -14,11 +12,6 @@ use Rattle.am_judged_lists.specs.ListSetView.{has}
 -- All masks of the cube are of labels below a number.
 abbrev pub is_within : MaskedLabels → ℕ → Bool
 is_within cube len = list_all (λ m. nat_lt m.label len) cube.masks
-
--- A cube has a feature.
-abbrev pub has_feature : Feature → MaskedLabels → Bool
-has_feature Matched cube = not cube.empty
-has_feature (Within len) cube = not cube.empty && is_within cube len
 
 -- The cube at the index `k` is in the row of a position, if there is such a row.
 abbrev pub IsInRow : List ListSet → ℕ → ℕ → Type 0
@@ -31,12 +24,12 @@ IsInRows k cube rows =
     (position : ℕ) → IsTrue (permits_position cube rows.label position)
     → IsInRow rows.rows.items position k
 
--- `AreWithin`: if the cube permits some choice, it is in the set of each number that is above the
--- labels of all its masks. `AreInRows`: it is in the rows of each label, as above.
+-- `AreWithin`: the cube is in the set of each number that is above the labels of all its masks.
+-- `AreInRows`: it is in the rows of each label, as above.
 abbrev pub AreWithin : ℕ → MaskedLabels → List ListSet → Type 0
 AreWithin k cube sets =
     (len : ℕ) (set : ListSet) → slice_get sets len ≡ Some set
-    → IsTrue (not cube.empty && is_within cube len) → IsTrue (has set k)
+    → IsTrue (is_within cube len) → IsTrue (has set k)
 
 abbrev pub AreInRows : ℕ → MaskedLabels → List LabelRows → Type 0
 AreInRows k cube labels =
@@ -44,6 +37,6 @@ AreInRows k cube labels =
 
 -- A cube is at the index `k` of a block.
 pub record IsAt (k : ℕ) (cube : MaskedLabels) (block : Block) : Type 0 where
-  pub matched : IsTrue (not cube.empty) → IsTrue (has block.matched k)
+  pub among : IsTrue (has block.all k)
   pub within : AreWithin k cube block.within.items
   pub rows : AreInRows k cube block.labels.items

@@ -5,8 +5,8 @@ ghost use Rattle.std.specs.Prelude.{Some, IfOk, IsTrue, false};
 ghost use Rattle.am_judged_lists.specs.ListSetView.{has};
 ghost use Rattle.am_judged_lists.specs.Certainty.{passes};
 ghost use Rattle.am_judged_lists.specs.Cube.{MaskedLabels, verdict_at, may_at};
-ghost use Rattle.am_judged_lists.specs.BlockView.{has_feature, IsAt, IsInRow, IsInRows, AreInRows};
-ghost use Rattle.am_judged_lists.specs.BlockView.{AreWithin};
+ghost use Rattle.am_judged_lists.specs.BlockView.{is_within, IsAt, IsInRow, IsInRows};
+ghost use Rattle.am_judged_lists.specs.BlockView.{AreInRows, AreWithin};
 
 use crate::certainty::Certainty;
 use crate::cube::Cube;
@@ -14,42 +14,6 @@ use crate::list_set::{ListSet, ROOM};
 use crate::mask::Mask;
 use am_universe::{Choice, Universe};
 use std::alloc::{AllocError, Global};
-
-/// A feature that a cube may have. A block keeps the set of the cubes that have it.
-#[derive(Clone, Copy)]
-enum Feature {
-    /// Some choice is permitted.
-    Matched,
-    /// Some choice is permitted, and all masks are of the first labels, as many as the number says.
-    Within(usize),
-}
-
-impl Feature {
-    /// Whether a cube has the feature.
-    fn is_of(self, cube: &Cube) -> bool
-        ensures { result ≡ has_feature self cube.now }
-    {
-        match self {
-            Feature::Matched => !cube.is_empty(),
-            Feature::Within(len) => !cube.is_empty() && cube.is_within(len),
-        }
-    }
-
-    /// The indices of the cubes that have the feature.
-    fn places(self, cubes: &[Cube]) -> ListSet
-        requires { length cubes.now ≤ ROOM }
-        ensures { (k : ℕ) (cube : MaskedLabels) → slice_get cubes.now k ≡ Some cube
-            → IsTrue (has_feature self cube) → IsTrue (has result k) }
-    {
-        let mut places = ListSet::none();
-        for k in 0..cubes.len() {
-            if self.is_of(&cubes[k]) {
-                places.insert(k);
-            }
-        }
-        places
-    }
-}
 
 /// For each position of a label, which cubes permit it.
 #[derive(Drop)]
@@ -96,8 +60,8 @@ impl LabelRows {
 /// Sets of cubes, for at most as many cubes as a set has room for.
 #[derive(Drop)]
 pub(crate) struct Block {
-    /// The cubes that permit some choice.
-    matched: ListSet,
+    /// All cubes of the block.
+    all: ListSet,
     /// Those of them whose masks are all of the first labels, by the number of these labels.
     within: Vec<ListSet>,
     /// The rows of each label for which some cube has a mask, in ascending order of the labels.
@@ -118,7 +82,7 @@ impl Block {
         let within = sets_within(alloc, universe, cubes)?;
         let labels = rows_of_labels(alloc, universe, cubes)?;
         Ok(Block {
-            matched: Feature::Matched.places(cubes),
+            all: ListSet::first(cubes.len()),
             within,
             labels,
         })
@@ -146,17 +110,17 @@ impl Block {
             → IsTrue (has result k) }
     {
         match certainty {
-            Certainty::May => self.matched,
+            Certainty::May => self.all,
             Certainty::Must => match self.within.get(len) {
                 Some(within) => *within,
-                None => self.matched,
+                None => self.all,
             },
         }
     }
 }
 
-/// For each number of first labels, the indices of the cubes that permit some choice and have masks
-/// of these labels only. Fails only if memory runs out.
+/// For each number of first labels, the indices of the cubes that have masks of these labels only.
+/// Fails only if memory runs out.
 fn sets_within(
     alloc: Global,
     universe: &Universe,
@@ -168,9 +132,24 @@ fn sets_within(
 {
     let mut sets = Vec::with_capacity(alloc, universe.len())?;
     for len in 0..universe.len() {
-        sets.push(Feature::Within(len).places(cubes))?;
+        sets.push(places_within(cubes, len))?;
     }
     Ok(sets)
+}
+
+/// The indices of the cubes whose masks are all of the first `len` labels.
+fn places_within(cubes: &[Cube], len: usize) -> ListSet
+    requires { length cubes.now ≤ ROOM }
+    ensures { (k : ℕ) (cube : MaskedLabels) → slice_get cubes.now k ≡ Some cube
+        → IsTrue (is_within cube len) → IsTrue (has result k) }
+{
+    let mut places = ListSet::none();
+    for k in 0..cubes.len() {
+        if cubes[k].is_within(len) {
+            places.insert(k);
+        }
+    }
+    places
 }
 
 /// The rows of each label for which some cube has a mask. Fails only if memory runs out.
@@ -196,9 +175,10 @@ fn rows_of_labels(
 fn rows_of_all(alloc: Global, size: usize) -> Result<Vec<ListSet>, AllocError>
     ensures { IfOk result (λ rows. (position k : ℕ) → k < ROOM → IsInRow rows.items position k) }
 {
+    let all = ListSet::first(ROOM);
     let mut rows = Vec::with_capacity(alloc, size)?;
     for _ in 0..size {
-        rows.push(ListSet::all())?;
+        rows.push(all)?;
     }
     Ok(rows)
 }

@@ -273,9 +273,7 @@ impl Cube {
         if self.empty {
             return false;
         }
-        // The mask at `i` is of the label `i` or of a later one.
-        let within = self.masks.len().min(prefix.len());
-        for i in (0..within).rev() {
+        for i in (0..self.masks.len()).rev() {
             if !self.masks[i].fits(prefix) {
                 return false;
             }

@@ -12,6 +12,7 @@ ghost use Rattle.am_judged_lists.specs.Verdicts.{matches_at, verdict_of_list};
 
 /// The verdict of a list at a prefix is `Yes` exactly if the label set of each completion matches
 /// the list.
+#[tactic(auto, using(crate::proofs::VerdictLemmas::yes_exactly))]
 pub fn yes_is_all()
     ensures exactly { (u : List Label) (ms : List Condition) (prefix : List ℕ)
         → (verdict_of_list u ms prefix ≡ Yes)
@@ -33,6 +34,7 @@ pub fn no_is_none()
 
 /// The verdict of a list at a prefix is `Open` exactly if the label sets of some completions match
 /// the list and those of others do not.
+#[tactic(auto, using(crate::proofs::VerdictLemmas::open_exactly))]
 pub fn open_is_some()
     ensures exactly { (u : List Label) (ms : List Condition) (prefix : List ℕ)
         → (verdict_of_list u ms prefix ≡ Open)
@@ -44,6 +46,7 @@ pub fn open_is_some()
 /// otherwise `No`.
 ///
 /// So it is never `Open`.
+#[tactic(auto, using(crate::proofs::VerdictLemmas::list_says, crate::proofs::VerdictLemmas::list_closed))]
 pub fn a_whole_choice_is_never_open()
     ensures decided { (u : List Label) (ms : List Condition) (c : List ℕ) → IsWhole (sizes u) c
         → verdict_of_list u ms c ≡ (if all_hold (label_set_of u c) ms then Yes else No) }

@@ -20,12 +20,16 @@ impl ListSet {
         ListSet { bits: 0 }
     }
 
-    /// The set of all lists for which there is room.
-    #[tactic(auto, using(crate::proofs::SetLemmas::in_all))]
-    pub(crate) fn all() -> ListSet
-        ensures all { (k : ℕ) → k < ROOM → IsTrue (has result k) }
+    /// The set of the first lists, as many as `len` says.
+    pub(crate) fn first(len: usize) -> ListSet
+        requires { len ≤ ROOM }
+        ensures first { (k : ℕ) → k < len → IsTrue (has result k) }
     {
-        ListSet { bits: u128::MAX }
+        let mut set = ListSet::none();
+        for k in 0..len {
+            set.insert(k);
+        }
+        set
     }
 
     /// Adds the list at an index.

@@ -1,7 +1,7 @@
 ghost use Rattle.std.specs.Prelude.{◌≡◌, ℕ, ◌*◌, ◌/◌, ◌%◌, ◌<◌, ◌≤◌, ◌++◌, ◌&&◌, ◌||◌, ◌==◌};
 ghost use Rattle.std.specs.Prelude.{false, not, length, slice_index_or, nat_lt, Some};
 ghost use Rattle.std.specs.Prelude.{IfOk, IfSome, IsTrue, All};
-ghost use Rattle.am_judged_lists.specs.Rows.{allows, all_allow};
+ghost use Rattle.am_judged_lists.specs.Rows.{all_allow};
 ghost use Rattle.am_judged_lists.specs.CubeView.{permits_none, permits_all};
 ghost use Rattle.am_judged_lists.specs.MaskView.{is_set};
 ghost use Rattle.am_judged_lists.specs.Boxes.{is_in_part};
@@ -71,8 +71,9 @@ impl Mask {
             → slice_index_or mask j false ≡ all_allow (rows.now ++ more.now) label j) }
     {
         let mut mask = Mask::full(alloc, size)?;
-        mask.narrow_by_rows(rows, label, size);
-        mask.narrow_by_rows(more, label, size);
+        for j in 0..size {
+            mask.keep_if(j, all_allow(rows, label, j) && all_allow(more, label, j));
+        }
         Ok(mask)
     }
 
@@ -87,31 +88,6 @@ impl Mask {
         };
         mask.keep_bits(size / WORD, (1u64 << (size % WORD)) - 1);
         Ok(mask)
-    }
-
-    /// Takes out the positions of a label of this size at which some row of that label is false.
-    fn narrow_by_rows(&mut self, rows: &[Row], label: usize, size: usize)
-        requires rows { All (λ row. row.label ≡ Some label → length row.truths ≡ size) rows.now }
-        ensures permitted { (j : ℕ) → j < size → slice_index_or self.new j false
-            ≡ (slice_index_or self.old j false && all_allow rows.now label j) }
-    {
-        for row in rows {
-            self.narrow(row, label, size);
-        }
-    }
-
-    /// Takes out the positions of a label of this size at which a row is false. A row of another
-    /// label has no effect.
-    fn narrow(&mut self, row: &Row, label: usize, size: usize)
-        requires row { row.now.label ≡ Some label → length row.now.truths ≡ size }
-        ensures permitted { (j : ℕ) → j < size → slice_index_or self.new j false
-            ≡ (slice_index_or self.old j false && allows row.now label j) }
-    {
-        if row.label() == Some(label) {
-            for j in 0..size {
-                self.keep_if(j, row.holds(j));
-            }
-        }
     }
 
     /// Takes out a position, unless it is to be kept.
@@ -250,4 +226,17 @@ fn word_of_one(position: usize, i: usize) -> u64
     } else {
         0
     }
+}
+
+/// Whether each row of a label, among some rows, is true at a position of the label.
+fn all_allow(rows: &[Row], label: usize, position: usize) -> bool
+    requires { All (λ row. row.label ≡ Some label → position < length row.truths) rows.now }
+    ensures { result ≡ all_allow rows.now label position }
+{
+    for row in rows {
+        if row.label() == Some(label) && !row.holds(position) {
+            return false;
+        }
+    }
+    true
 }

@@ -1,11 +1,11 @@
 use Rattle.std.proofs.Common.{◌≡◌, ℕ, ◌<◌, slice_get, Some, IsTrue}
 use Rattle.am_judged_lists.specs.ListSetView.{has}
 use Rattle.am_judged_lists.specs.Cube.{MaskedLabels}
-use Rattle.am_judged_lists.specs.BlockView.{has_feature}
-use Rattle.am_judged_lists.proofs.block.Feature.places.Given as goal
+use Rattle.am_judged_lists.specs.BlockView.{is_within}
+use Rattle.am_judged_lists.proofs.block.places_within.Given as goal
 
--- the cubes so far that have the feature are in the set
+-- the cubes so far that have only masks of the first labels are in the set
 abbrev pub invariant-loop-k : goal.invariant-loop-k
 invariant-loop-k l =
     (i : ℕ) (cube : MaskedLabels) → i < l.k → slice_get l.cubes i ≡ Some cube
-    → IsTrue (has_feature l.self cube) → IsTrue (has l.places i)
+    → IsTrue (is_within cube l.len) → IsTrue (has l.places i)
