@@ -1,10 +1,11 @@
 -- Parts, and their joined bytes.
-use Rattle.std.proofs.Common.{◌≡◌, ℕ, ◌<◌, ◌^◌, ◌/◌, zero, suc, List, [], ◌∷◌, ◌++◌, length, take, drop, get_or, Option, Some, None, refl, sym, ap, ap₂, ◌∙◌, arith}
+use Rattle.std.proofs.Common.{◌≡◌, ℕ, ◌<◌, ◌^◌, ◌/◌, zero, suc, List, [], ◌∷◌, ◌++◌, length, take, drop, get_or, All, Option, Some, None, inl, inr, refl, sym, ap, ap₂, ◌∙◌, arith}
 use Rattle.std.specs.Prelude.{slice_index}
-use Rattle.std.specs.List.{AllByRecursion}
 use Rattle.std.specs.Int.{w32, w64, byte_at, bytes_high_first, to_be_bytes, from_be_bytes}
 use Rattle.std.proofs.Math.Nat.{mod-lt}
-use Rattle.std.proofs.lemmas.List.{append_cancel_left}
+use Rattle.std.proofs.lemmas.Bool.{cases_lt}
+use Rattle.std.proofs.lemmas.List.{append_cancel_left, get_or_past}
+use Rattle.std.proofs.lemmas.List.Elements.{All-nil, All-cons, All-append, All-take}
 use Rattle.std.proofs.Math.Seq.{take-append_seam}
 use Rattle.std.proofs.lemmas.Nat.{from_be_bytes-to_be_bytes_8}
 use Rattle.sha2.specs.Sha256.{sha256, digest_bytes, final_hash, initial_hash_256}
@@ -41,43 +42,34 @@ one_list (Some a ∷ xs) (Some b ∷ ys) h k e =
 
 -- ---- Bytes.
 
+abbrev AreBytes : List ℕ → Type 0
+AreBytes = All (λ b. b < 256)
+
 byte_below : (k n : ℕ) → byte_at k n < 256
 byte_below zero n = mod-lt n (omega arith)
 byte_below (suc k) n = mod-lt (n / 256 ^ suc k) (omega arith)
 
-high_bytes : (k n : ℕ) → AllByRecursion (λ b. b < 256) (bytes_high_first k n)
-high_bytes zero n = tt
-high_bytes (suc k) n = (byte_below k n, high_bytes k n)
+high_bytes : (k n : ℕ) → AreBytes (bytes_high_first k n)
+high_bytes zero n = All-nil (λ b. b < 256)
+high_bytes (suc k) n =
+    All-cons (λ b. b < 256) (byte_at k n) (bytes_high_first k n) (byte_below k n) (high_bytes k n)
 
-joined_bytes : (xs ys : List ℕ) → AllByRecursion (λ b. b < 256) xs
-    → AllByRecursion (λ b. b < 256) ys → AllByRecursion (λ b. b < 256) (xs ++ ys)
-joined_bytes [] ys h k = k
-joined_bytes (x ∷ xs) ys h k = (h.0, joined_bytes xs ys h.1 k)
-
-front_bytes : (n : ℕ) (xs : List ℕ) → AllByRecursion (λ b. b < 256) xs
-    → AllByRecursion (λ b. b < 256) (take n xs)
-front_bytes zero xs h = tt
-front_bytes (suc n) [] h = tt
-front_bytes (suc n) (x ∷ xs) h = (h.0, front_bytes n xs h.1)
-
-word_bytes : (h : List ℕ) (n : ℕ) → AllByRecursion (λ b. b < 256) (digest_bytes h n)
+word_bytes : (h : List ℕ) (n : ℕ) → AreBytes (digest_bytes h n)
 unfolding digest_bytes
-word_bytes h zero = tt
+word_bytes h zero = All-nil (λ b. b < 256)
 word_bytes h (suc n) =
-    joined_bytes (digest_bytes h n) (to_be_bytes w32 (slice_index h n)) (word_bytes h n)
+    All-append (λ b. b < 256) (digest_bytes h n) (to_be_bytes w32 (slice_index h n)) (word_bytes h n)
     (high_bytes 4 (slice_index h n))
 
-digest_is_bytes : (message : List ℕ) → AllByRecursion (λ b. b < 256) (sha256 message)
+digest_is_bytes : (message : List ℕ) → AreBytes (sha256 message)
 unfolding sha256
 digest_is_bytes message = word_bytes (final_hash initial_hash_256 message) 8
 
-byte_in : (xs : List ℕ) → AllByRecursion (λ b. b < 256) xs → (i : ℕ) → slice_index xs i < 256
-byte_in [] h i = omega arith
-byte_in (x ∷ xs) h zero = h.0
-byte_in (x ∷ xs) h (suc i) = byte_in xs h.1 i
-
 pub fingerprint_bytes : (parts : List (Option (List ℕ))) (i : ℕ)
     → slice_index (fingerprint_of parts) i < 256
-fingerprint_bytes parts =
-    byte_in (fingerprint_of parts)
-    (front_bytes 16 (sha256 (joined_parts parts)) (digest_is_bytes (joined_parts parts)))
+fingerprint_bytes parts i = elim (cases_lt i (length (fingerprint_of parts))) [
+  | inl low ↦
+      All-take (λ b. b < 256) 16 (sha256 (joined_parts parts)) (digest_is_bytes (joined_parts parts))
+      i 0 low
+  | inr past ↦ omega (arith, get_or_past (fingerprint_of parts) i 0 past)
+]

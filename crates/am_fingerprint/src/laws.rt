@@ -14,6 +14,7 @@ pub fn fingerprints_have_a_length()
 {}
 
 /// Different parts have different joined bytes.
+#[tactic(auto, using(crate::proofs::PartLemmas::one_list))]
 pub fn one_list_of_parts_has_these_bytes()
     ensures same_parts { (first second : List (Option (List ℕ))) → AreParts first → AreParts second
         → joined_parts first ≡ joined_parts second → first ≡ second }
