@@ -23,7 +23,7 @@ use Rattle.am_questions.specs.AskedStart.{AsksStart, StartRefusedFor}
 use Rattle.am_questions.specs.QuestionStages.{QuestionStageRefusedFor, TokenRefusedFor}
 use Rattle.am_questions.specs.QuestionStages.{question_stage, token_stage}
 use Rattle.am_questions.specs.Inputs.{Inputs, inputs_fingerprint, AcceptsInputs, ask_stages}
-use Rattle.am_questions.proofs.HasFingerprint.{has_fingerprint}
+use Rattle.am_questions.proofs.OneInputs.{has_fingerprint}
 use Rattle.am_questions.proofs.QuestionRefusals.{question_accepted}
 
 question_stage_accepted : (inputs : Inputs) (s : Space) (w : World) (q : Question)

@@ -3,11 +3,9 @@ pub mod LexemeTexts
 pub mod Boundaries
 pub mod Fronts
 pub mod PartLemmas
-pub mod RouteNames
 pub mod TreeSeen
 pub mod OneMeaning
 pub mod OneInputs
 pub mod QuestionRefusals
-pub mod HasFingerprint
 pub mod AcceptedAsk
 pub mod PartsInOrder

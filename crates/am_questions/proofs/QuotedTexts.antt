@@ -70,65 +70,54 @@ run_is_read [] ys h = run_of_none (read_quoted ys)
 run_is_read (x ∷ xs) ys h =
     grind (arith, common_steps, and_parts, plain_step, run_is_read xs ys)
 
--- the loop, once it has read the run
-after_run : (text value rest : List ℕ) (n : ℕ) → n ≡ prefix_len is_plain rest
-    → read_quoted text ≡ begun_with_run value (read_quoted rest)
-    → read_quoted text ≡ begun_with_run (value ++ take n rest) (read_quoted (drop n rest))
-after_run text value rest n e read =
-    let whole = run_is_read (take n rest) (drop n rest) (rw e (all_of_prefix is_plain rest)) in
-    let whole' = rw take-append-drop at whole in
-    read ∙ ap (begun_with_run value) whole'
-    ∙ run_of_two value (take n rest) (read_quoted (drop n rest))
-
-pub quote_closes : (text value rest : List ℕ) (n : ℕ) → n ≡ prefix_len is_plain rest
-    → n < length rest → get_or rest n 0 ≡ 34
-    → read_quoted text ≡ begun_with_run value (read_quoted rest)
-    → read_quoted text ≡ Some (value ++ take n rest, drop (n + 1) rest)
-quote_closes text value rest n e l at read =
-    let here : drop n rest ≡ 34 ∷ drop (n + 1) rest = rw (add-one, drop-cons rest n 0, at) refl in
-    after_run text value rest n e read
-    ∙ rw (here, quote_step (drop (n + 1) rest)) (rw append-nil refl)
-
 two_of : (rest : List ℕ) (n : ℕ) → n + 1 < length rest → get_or rest n 0 ≡ 92
     → drop n rest ≡ 92 ∷ get_or rest (n + 1) 0 ∷ drop (n + 2) rest
 two_of rest n l at = grind (arith, common_steps, drop-cons)
-
-pub escape_goes_on : (text value rest : List ℕ) (n : ℕ) → n ≡ prefix_len is_plain rest
-    → n + 1 < length rest → get_or rest n 0 ≡ 92
-    → has_escape (get_or rest (n + 1) 0) ≡ true
-    → read_quoted text ≡ begun_with_run value (read_quoted rest)
-    → read_quoted text
-    ≡ begun_with_run ((value ++ take n rest) ++ byte_of_escape (get_or rest (n + 1) 0) ∷ [])
-    (read_quoted (drop (n + 2) rest))
-escape_goes_on text value rest n e l at known read =
-    after_run text value rest n e read
-    ∙ rw (two_of rest n l at, escape_step (get_or rest (n + 1) 0) (drop (n + 2) rest) known)
-    (run_and_byte (value ++ take n rest) (byte_of_escape (get_or rest (n + 1) 0))
-    (read_quoted (drop (n + 2) rest)))
-
-pub no_escape_here : (text value rest : List ℕ) (n : ℕ) → n ≡ prefix_len is_plain rest
-    → n + 1 < length rest → get_or rest n 0 ≡ 92
-    → has_escape (get_or rest (n + 1) 0) ≡ false
-    → read_quoted text ≡ begun_with_run value (read_quoted rest) → read_quoted text ≡ None
-no_escape_here text value rest n e l at unknown read =
-    after_run text value rest n e read
-    ∙ rw (two_of rest n l at, no_escape (get_or rest (n + 1) 0) (drop (n + 2) rest) unknown)
-    refl
 
 last_backslash : (rest : List ℕ) (n : ℕ) → n < length rest → length rest ≤ n + 1
     → get_or rest n 0 ≡ 92 → drop n rest ≡ 92 ∷ []
 last_backslash rest n l m at = grind (arith, common_steps, drop-cons, drop_all)
 
-pub quote_is_missing : (text value rest : List ℕ) (n : ℕ) → n ≡ prefix_len is_plain rest
-    → (n < length rest → (get_or rest n 0 ≢ 34) × (get_or rest n 0 ≡ 92 → length rest ≤ n + 1))
-    → read_quoted text ≡ begun_with_run value (read_quoted rest) → read_quoted text ≡ None
-quote_is_missing text value rest n e other read = elim (cases_lt n (length rest)) [
-  | inl l ↦
-      let stops : is_plain (get_or rest n 0) ≡ false =
-      rw e (prefix_len_stops is_plain rest 0 (rw (← e) l)) in
-      let not_quote = (other l).0 in
-      let at : get_or rest n 0 ≡ 92 = grind (arith, nat_tests) in
-      after_run text value rest n e read
-      ∙ rw (last_backslash rest n l ((other l).1 at) at, read_backslash) refl
-  | inr l ↦ after_run text value rest n e read ∙ rw (drop_all n rest l, read_empty) refl
-]
+-- in the loop: what was read stands for `value`, and `n` bytes of the rest for themselves
+module _ (text value rest : List ℕ) (n : ℕ) (e : n ≡ prefix_len is_plain rest)
+    (read : read_quoted text ≡ begun_with_run value (read_quoted rest)) where
+  after_run : read_quoted text ≡ begun_with_run (value ++ take n rest) (read_quoted (drop n rest))
+  after_run =
+      let whole = run_is_read (take n rest) (drop n rest) (rw e (all_of_prefix is_plain rest)) in
+      let whole' = rw take-append-drop at whole in
+      read ∙ ap (begun_with_run value) whole'
+      ∙ run_of_two value (take n rest) (read_quoted (drop n rest))
+
+  pub quote_closes : n < length rest → get_or rest n 0 ≡ 34
+      → read_quoted text ≡ Some (value ++ take n rest, drop (n + 1) rest)
+  quote_closes l at =
+      let here : drop n rest ≡ 34 ∷ drop (n + 1) rest =
+      rw (add-one, drop-cons rest n 0, at) refl in
+      after_run ∙ rw (here, quote_step (drop (n + 1) rest)) (rw append-nil refl)
+
+  pub escape_goes_on : n + 1 < length rest → get_or rest n 0 ≡ 92
+      → has_escape (get_or rest (n + 1) 0) ≡ true → read_quoted text
+      ≡ begun_with_run ((value ++ take n rest) ++ byte_of_escape (get_or rest (n + 1) 0) ∷ [])
+      (read_quoted (drop (n + 2) rest))
+  escape_goes_on l at known =
+      let d = get_or rest (n + 1) 0 in
+      after_run ∙ rw (two_of rest n l at, escape_step d (drop (n + 2) rest) known)
+      (run_and_byte (value ++ take n rest) (byte_of_escape d) (read_quoted (drop (n + 2) rest)))
+
+  pub no_escape_here : n + 1 < length rest → get_or rest n 0 ≡ 92
+      → has_escape (get_or rest (n + 1) 0) ≡ false → read_quoted text ≡ None
+  no_escape_here l at unknown =
+      after_run
+      ∙ rw (two_of rest n l at, no_escape (get_or rest (n + 1) 0) (drop (n + 2) rest) unknown) refl
+
+  pub quote_is_missing : (n < length rest → (get_or rest n 0 ≢ 34)
+      × (get_or rest n 0 ≡ 92 → length rest ≤ n + 1)) → read_quoted text ≡ None
+  quote_is_missing other = elim (cases_lt n (length rest)) [
+    | inl l ↦
+        let stops : is_plain (get_or rest n 0) ≡ false =
+        rw e (prefix_len_stops is_plain rest 0 (rw (← e) l)) in
+        let not_quote = (other l).0 in
+        let at : get_or rest n 0 ≡ 92 = grind (arith, nat_tests) in
+        after_run ∙ rw (last_backslash rest n l ((other l).1 at) at, read_backslash) refl
+    | inr l ↦ after_run ∙ rw (drop_all n rest l, read_empty) refl
+  ]

@@ -10,7 +10,7 @@ use Rattle.am_files.specs.Files.{config_of}
 use Rattle.am_questions.specs.Inputs.{Inputs, inputs_of, inputs_fingerprint, ask_stages}
 use Rattle.am_files.specs.AcceptedWorld.{world_stages}
 use Rattle.am_files.proofs.FirstFaults.{first_of_more, first_behind_world, handed_on}
-use Rattle.am_questions.proofs.HasFingerprint.{asked_is_start}
+use Rattle.am_questions.proofs.OneInputs.{asked_is_start}
 use Rattle.am_questions.proofs.PartLemmas.{parts_unwritten}
 use Rattle.am_questions.proofs.inputs.read_inputs.Goals as goal
 

@@ -33,8 +33,7 @@ returns-in_err-escape_of-in-92-clause-refused c =
     rw (p.1, p.2)
     (λ other. (
       refused.0,
-      no_escape_here c.args.text.now (string_bytes c.loop-value.value) rest n
-          is inside at unknown c.loop-value.invariant.1,
+      no_escape_here _ _ rest n is c.loop-value.invariant.1 inside at unknown,
     ))
 
 pub range_from-requires : goal.range_from-requires
@@ -53,8 +52,8 @@ returns-in_default-clause-refused c = λ _.
     let no_more : n < length rest → get_or rest n 0 ≡ 92 → length rest ≤ n + 1 =
     λ inside e. grind (arith, common_steps) in (
       refl,
-      quote_is_missing c.args.text.now (string_bytes c.loop-value.value) rest n is
-          (λ inside. (no_quote inside, no_more inside)) c.loop-value.invariant.1,
+      quote_is_missing _ _ rest n is c.loop-value.invariant.1
+          (λ inside. (no_quote inside, no_more inside)),
     )
 
 pub range_from-rest-requires : goal.range_from-rest-requires
@@ -73,8 +72,7 @@ loop-value-preserved c =
     let gives : c.in_ok-escape_of-in-92.field-0 ≡ byte_of_escape d =
     grind (arith, common_steps, read.1) in
     let goes_on =
-    escape_goes_on c.args.text.now (string_bytes c.loop-value.value) rest n is inside at known
-    c.loop-value.invariant.1 in
+    escape_goes_on _ _ rest n is c.loop-value.invariant.1 inside at known in
     let run : string_bytes c.push_str.new.self ≡ string_bytes c.loop-value.value ++ take n rest =
     grind (arith, common_steps) in
     let one = encode_ascii (byte_of_escape d) (escape_ascii d known) in
