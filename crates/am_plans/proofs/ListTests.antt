@@ -1,21 +1,11 @@
--- Tests of two values and of lists.
+-- Tests of lists.
 use Rattle.std.proofs.Common.{◌≡◌, ℕ, ◌+◌, Bool, true, false, ◌&&◌, ◌||◌, List, [], ◌∷◌, Some}
 use Rattle.std.proofs.Common.{take, inl, inr, refl, sym, ap, ◌∙◌}
 use Rattle.std.specs.Prelude.{slice_get}
 use Rattle.std.specs.List.{list_any, filter}
 use Rattle.std.proofs.lemmas.Bool.{cases_Bool}
-use Rattle.std.proofs.lemmas.List.Folds.{list_any-append}
-use Rattle.am_judged_lists.proofs.RowLemmas.{one_more}
-use Rattle.am_first_sets.proofs.CubeEnds.{or_false}
-
--- ---- Ands and ors of two values.
-
-pub or_turned : (a b : Bool) → (a || b) ≡ (b || a)
-or_turned true true = refl
-or_turned false true = refl
-or_turned a b = refl
-
--- ---- Tests over lists.
+use Rattle.std.proofs.lemmas.List.Folds.{list_any_more}
+use Rattle.std.proofs.lemmas.Option.{slice_get_within, get_or_from_slice_get}
 
 -- some kept member passes exactly if some member is to be kept and passes
 pub any_kept : {X : Type 0} (test keep : X → Bool) (xs : List X)
@@ -39,6 +29,6 @@ pub any_more : {X : Type 0} (test : X → Bool) (xs : List X) (i : ℕ) (x : X) 
     → slice_get xs i ≡ Some x → so_far ≡ list_any test (take i xs) → now ≡ (so_far || test x)
     → now ≡ list_any test (take (i + 1) xs)
 any_more test xs i x so_far now here e f =
-    f ∙ ap (λ b. b || test x) e ∙ ap (λ b. list_any test (take i xs) || b) (sym (or_false (test x)))
-    ∙ sym (ap (list_any test) (one_more xs i x here)
-    ∙ list_any-append test (take i xs) (x ∷ []))
+    f ∙ ap (λ b. b || test x) e
+    ∙ sym (list_any_more test xs i x (slice_get_within xs i x here)
+    ∙ ap (λ y. list_any test (take i xs) || test y) (get_or_from_slice_get xs i x x here))

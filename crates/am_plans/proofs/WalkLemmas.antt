@@ -4,6 +4,7 @@ use Rattle.std.proofs.Common.{List, [], ◌∷◌, ◌++◌, map, take, length, 
 use Rattle.std.proofs.Common.{inl, inr, refl, ap, sym, ◌∙◌, arith, append_assoc}
 use Rattle.std.specs.Prelude.{slice_get, ◌==◌}
 use Rattle.std.specs.List.{list_all, list_any}
+use Rattle.std.proofs.Math.Bool.{or_comm}
 use Rattle.std.proofs.lemmas.Bool.{cases_Bool, and_right, or_right}
 use Rattle.std.proofs.lemmas.List.{length-append}
 use Rattle.std.proofs.lemmas.List.Folds.{list_all-append, list_any-append, list_all-map}
@@ -26,7 +27,7 @@ use Rattle.am_judged_lists.specs.Certainty.{passes}
 use Rattle.am_plans.specs.Verdicts.{verdict_of_literal}
 use Rattle.am_plans.specs.RouteSeen.{route_seen, ways_to, goes_by}
 use Rattle.am_first_sets.proofs.CubeEnds.{or_false}
-use Rattle.am_plans.proofs.ListTests.{or_turned, any_kept, any_and}
+use Rattle.am_plans.proofs.ListTests.{any_kept, any_and}
 use Rattle.am_eval.proofs.SomeWay.{some_way-literal, some_way-front, some_way-joined}
 
 -- ---- The parts of a walk over siblings, for any truth of literals.
@@ -202,7 +203,7 @@ walked u prefix m receiver settings children =
     let reached = some_goes holds receiver ts in
     let itself = (settings.receiver == receiver) && list_all (is_passed_by holds) ts in
     walk_parts u prefix m receiver settings.receiver true ts
-    ∙ or_turned reached itself
+    ∙ or_comm reached itself
     ∙ ap (λ b. itself || b)
     (sym (by_children holds receiver settings children [] 0 children refl refl))
     ∙ ap (λ b. ((settings.receiver == receiver) && b)
