@@ -1,11 +1,11 @@
 -- The first item that passes one of several tests is the earliest of the first items that pass each
 -- of them.
-use Rattle.std.proofs.Common.{◌≡◌, ℕ, List, [], ◌∷◌, ◌++◌, map, Bool, false, Option, Some, None}
+use Rattle.std.proofs.Common.{◌≡◌, ℕ, List, [], ◌∷◌, map, Bool, true, false, Option, Some, None, arith}
 use Rattle.std.proofs.Common.{refl, sym, ap, ◌∙◌, inl, inr}
 use Rattle.std.specs.Prelude.{◌||◌}
-use Rattle.std.specs.List.{find, list_any}
+use Rattle.std.specs.List.{find, list_any, fold}
 use Rattle.std.proofs.lemmas.Bool.{cases_Bool}
-use Rattle.std.proofs.lemmas.List.Folds.{list_any-append}
+use Rattle.std.proofs.lemmas.Grind.{common_steps}
 use Rattle.am_universe.proofs.ListLemmas.{IsIn}
 use Rattle.am_search.specs.Start.{comes_before}
 use Rattle.am_search.proofs.ChoiceOrder.{Ascends, above_first, ascends_rest, not_itself, not_back}
@@ -46,30 +46,24 @@ find_either f g (x ∷ xs) s = elim (cases_Bool (f x)) [
 
 -- ---- Of many.
 
+pub or_nothing : (b : Bool) → (b || false) ≡ b
+or_nothing true = refl
+or_nothing false = refl
+
+find_more : {X : Type 0} (test : X → List ℕ → Bool) (f : List ℕ → Bool) (ts : List X)
+    (xs : List (List ℕ)) → Ascends xs
+    → fold earlier (find f xs) (map (λ t. find (test t) xs) ts)
+    ≡ find (λ x. f x || list_any (λ t. test t x) ts) xs
+find_more test f [] xs s = λ i. find (λ x. sym (or_nothing (f x)) i) xs
+find_more test f (t ∷ ts) xs s =
+    let same : (x : List ℕ) → ((f x || test t x) || list_any (λ u. test u x) ts)
+    ≡ (f x || (test t x || list_any (λ u. test u x) ts)) = λ x. grind (arith, common_steps) in
+    ap (λ o. fold earlier o (map (λ u. find (test u) xs) ts)) (sym (find_either f (test t) xs s))
+    ∙ find_more test (λ x. f x || test t x) ts xs s ∙ (λ i. find (λ x. same x i) xs)
+
 pub find_any : {X : Type 0} (test : X → List ℕ → Bool) (ts : List X) (xs : List (List ℕ))
     → Ascends xs
     → find (λ x. list_any (λ t. test t x) ts) xs ≡ earliest (map (λ t. find (test t) xs) ts)
-find_any test [] xs s = sym (find_none xs)
-find_any test (t ∷ ts) xs s =
-    find_either (test t) (λ x. list_any (λ t. test t x) ts) xs s
-    ∙ ap (earlier (find (test t) xs)) (find_any test ts xs s)
-
-earlier_alone : (o : Option (List ℕ)) → earlier o None ≡ o
-earlier_alone None = refl
-earlier_alone (Some x) = refl
-
--- one more test
-pub find_more : {X : Type 0} (test : X → List ℕ → Bool) (ts : List X) (t : X)
-    (xs : List (List ℕ)) → Ascends xs
-    → earliest (map (λ u. find (test u) xs) (ts ++ t ∷ []))
-    ≡ earlier (earliest (map (λ u. find (test u) xs) ts)) (find (test t) xs)
-find_more {X = X} test ts t xs s =
-    let some = λ (us : List X) (x : List ℕ). list_any (λ u. test u x) us in
-    let first : earliest (map (λ u. find (test u) xs) (t ∷ [])) ≡ find (test t) xs =
-    earlier_alone (find (test t) xs) in
-    sym (find_any test (ts ++ t ∷ []) xs s)
-    ∙ (λ i. find (λ x. list_any-append (λ u. test u x) ts (t ∷ []) i) xs)
-    ∙ find_either (some ts) (some (t ∷ [])) xs s
-    ∙ ap (λ o. earlier o (find (some (t ∷ [])) xs)) (find_any test ts xs s)
-    ∙ ap (earlier (earliest (map (λ u. find (test u) xs) ts)))
-    (find_any test (t ∷ []) xs s ∙ first)
+find_any test ts xs s =
+    sym (ap (λ o. fold earlier o (map (λ t. find (test t) xs) ts)) (find_none xs)
+    ∙ find_more test (λ x. false) ts xs s)

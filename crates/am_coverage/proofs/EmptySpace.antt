@@ -1,14 +1,13 @@
 -- In a space without label sets nothing is found.
-use Rattle.std.proofs.Common.{◌≡◌, ℕ, List, [], Contains, subst}
+use Rattle.std.proofs.Common.{◌≡◌, ℕ, List, [], None, Contains, subst}
 use Rattle.am_universe.proofs.ListLemmas.{IsIn-from_Contains}
 use Rattle.am_labels.specs.Space.{Space, IsChoiceOf}
 use Rattle.am_labels.proofs.SpaceLaws.{none_of_empty_list, space_choices}
 use Rattle.am_config.specs.ConfigFile.{Configuration}
 use Rattle.am_coverage.specs.declared.coverage.RouteCoverage.TheVariants as route_is
-use Rattle.am_coverage.specs.declared.coverage.ReceiverCoverage.TheVariants as receiver_is
-use Rattle.am_coverage.specs.Coverage.{route_coverage, receiver_coverage}
+use Rattle.am_coverage.specs.Coverage.{route_coverage, first_receipt}
 use Rattle.am_coverage.proofs.RouteLaws.{never_exactly}
-use Rattle.am_coverage.proofs.ReceiverLaws.{unmatched_exactly}
+use Rattle.am_coverage.proofs.ReceiverLaws.{unmatched_by_receipt}
 
 no_choice : (s : Space) (choice : List ℕ) → Contains s.impossible [] → IsChoiceOf s choice → ⊥
 no_choice s choice empty possible =
@@ -22,6 +21,6 @@ enters_nothing s c path empty =
     (never_exactly s c path).0 (λ choice end possible h through. no_choice s choice empty possible)
 
 pub matches_nothing : (s : Space) (c : Configuration) (receiver : ℕ) → Contains s.impossible []
-    → receiver_coverage s c receiver ≡ receiver_is.Unmatched
+    → first_receipt s c receiver ≡ None
 matches_nothing s c receiver empty =
-    (unmatched_exactly s c receiver).0 (λ choice possible h. no_choice s choice empty possible)
+    (unmatched_by_receipt s c receiver).0 (λ choice possible h. no_choice s choice empty possible)

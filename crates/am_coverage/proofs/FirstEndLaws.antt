@@ -1,6 +1,6 @@
 -- The first choice that enters a route, or goes to a receiver, is the earliest of the first choices
 -- that end at each of some routes.
-use Rattle.std.proofs.Common.{◌≡◌, ℕ, List, [], ◌∷◌, ◌++◌, map, Bool, ◌∙◌}
+use Rattle.std.proofs.Common.{◌≡◌, ℕ, List, map, Bool, ◌∙◌}
 use Rattle.std.specs.List.{list_any, filter, find}
 use Rattle.am_universe.specs.LabelSet.{LabelMap, label_set_of}
 use Rattle.am_universe.specs.Text.{same_text}
@@ -19,8 +19,8 @@ use Rattle.am_eval.proofs.RoutePathLaws.{is_path}
 use Rattle.am_eval.proofs.SimpleParts.{end_from_test, test_from_end}
 use Rattle.am_search.proofs.ChoiceOrder.{in_filter, into_filter}
 use Rattle.am_coverage.specs.Coverage.{first_end, first_entry, first_receipt}
-use Rattle.am_coverage.specs.FirstEnds.{earlier, earliest}
-use Rattle.am_coverage.proofs.EarliestFound.{find_any, find_more}
+use Rattle.am_coverage.specs.FirstEnds.{earliest}
+use Rattle.am_coverage.proofs.EarliestFound.{find_any}
 
 -- whether a label set ends at a path
 abbrev is_end : LabelMap → Configuration → List ℕ → Bool
@@ -65,10 +65,3 @@ module _ (s : Space) (c : Configuration) where
       (all_choices s))
       ∙ find_any ends_of_choice (paths_to receiver c.root) (all_choices s)
       (space_choices_sorted s)
-
-  -- the earliest of the first ends of some routes and of one more
-  pub earliest_more : (paths : List (List ℕ)) (path : List ℕ)
-      → earliest (map (first_end s c) (paths ++ path ∷ []))
-      ≡ earlier (earliest (map (first_end s c) paths)) (first_end s c path)
-  earliest_more paths path =
-      find_more ends_of_choice paths path (all_choices s) (space_choices_sorted s)

@@ -34,6 +34,21 @@ found_first test (z ∷ zs) x y s e h passes = elim (cases_Bool (test z)) [
   ]
 ]
 
+-- ---- There is one first choice.
+
+neither : (o : Ordering) → is_lt o ≡ false → is_lt (ordering_reverse o) ≡ false → o ≡ Equal
+neither Less le ge = absurd (cc)
+neither Equal le ge = refl
+neither Greater le ge = absurd (cc)
+
+one_first : (s : Space) (Has : List ℕ → Type 0) (choice other : List ℕ)
+    → IsFirstChoice s Has choice → IsFirstChoice s Has other → choice ≡ other
+one_first s Has choice other one also =
+    exact_bytes choice other
+    (neither (slice_cmp nat_cmp choice other) (also.first choice one.possible one.has)
+    (ap is_lt (sym (nat_list_cmp_total.antisymm other choice))
+    ∙ one.first other also.possible also.has))
+
 -- ---- Among all choices of a space, by a test that says which have the property.
 
 module _ (s : Space) (test : List ℕ → Bool) (Has : List ℕ → Type 0)
@@ -78,17 +93,9 @@ module _ (s : Space) (test : List ℕ → Bool) (Has : List ℕ → Type 0)
       by None e = absurd (none_found.1 e choice possible has)
       by (Some first) e = (first, refl)
 
--- ---- There is one such choice.
-
-neither : (o : Ordering) → is_lt o ≡ false → is_lt (ordering_reverse o) ≡ false → o ≡ Equal
-neither Less le ge = absurd (cc)
-neither Equal le ge = refl
-neither Greater le ge = absurd (cc)
-
-pub one_first : (s : Space) (Has : List ℕ → Type 0) (choice other : List ℕ)
-    → IsFirstChoice s Has choice → IsFirstChoice s Has other → choice ≡ other
-one_first s Has choice other one also =
-    exact_bytes choice other
-    (neither (slice_cmp nat_cmp choice other) (also.first choice one.possible one.has)
-    (ap is_lt (sym (nat_list_cmp_total.antisymm other choice))
-    ∙ one.first other also.possible also.has))
+  -- so the first choice that has the property is the one that is found
+  pub is_first : (choice : List ℕ) → IsFirstChoice s Has choice
+      → find test (all_choices s) ≡ Some choice
+  is_first choice first =
+      let r = some_found choice first.possible first.has in
+      r.1 ∙ ap (λ c. Some c) (one_first s Has r.0 choice (first_found r.0 r.1) first)

@@ -3,12 +3,9 @@ pub mod RouteLaws
 pub mod ReceiverLaws
 pub mod PathLaws
 pub mod QuestionLaws
-pub mod ReportLines
-pub mod Gathered
 pub mod ReportFacts
 pub mod EarliestFound
 pub mod FirstEndLaws
 pub mod EntryLaws
-pub mod RoutesBehind
-pub mod ReceiverRoutes
+pub mod SeenEnds
 pub mod EmptySpace

@@ -1,34 +1,36 @@
 -- A report says the coverage of its routes and receivers: the lines that are written say it, and no
 -- other lines do.
-use Rattle.std.proofs.Common.{◌≡◌, ◌↔◌, ℕ, ◌+◌, zero, suc, List, [], ◌∷◌, ◌++◌, length, map, get_or}
-use Rattle.std.proofs.Common.{codes, drop, Some, refl, sym, ap, ◌∙◌, arith}
+use Rattle.std.proofs.Common.{◌≡◌, ◌↔◌, ℕ, List, [], ◌∷◌, ◌++◌, length, map, get_or}
+use Rattle.std.proofs.Common.{codes, Option, Some, None, refl, sym, ap, ◌∙◌, inl, inr, arith}
 use Rattle.std.specs.Prelude.{slice_get}
-use Rattle.std.specs.List.{AllZip, flat_map, zip, range_with_len}
+use Rattle.std.specs.List.{AllZip, flat_map, range_with_len}
 use Rattle.std.proofs.lemmas.List.Folds.{flat_map-map}
-use Rattle.std.proofs.lemmas.Option.{get_or_from_slice_get, same_Some}
+use Rattle.std.proofs.lemmas.Option.{slice_get-get_or, same_Some}
 use mathlib.Core.List.{append_cancel_left}
 use Rattle.am_universe.specs.Text.{quoted_text}
 use Rattle.am_universe.specs.WrittenLabelSet.{set_text}
+use Rattle.am_universe.proofs.ListLemmas.{IsIn, IsIn-map, AllByRecursion-at}
 use Rattle.am_labels.specs.Space.{Space}
 use Rattle.am_config.specs.ConfigFile.{Configuration}
 use Rattle.am_config.specs.Path.{path_text}
 use Rattle.am_config.specs.RoutePaths.{paths_of}
 use Rattle.am_coverage.specs.declared.coverage.RouteCoverage.{RouteCoverage}
 use Rattle.am_coverage.specs.declared.coverage.RouteCoverage.TheVariants as route_is
-use Rattle.am_coverage.specs.declared.coverage.ReceiverCoverage.{ReceiverCoverage}
-use Rattle.am_coverage.specs.declared.coverage.ReceiverCoverage.TheVariants as receiver_is
+use Rattle.am_coverage.specs.declared.receiver_coverage.ReceiverFound.{ReceiverFound}
+use Rattle.am_coverage.specs.declared.route_coverage.RouteFound.{RouteFound}
 use Rattle.am_coverage.specs.Coverage.{IsDead, IsNeverEntered, IsUnmatched, route_coverage}
-use Rattle.am_coverage.specs.Coverage.{receiver_coverage}
+use Rattle.am_coverage.specs.Coverage.{first_receipt}
+use Rattle.am_coverage.specs.CoverageView.{route_found, receiver_found, IsShownReceiver}
 use Rattle.am_coverage.specs.WrittenCoverage.{route_line, routes_text, receiver_line}
 use Rattle.am_coverage.specs.WrittenCoverage.{receivers_text}
-use Rattle.am_coverage.specs.Report.{IsFirstChoice, EndsAt, GoesTo, IsRouteLine, live_route}
-use Rattle.am_coverage.specs.Report.{entered_route, never_entered_route, IsReceiverLine}
-use Rattle.am_coverage.specs.Report.{live_receiver, unmatched_receiver, IsRoutesReport}
-use Rattle.am_coverage.specs.Report.{IsReceiversReport}
-use Rattle.am_coverage.proofs.FirstFound.{one_first}
+use Rattle.am_coverage.specs.Report.{IsRouteLine, live_route, entered_route, never_entered_route}
+use Rattle.am_coverage.specs.Report.{IsReceiverLine, live_receiver, unmatched_receiver, IsReport}
+use Rattle.am_coverage.specs.Report.{IsRoutesReport, IsReceiversReport}
 use Rattle.am_coverage.proofs.RouteLaws as of_route
 use Rattle.am_coverage.proofs.RouteLaws.{never_exactly, entered_exactly, dead_from_never}
 use Rattle.am_coverage.proofs.ReceiverLaws as of_receiver
+use Rattle.am_coverage.proofs.ReceiverLaws.{unmatched_by_receipt}
+use Rattle.am_coverage.proofs.SeenEnds.{receivers_shown}
 
 -- if a text continues a front in two ways, the bytes at each position are the same
 differ : (a b front line : List ℕ) (i : ℕ) → line ≡ front ++ a → line ≡ front ++ b
@@ -36,40 +38,44 @@ differ : (a b front line : List ℕ) (i : ℕ) → line ≡ front ++ a → line 
 differ a b front line i is also =
     ap (λ rest. get_or rest i 0) (append_cancel_left front a b (sym is ∙ also))
 
--- if the line of each thing is known from the thing, the lines of all things are known
-lines_are : {K : Type 0} (IsLine : K → List ℕ → Type 0) (line_at : K → List ℕ)
-    → ((k : K) (line : List ℕ) → IsLine k line → line ≡ line_at k)
-    → (ks : List K) (lines : List (List ℕ)) → AllZip IsLine ks lines → lines ≡ map line_at ks
-lines_are IsLine line_at is [] [] each = refl
-lines_are IsLine line_at is (k ∷ ks) (line ∷ lines) each =
-    rw (is k line each.0, lines_are IsLine line_at is ks lines each.1) refl
-lines_are IsLine line_at is ks lines each = absurd each
+-- Reports, if each thing has a line, and no other line.
+module _ {K : Type 0} (IsLine : K → List ℕ → Type 0) (line_at : K → List ℕ) where
+  each_said : (ks : List K) → ((k : K) → IsIn ks k → IsLine k (line_at k))
+      → AllZip IsLine ks (map line_at ks)
+  each_said [] said = tt
+  each_said (k ∷ ks) said = (said k (inl refl), each_said ks (λ l i. said l (inr i)))
 
-abbrev report_of : List (List ℕ) → List ℕ
-report_of lines = flat_map (λ line. line) lines ++ codes "# end\n"
+  reported : (ks : List K) → ((k : K) → IsIn ks k → IsLine k (line_at k))
+      → IsReport IsLine ks (flat_map line_at ks ++ codes "# end\n")
+  reported ks said = record {
+    lines = map line_at ks;
+    each = each_said ks said;
+    joined = ap (λ text. text ++ codes "# end\n") (sym (flat_map-map (λ line. line) line_at ks));
+  }
 
--- the first item of the rest from a position on is at that position, and the others follow it
-at_front : {X : Type 0} (xs : List X) (i : ℕ) (x : X) (later : List X) → drop i xs ≡ x ∷ later
-    → (slice_get xs i ≡ Some x) × (drop (i + 1) xs ≡ later)
-at_front [] zero x later e = absurd (cc)
-at_front [] (suc i) x later e = absurd (cc)
-at_front (y ∷ xs) zero x later e = (cc, cc)
-at_front (y ∷ xs) (suc i) x later e =
-    let n : suc i + 1 ≡ suc (i + 1) = omega arith in rw n (at_front xs i x later e)
+  lines_are : ((k : K) (line : List ℕ) → IsLine k line → line ≡ line_at k)
+      → (ks : List K) (lines : List (List ℕ)) → AllZip IsLine ks lines → lines ≡ map line_at ks
+  lines_are is [] [] each = refl
+  lines_are is (k ∷ ks) (line ∷ lines) each =
+      rw (is k line each.0, lines_are is ks lines each.1) refl
+  lines_are is ks lines each = absurd each
 
--- the texts of some items, one after the other
-joined : {X : Type 0} (line : X → List ℕ) (xs : List X)
-    → flat_map line xs ≡ flat_map (λ text. text) (map line xs)
-joined line xs = sym (flat_map-map (λ text. text) line xs)
+  one_report : ((k : K) (line : List ℕ) → IsLine k line → line ≡ line_at k)
+      → (ks : List K) (report other : List ℕ) → IsReport IsLine ks report
+      → IsReport IsLine ks other → report ≡ other
+  one_report is ks report other r also =
+      let same = lines_are is ks r.lines r.each ∙ sym (lines_are is ks also.lines also.each) in
+      r.joined ∙ ap (λ lines. flat_map (λ line. line) lines ++ codes "# end\n") same
+      ∙ sym also.joined
 
 module _ (s : Space) (c : Configuration) where
   -- ---- Routes.
 
   abbrev route_line_at : List ℕ → List ℕ
-  route_line_at path = route_line s.labels (path, route_coverage s c path)
+  route_line_at path = route_line s.labels (route_found s c path)
 
   line_said : (path : List ℕ) (coverage : RouteCoverage) → route_coverage s c path ≡ coverage
-      → IsRouteLine s c path (route_line s.labels (path, coverage))
+      → IsRouteLine s c path (route_line s.labels (record { path = path; coverage = coverage }))
   line_said path (route_is.Live choice) e =
       live_route choice (of_route.first_live s c path choice e) refl
   line_said path route_is.Entered e =
@@ -77,51 +83,24 @@ module _ (s : Space) (c : Configuration) where
   line_said path route_is.NeverEntered e =
       never_entered_route ((never_exactly s c path).1 e) refl
 
-  lines_said : (paths : List (List ℕ)) → AllZip (IsRouteLine s c) paths (map route_line_at paths)
-  lines_said [] = tt
-  lines_said (path ∷ paths) =
-      (line_said path (route_coverage s c path) refl, lines_said paths)
-
-  pub routes_reported : (found : List (List ℕ × RouteCoverage))
-      → found ≡ map (λ path. (path, route_coverage s c path)) (paths_of c)
+  pub routes_reported : (found : List RouteFound) → found ≡ map (route_found s c) (paths_of c)
       → IsRoutesReport s c (routes_text s.labels found)
-  routes_reported found is = record {
-    lines = map route_line_at (paths_of c);
-    each = lines_said (paths_of c);
-    joined = ap (routes_text s.labels) is
-        ∙ ap (λ text. text ++ codes "# end\n")
-        (flat_map-map (route_line s.labels) (λ path. (path, route_coverage s c path)) (paths_of c)
-        ∙ joined route_line_at (paths_of c));
-  }
-
-  first_is : (path choice : List ℕ) → IsFirstChoice s (EndsAt s c path) choice
-      → route_coverage s c path ≡ route_is.Live choice
-  first_is path choice first =
-      let told = of_route.live_told s c path choice first.possible first.has in
-      let live = of_route.first_live s c path told.0 told.1 in
-      told.1 ∙ ap route_is.Live (one_first s (EndsAt s c path) told.0 choice live first)
+  routes_reported found is =
+      rw (is, flat_map-map (route_line s.labels) (route_found s c) (paths_of c))
+      (reported (IsRouteLine s c) route_line_at (paths_of c)
+      (λ path i. line_said path (route_coverage s c path) refl))
 
   -- the line of a route is the one that is written
-  pub route_line_is : (path line : List ℕ) → IsRouteLine s c path line
-      → line ≡ route_line s.labels (path, route_coverage s c path)
+  route_line_is : (path line : List ℕ) → IsRouteLine s c path line → line ≡ route_line_at path
   route_line_is path line (live_route choice first e) =
-      e ∙ ap (λ coverage. route_line s.labels (path, coverage)) (sym (first_is path choice first))
+      rw (of_route.first_is s c path choice first) e
   route_line_is path line (entered_route dead entered e) =
-      e ∙ ap (λ coverage. route_line s.labels (path, coverage))
-      (sym ((entered_exactly s c path).0 (dead, entered)))
-  route_line_is path line (never_entered_route never e) =
-      e ∙ ap (λ coverage. route_line s.labels (path, coverage)) (sym ((never_exactly s c path).0 never))
-
-  routes_report_is : (report : List ℕ) → IsRoutesReport s c report
-      → report ≡ report_of (map route_line_at (paths_of c))
-  routes_report_is report r =
-      r.joined
-      ∙ ap report_of
-      (lines_are (IsRouteLine s c) route_line_at route_line_is (paths_of c) r.lines r.each)
+      rw ((entered_exactly s c path).0 (dead, entered)) e
+  route_line_is path line (never_entered_route never e) = rw ((never_exactly s c path).0 never) e
 
   pub one_routes_report : (report other : List ℕ) → IsRoutesReport s c report
       → IsRoutesReport s c other → report ≡ other
-  one_routes_report report other r also = routes_report_is report r ∙ sym (routes_report_is other also)
+  one_routes_report = one_report (IsRouteLine s c) route_line_at route_line_is (paths_of c)
 
   -- ---- What the line of a route says.
 
@@ -156,75 +135,44 @@ module _ (s : Space) (c : Configuration) where
 
   -- ---- Receivers.
 
-  receiver_said : (receiver : ℕ) (name : List ℕ) (coverage : ReceiverCoverage)
-      → slice_get c.receivers receiver ≡ Some name
-      → receiver_coverage s c receiver ≡ coverage
-      → IsReceiverLine s c receiver (receiver_line s.labels (name, coverage))
-  receiver_said receiver name (receiver_is.Live choice) named e =
-      live_receiver name choice named (of_receiver.first_live s c receiver choice e) refl
-  receiver_said receiver name receiver_is.Unmatched named e =
-      unmatched_receiver name named ((of_receiver.unmatched_exactly s c receiver).1 e) refl
+  abbrev receiver_line_at : ℕ → List ℕ
+  receiver_line_at receiver = receiver_line s.labels c.receivers (receiver_found s c receiver)
 
-  -- the lines of the receivers with these names, from a position on
-  abbrev lines_from : ℕ → List (List ℕ) → List (List ℕ)
-  lines_from i names =
-      map (receiver_line s.labels)
-      (zip names (map (receiver_coverage s c) (range_with_len i (length names))))
+  receiver_said : (receiver : ℕ) (name : List ℕ) (choice : Option (List ℕ))
+      → slice_get c.receivers receiver ≡ Some name → first_receipt s c receiver ≡ choice
+      → IsReceiverLine s c receiver
+      (receiver_line s.labels c.receivers (record { receiver = receiver; choice = choice }))
+  receiver_said receiver name (Some choice) named e =
+      live_receiver name choice named (of_receiver.first_live s c receiver choice e) (rw named refl)
+  receiver_said receiver name None named e =
+      unmatched_receiver name named ((unmatched_by_receipt s c receiver).1 e) (rw named refl)
 
-  receivers_said : (i : ℕ) (names : List (List ℕ)) → drop i c.receivers ≡ names
-      → AllZip (IsReceiverLine s c) (range_with_len i (length names)) (lines_from i names)
-  receivers_said i [] left = tt
-  receivers_said i (name ∷ names) left =
-      let here = at_front c.receivers i name names left in (
-        receiver_said i name (receiver_coverage s c i) here.0 refl,
-        receivers_said (i + 1) names here.1,
-      )
-
-  pub receivers_reported : (found : List ReceiverCoverage)
-      → found ≡ map (receiver_coverage s c) (range_with_len 0 (length c.receivers))
+  pub receivers_reported : (found : List ReceiverFound)
+      → found ≡ map (receiver_found s c) (range_with_len 0 (length c.receivers))
       → IsReceiversReport s c (receivers_text s.labels c.receivers found)
-  receivers_reported found is = record {
-    lines = lines_from 0 c.receivers;
-    each = receivers_said 0 c.receivers refl;
-    joined = ap (receivers_text s.labels c.receivers) is
-        ∙ ap (λ text. text ++ codes "# end\n") (joined (receiver_line s.labels)
-        (zip c.receivers (map (receiver_coverage s c) (range_with_len 0 (length c.receivers)))));
-  }
-
-  first_receipt_is : (receiver : ℕ) (choice : List ℕ)
-      → IsFirstChoice s (GoesTo s c receiver) choice
-      → receiver_coverage s c receiver ≡ receiver_is.Live choice
-  first_receipt_is receiver choice first =
-      let told = of_receiver.live_told s c receiver choice first.possible first.has in
-      let live = of_receiver.first_live s c receiver told.0 told.1 in
-      told.1 ∙ ap receiver_is.Live (one_first s (GoesTo s c receiver) told.0 choice live first)
+  receivers_reported found is =
+      let all = range_with_len 0 (length c.receivers) in
+      rw (is, flat_map-map (receiver_line s.labels c.receivers) (receiver_found s c) all)
+      (reported (IsReceiverLine s c) receiver_line_at all (λ receiver i.
+      let shown = AllByRecursion-at (IsShownReceiver s.labels c) (map (receiver_found s c) all)
+      (receiver_found s c receiver) (receivers_shown s c 0 (length c.receivers) (omega arith))
+      (IsIn-map (receiver_found s c) all receiver i) in
+      receiver_said receiver (get_or c.receivers receiver []) (first_receipt s c receiver)
+      (slice_get-get_or c.receivers receiver [] shown.0) refl))
 
   -- the line of a receiver is the one that is written
-  abbrev receiver_line_at : ℕ → List ℕ
-  receiver_line_at receiver =
-      receiver_line s.labels (get_or c.receivers receiver [], receiver_coverage s c receiver)
-
   receiver_line_is : (receiver : ℕ) (line : List ℕ) → IsReceiverLine s c receiver line
       → line ≡ receiver_line_at receiver
   receiver_line_is receiver line (live_receiver name choice named first e) =
-      let same = get_or_from_slice_get c.receivers receiver name [] named in
-      e ∙ (λ i. receiver_line s.labels (sym same i, sym (first_receipt_is receiver choice first) i))
+      rw (named, of_receiver.first_is s c receiver choice first) e
   receiver_line_is receiver line (unmatched_receiver name named unmatched e) =
-      let same = get_or_from_slice_get c.receivers receiver name [] named in
-      let none = (of_receiver.unmatched_exactly s c receiver).0 unmatched in
-      e ∙ (λ i. receiver_line s.labels (sym same i, sym none i))
-
-  receivers_report_is : (report : List ℕ) → IsReceiversReport s c report
-      → report ≡ report_of (map receiver_line_at (range_with_len 0 (length c.receivers)))
-  receivers_report_is report r =
-      r.joined
-      ∙ ap report_of (lines_are (IsReceiverLine s c) receiver_line_at receiver_line_is
-      (range_with_len 0 (length c.receivers)) r.lines r.each)
+      rw (named, (unmatched_by_receipt s c receiver).0 unmatched) e
 
   pub one_receivers_report : (report other : List ℕ) → IsReceiversReport s c report
       → IsReceiversReport s c other → report ≡ other
-  one_receivers_report report other r also =
-      receivers_report_is report r ∙ sym (receivers_report_is other also)
+  one_receivers_report =
+      one_report (IsReceiverLine s c) receiver_line_at receiver_line_is
+      (range_with_len 0 (length c.receivers))
 
   -- ---- What the line of a receiver says.
 

@@ -1,7 +1,7 @@
 -- The coverage of a route says what holds over all label sets.
-use Rattle.std.proofs.Common.{◌≡◌, ◌≢◌, ◌↔◌, ℕ, List, Bool, Contains}
+use Rattle.std.proofs.Common.{◌≡◌, ◌↔◌, ℕ, List, Bool, Contains}
 use Rattle.std.proofs.Common.{Option, Some, None, refl, sym, ap, ◌∙◌}
-use Rattle.std.specs.Prelude.{IsTrue}
+use Rattle.std.specs.Prelude.{IsTrue, is_some}
 use Rattle.std.specs.List.{list_any}
 use Rattle.am_universe.specs.LabelSet.{label_set_of}
 use Rattle.am_universe.specs.Text.{same_text}
@@ -14,32 +14,32 @@ use Rattle.am_eval.proofs.SimpleParts.{end_from_test, test_from_end}
 use Rattle.am_search.proofs.PrefixOrder.{begins_itself}
 use Rattle.am_coverage.specs.declared.coverage.RouteCoverage.TheVariants as route_is
 use Rattle.am_coverage.specs.Coverage.{IsDead, IsNeverEntered, first_end}
-use Rattle.am_coverage.specs.Coverage.{first_entry, live_or, dead_by, route_coverage}
+use Rattle.am_coverage.specs.Coverage.{first_entry, live_or, dead_route, route_coverage}
 use Rattle.am_coverage.specs.Report.{IsFirstChoice, EndsAt}
-use Rattle.am_coverage.proofs.FirstFound.{first_found, some_found, none_found}
+use Rattle.am_coverage.proofs.FirstFound.{first_found, some_found, none_found, is_first}
 
 -- ---- What is told of a route.
 
 pub live_is : (entry end : Option (List ℕ)) (choice : List ℕ)
-    → live_or (dead_by entry) end ≡ route_is.Live choice → end ≡ Some choice
+    → live_or (dead_route (is_some entry)) end ≡ route_is.Live choice → end ≡ Some choice
 live_is None None choice e = absurd (cc)
 live_is (Some x) None choice e = absurd (cc)
 live_is entry (Some x) choice e = let same : x ≡ choice = cc in ap (λ y. Some y) same
 
-never_is : (entry end : Option (List ℕ)) → live_or (dead_by entry) end ≡ route_is.NeverEntered
+never_is : (entry end : Option (List ℕ)) → live_or (dead_route (is_some entry)) end ≡ route_is.NeverEntered
     → (end ≡ None) × (entry ≡ None)
 never_is None None e = (refl, refl)
 never_is (Some x) None e = absurd (cc)
 never_is entry (Some x) e = absurd (cc)
 
-pub entered_is : (entry end : Option (List ℕ)) → live_or (dead_by entry) end ≡ route_is.Entered
+pub entered_is : (entry end : Option (List ℕ)) → live_or (dead_route (is_some entry)) end ≡ route_is.Entered
     → (end ≡ None) × ((choice : List ℕ) × (entry ≡ Some choice))
 entered_is None None e = absurd (cc)
 entered_is (Some x) None e = (refl, (x, refl))
 entered_is entry (Some x) e = absurd (cc)
 
 pub is_entered : (entry end : Option (List ℕ)) → end ≡ None → (entry ≡ None → ⊥)
-    → live_or (dead_by entry) end ≡ route_is.Entered
+    → live_or (dead_route (is_some entry)) end ≡ route_is.Entered
 is_entered None end none some = absurd (some refl)
 is_entered (Some x) end none some = rw none refl
 
@@ -93,7 +93,14 @@ module _ (s : Space) (c : Configuration) (path : List ℕ) where
       → (first : List ℕ) × (route_coverage s c path ≡ route_is.Live first)
   live_told choice possible h =
       let r = some_found s ends_there (EndsAt s c path) says_end choice possible h in
-      (r.0, ap (live_or (dead_by (first_entry s c path))) r.1)
+      (r.0, ap (live_or (dead_route (is_some (first_entry s c path)))) r.1)
+
+  -- and the first choice that ends there is the one that is shown
+  pub first_is : (choice : List ℕ) → IsFirstChoice s (EndsAt s c path) choice
+      → route_coverage s c path ≡ route_is.Live choice
+  first_is choice first =
+      ap (live_or (dead_route (is_some (first_entry s c path))))
+      (is_first s ends_there (EndsAt s c path) says_end choice first)
 
   pub first_entered : route_coverage s c path ≡ route_is.Entered
       → (choice : List ℕ) × IsFirstChoice s EntersIt choice
@@ -101,18 +108,11 @@ module _ (s : Space) (c : Configuration) (path : List ℕ) where
       let r = (entered_is (first_entry s c path) (first_end s c path) e).1 in
       (r.0, first_found s enters EntersIt says_entry r.0 r.1)
 
-  pub dead_exactly : IsDead s c path
-      ↔ ((choice : List ℕ) → route_coverage s c path ≢ route_is.Live choice)
-  dead_exactly = (
-    λ dead choice e. let r = first_live choice e in dead choice r.possible r.has,
-    λ none choice possible h. let r = live_told choice possible h in none r.0 r.1,
-  )
-
   pub never_exactly : IsNeverEntered s c path ↔ (route_coverage s c path ≡ route_is.NeverEntered)
   never_exactly = (
     λ never.
         let end : first_end s c path ≡ None = dead_by_end.0 (dead_from_never never) in
-        ap (live_or (dead_by (first_entry s c path))) end ∙ ap dead_by (never_by_entry.0 never),
+        ap (live_or (dead_route (is_some (first_entry s c path)))) end ∙ ap (λ o. dead_route (is_some o)) (never_by_entry.0 never),
     λ e. never_by_entry.1 (never_is (first_entry s c path) (first_end s c path) e).1,
   )
 

@@ -1,6 +1,7 @@
 -- Coverage: which routes and receivers the label sets of a space reach. Impossible label sets do
 -- not count.
-use Rattle.std.specs.Prelude.{ℕ, List, Contains, IsTrue, Option, Some, None, ◌==◌}
+use Rattle.std.specs.Prelude.{ℕ, List, Contains, IsTrue, Option, Some, None, ◌==◌, Bool, is_some}
+use Rattle.std.specs.Prelude.{if◌then◌else◌}
 use Rattle.std.specs.List.{find, list_any}
 use Rattle.am_universe.specs.LabelSet.{label_set_of}
 use Rattle.am_universe.specs.Text.{same_text}
@@ -10,8 +11,6 @@ use Rattle.am_config.specs.Path.{leads_through}
 use Rattle.am_eval.specs.Routing.{ends, receivers}
 use Rattle.am_coverage.specs.declared.coverage.RouteCoverage.{RouteCoverage}
 use Rattle.am_coverage.specs.declared.coverage.RouteCoverage.TheVariants as route_is
-use Rattle.am_coverage.specs.declared.coverage.ReceiverCoverage.{ReceiverCoverage}
-use Rattle.am_coverage.specs.declared.coverage.ReceiverCoverage.TheVariants as receiver_is
 
 -- ---- Over all label sets of the universe.
 
@@ -65,24 +64,16 @@ first_receipt s c receiver =
     (receivers (label_set_of s.labels choice) c)) (all_choices s)
 
 -- What `dead` says of a route: it is live, with the first choice that ends there; or it is dead,
--- and entered or not. What `receivers` says of a receiver: it is live, with the first choice that
--- goes to it; or it is unmatched.
+-- and entered or not.
 -- Source: own choice.
 -- Example: a route at which nothing ends, and below which something does, is `Entered`.
 abbrev pub live_or : RouteCoverage → Option (List ℕ) → RouteCoverage
 live_or dead None = dead
 live_or dead (Some choice) = route_is.Live choice
 
-abbrev pub dead_by : Option (List ℕ) → RouteCoverage
-dead_by None = route_is.NeverEntered
-dead_by (Some choice) = route_is.Entered
+abbrev pub dead_route : Bool → RouteCoverage
+dead_route entered = if entered then route_is.Entered else route_is.NeverEntered
 
 abbrev pub route_coverage : Space → Configuration → List ℕ → RouteCoverage
-route_coverage s c path = live_or (dead_by (first_entry s c path)) (first_end s c path)
-
-abbrev pub live_or_unmatched : Option (List ℕ) → ReceiverCoverage
-live_or_unmatched None = receiver_is.Unmatched
-live_or_unmatched (Some choice) = receiver_is.Live choice
-
-abbrev pub receiver_coverage : Space → Configuration → ℕ → ReceiverCoverage
-receiver_coverage s c receiver = live_or_unmatched (first_receipt s c receiver)
+route_coverage s c path =
+    live_or (dead_route (is_some (first_entry s c path))) (first_end s c path)

@@ -56,16 +56,18 @@ pub data IsReceiverLine (s : Space) (c : Configuration) (receiver : ℕ) (line :
       → IsUnmatched s c receiver
       → line ≡ quoted_text name ++ codes " unmatched\n" → IsReceiverLine s c receiver line
 
--- The report of routes has the line of each route, in preorder, and then `# end`. The report of
--- receivers has the line of each receiver, in declared order, and then `# end`.
+-- The report on some things has the line of each, in order, and then `# end`. The report of routes
+-- is on all paths, in preorder, and that of receivers on all receivers, in declared order.
 -- Source: own choice.
 -- Example: the report of routes of a configuration with the top-level route alone has two lines.
-pub record IsRoutesReport (s : Space) (c : Configuration) (report : List ℕ) : Type 0 where
+pub record IsReport {K : Type 0} (IsLine : K → List ℕ → Type 0) (things : List K)
+    (report : List ℕ) : Type 0 where
   pub lines : List (List ℕ)
-  pub each : AllZip (IsRouteLine s c) (paths_of c) lines
+  pub each : AllZip IsLine things lines
   pub joined : report ≡ flat_map (λ line. line) lines ++ codes "# end\n"
 
-pub record IsReceiversReport (s : Space) (c : Configuration) (report : List ℕ) : Type 0 where
-  pub lines : List (List ℕ)
-  pub each : AllZip (IsReceiverLine s c) (range_with_len 0 (length c.receivers)) lines
-  pub joined : report ≡ flat_map (λ line. line) lines ++ codes "# end\n"
+abbrev pub IsRoutesReport : Space → Configuration → List ℕ → Type 0
+IsRoutesReport s c = IsReport (IsRouteLine s c) (paths_of c)
+
+abbrev pub IsReceiversReport : Space → Configuration → List ℕ → Type 0
+IsReceiversReport s c = IsReport (IsReceiverLine s c) (range_with_len 0 (length c.receivers))

@@ -1,4 +1,4 @@
-//! Whether label sets reach a route, and a receiver.
+//! Whether label sets reach a route.
 
 use am_universe::Choice;
 
@@ -11,13 +11,4 @@ pub enum RouteCoverage {
     Entered,
     /// No label set ends there or below it.
     NeverEntered,
-}
-
-/// Whether label sets of a universe reach a receiver.
-#[derive(Clone, Copy, Debug)]
-pub enum ReceiverCoverage {
-    /// The label set of this choice goes to it. It is the first that does, in declared order.
-    Live(Choice),
-    /// No label set goes to it.
-    Unmatched,
 }

@@ -1,18 +1,14 @@
 //! The first label set that ends at each route. There is one search for each route, and everything
 //! else about routes and receivers follows from these.
 //!
-//! A dead route is entered exactly if a route below it is live. In preorder the routes below it
-//! come right after it. The first label set that goes to a receiver is the earliest of those that
-//! end first at its routes. Two laws say so: `a_dead_route_is_entered_where_one_below_it_is_live`
-//! and `a_receiver_is_live_from_the_first_end_of_its_routes`.
+//! A dead route is entered exactly if a route below it is live. The first label set that goes to a
+//! receiver is the earliest of those that end first at its routes. Two laws say so:
+//! `a_dead_route_is_entered_where_one_below_it_is_live` and
+//! `a_receiver_is_live_from_the_first_end_of_its_routes`.
 
-ghost use Rattle.std.specs.Prelude.{◌≡◌, map, Some, IfOk};
-ghost use Rattle.std.specs.List.{AllByRecursion};
+ghost use Rattle.std.specs.Prelude.{◌≡◌, IfOk};
 ghost use Rattle.am_config.specs.ConfigView.{config_view};
-ghost use Rattle.am_config.specs.RoutePaths.{paths_of};
-ghost use Rattle.am_eval.specs.Routing.{receiver_at};
-ghost use Rattle.am_coverage.specs.Coverage.{first_end};
-ghost use Rattle.am_coverage.specs.CoverageView.{end_view};
+ghost use Rattle.am_coverage.specs.FirstEnds.{first_ends};
 
 use am_config::{Config, Path};
 use am_first_sets::RouteEnds;
@@ -36,11 +32,8 @@ pub fn first_ends(
     space: &Space,
     config: &Config,
 ) -> Result<Vec<FirstEnd>, AllocError>
-    ensures ends { IfOk result (λ found. map end_view found.items
-        ≡ map (λ path. (path, first_end space.now (config_view config.now) path))
-        (paths_of (config_view config.now))) }
-    ensures receivers { IfOk result (λ found. AllByRecursion
-        (λ end. receiver_at (config_view config.now) end.path ≡ Some end.receiver) found.items) }
+    ensures ends { IfOk result (λ found.
+        found.items ≡ first_ends space.now (config_view config.now)) }
 {
     let ends = RouteEnds::of(alloc, space, config)?;
     let listed = config.routes(alloc)?;

@@ -19,10 +19,8 @@ ghost use Rattle.am_eval.specs.Routing.{ends, receivers};
 ghost use Rattle.am_eval.specs.World.{World};
 ghost use Rattle.am_search.specs.Start.{comes_before};
 ghost use Rattle.am_coverage.specs.declared.coverage.RouteCoverage.TheVariants as route_is;
-ghost use Rattle.am_coverage.specs.declared.coverage.ReceiverCoverage.TheVariants as receiver_is;
 ghost use Rattle.am_coverage.specs.Coverage.{first_end, first_entry, first_receipt, IsDead};
 ghost use Rattle.am_coverage.specs.Coverage.{IsNeverEntered, IsUnmatched, route_coverage};
-ghost use Rattle.am_coverage.specs.Coverage.{receiver_coverage};
 ghost use Rattle.am_coverage.specs.FirstEnds.{earliest};
 ghost use Rattle.am_coverage.specs.Report.{IsRouteLine, IsReceiverLine, IsRoutesReport};
 ghost use Rattle.am_coverage.specs.Report.{IsReceiversReport};
@@ -45,6 +43,7 @@ pub fn a_live_route_has_a_label_set()
 /// A route is reported as dead exactly if no label set of the universe ends there. It is reported
 /// as never entered exactly if none ends there or below it, and so as entered exactly if one ends
 /// below it and none there.
+#[tactic(auto, using(crate::proofs::RouteLaws::never_exactly, crate::proofs::RouteLaws::entered_exactly))]
 pub fn a_dead_route_has_no_label_set()
     ensures dead { (s : Space) (c : Configuration) (path : List ℕ)
         → IsDead s c path ↔ ((choice : List ℕ) → route_coverage s c path ≢ route_is.Live choice) }
@@ -60,21 +59,22 @@ pub fn a_dead_route_has_no_label_set()
 pub fn a_live_receiver_has_a_label_set()
     ensures told { (s : Space) (c : Configuration) (receiver : ℕ) (choice : List ℕ)
         → IsChoiceOf s choice → Contains (receivers (label_set_of s.labels choice) c) receiver
-        → (first : List ℕ) × (receiver_coverage s c receiver ≡ receiver_is.Live first) }
+        → (first : List ℕ) × (first_receipt s c receiver ≡ Some first) }
     ensures goes { (s : Space) (c : Configuration) (receiver : ℕ) (choice : List ℕ)
-        → receiver_coverage s c receiver ≡ receiver_is.Live choice → IsChoiceOf s choice
+        → first_receipt s c receiver ≡ Some choice → IsChoiceOf s choice
         × Contains (receivers (label_set_of s.labels choice) c) receiver }
     ensures first { (s : Space) (c : Configuration) (receiver : ℕ) (choice other : List ℕ)
-        → receiver_coverage s c receiver ≡ receiver_is.Live choice → IsChoiceOf s other
+        → first_receipt s c receiver ≡ Some choice → IsChoiceOf s other
         → Contains (receivers (label_set_of s.labels other) c) receiver
         → comes_before other choice ≡ false }
 {}
 
 /// A receiver is reported as unmatched exactly if no label set of the universe goes to it, which is
 /// so exactly if each route that has it is dead.
+#[tactic(auto, using(crate::proofs::ReceiverLaws::unmatched_by_receipt))]
 pub fn an_unmatched_receiver_has_dead_routes_alone()
     ensures unmatched { (s : Space) (c : Configuration) (receiver : ℕ)
-        → IsUnmatched s c receiver ↔ (receiver_coverage s c receiver ≡ receiver_is.Unmatched) }
+        → IsUnmatched s c receiver ↔ (first_receipt s c receiver ≡ None) }
     ensures dead_routes { (s : Space) (c : Configuration) (receiver : ℕ)
         → IsUnmatched s c receiver
         ↔ ((path : List ℕ) (t : RouteTree) → route_at c.root path ≡ Some t
@@ -84,6 +84,7 @@ pub fn an_unmatched_receiver_has_dead_routes_alone()
 /// A route is dead exactly if the question whether an alert ends there has no answer, and never
 /// entered exactly if the question whether an alert enters it has none. A receiver is unmatched
 /// exactly if the question whether an alert goes to it has none.
+#[tactic(auto, using(crate::proofs::QuestionLaws::dead_unanswered, crate::proofs::QuestionLaws::never_entered_unanswered, crate::proofs::QuestionLaws::unmatched_unanswered))]
 pub fn a_dead_routes_question_has_no_answer()
     ensures dead { (s : Space) (w : World) (path : List ℕ)
         → IsDead s w.config path ↔ (answers s w (Part (Route Ends path)) ≡ []) }
@@ -96,6 +97,7 @@ pub fn a_dead_routes_question_has_no_answer()
 /// The first label set that enters a route is the earliest of those that end first at the route and
 /// at each route below it. So a dead route is reported as entered exactly if a route below it is
 /// live.
+#[tactic(auto, using(crate::proofs::FirstEndLaws::entry_is_earliest, crate::proofs::EntryLaws::entered_exactly))]
 pub fn a_dead_route_is_entered_where_one_below_it_is_live()
     ensures first { (s : Space) (c : Configuration) (path : List ℕ)
         → first_entry s c path
@@ -109,6 +111,7 @@ pub fn a_dead_route_is_entered_where_one_below_it_is_live()
 
 /// The first label set that goes to a receiver is the earliest of those that end first at each
 /// route that has it.
+#[tactic(auto, using(crate::proofs::FirstEndLaws::receipt_is_earliest))]
 pub fn a_receiver_is_live_from_the_first_end_of_its_routes()
     ensures first { (s : Space) (c : Configuration) (receiver : ℕ)
         → first_receipt s c receiver
@@ -117,15 +120,17 @@ pub fn a_receiver_is_live_from_the_first_end_of_its_routes()
 
 /// The empty list of matchers matches every label set. If it is impossible, each route is reported
 /// as never entered, and each receiver as unmatched.
+#[tactic(auto, using(crate::proofs::EmptySpace::enters_nothing, crate::proofs::EmptySpace::matches_nothing))]
 pub fn an_empty_space_reaches_nothing()
     ensures routes { (s : Space) (c : Configuration) (path : List ℕ) → Contains s.impossible []
         → route_coverage s c path ≡ route_is.NeverEntered }
     ensures receivers { (s : Space) (c : Configuration) (receiver : ℕ) → Contains s.impossible []
-        → receiver_coverage s c receiver ≡ receiver_is.Unmatched }
+        → first_receipt s c receiver ≡ None }
 {}
 
 /// The paths that are reported are exactly those of the routes, in the order of a dictionary, each
 /// once.
+#[tactic(auto, using(am_eval::proofs::RoutePathLaws::paths_exactly, crate::proofs::PathLaws::paths_ascend))]
 pub fn each_route_is_reported_once()
     ensures exactly { (c : Configuration) (path : List ℕ)
         → Contains (paths_of c) path ↔ (route_at c.root path ≢ None) }

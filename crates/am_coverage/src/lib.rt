@@ -12,8 +12,8 @@ mod first_ends;
 mod receiver_coverage;
 mod route_coverage;
 
-pub use coverage::{ReceiverCoverage, RouteCoverage};
-pub use receiver_coverage::receivers_covered;
+pub use coverage::RouteCoverage;
+pub use receiver_coverage::{ReceiverFound, receivers_covered};
 pub use route_coverage::{RouteFound, routes_covered};
 
 // The reports.

@@ -1,20 +1,27 @@
 //! Whether label sets reach each receiver.
 
-ghost use Rattle.std.specs.Prelude.{◌≡◌, ℕ, List, Option, length, map, IfOk};
+ghost use Rattle.std.specs.Prelude.{◌≡◌, length, map, IfOk};
 ghost use Rattle.std.specs.List.{AllByRecursion, range_with_len};
-ghost use Rattle.am_universe.specs.Universe.{sizes};
 ghost use Rattle.am_config.specs.ConfigView.{config_view};
 ghost use Rattle.am_search.specs.Start.{comes_before};
-ghost use Rattle.am_coverage.specs.Coverage.{live_or_unmatched, receiver_coverage};
-ghost use Rattle.am_coverage.specs.FirstEnds.{earlier};
-ghost use Rattle.am_coverage.specs.CoverageView.{IsShownReceiver};
+ghost use Rattle.am_coverage.specs.FirstEnds.{earlier, earliest_to};
+ghost use Rattle.am_coverage.specs.CoverageView.{receiver_found, IsShownReceiver};
 
-use crate::coverage::ReceiverCoverage;
-use crate::first_ends::first_ends;
+use crate::first_ends::{FirstEnd, first_ends};
 use am_config::Config;
 use am_labels::Space;
 use am_universe::Choice;
 use std::alloc::{AllocError, Global};
+
+/// A receiver, by its position, and the first choice whose label set goes to it, in declared order.
+/// Without one it is unmatched.
+#[derive(Clone, Copy, Debug)]
+pub struct ReceiverFound {
+    /// The position of the receiver.
+    pub receiver: usize,
+    /// The first choice whose label set goes to it, if there is one.
+    pub choice: Option<Choice>,
+}
 
 /// Finds for each receiver of a configuration whether a label set of a space goes to it, in
 /// declared order. Fails only if memory runs out.
@@ -25,40 +32,51 @@ pub fn receivers_covered(
     alloc: Global,
     space: &Space,
     config: &Config,
-) -> Result<Vec<ReceiverCoverage>, AllocError>
+) -> Result<Vec<ReceiverFound>, AllocError>
     ensures receivers { IfOk result (λ found. found.items
-        ≡ map (receiver_coverage space.now (config_view config.now))
+        ≡ map (receiver_found space.now (config_view config.now))
         (range_with_len 0 (length (config_view config.now).receivers))) }
-    ensures shown { IfOk result (λ found.
-        AllByRecursion (IsShownReceiver (sizes space.now.labels)) found.items) }
+    ensures shown { IfOk result (λ found. AllByRecursion
+        (IsShownReceiver space.now.labels (config_view config.now)) found.items) }
 {
     let ends = first_ends(alloc, space, config)?;
-    let mut found = vec![in alloc; ReceiverCoverage::Unmatched; config.receivers()]?;
-    for end in &ends {
-        let known = &mut found[end.receiver];
-        *known = with_route(*known, end.choice);
+    let mut found = Vec::with_capacity(alloc, config.receivers())?;
+    for receiver in 0..config.receivers() {
+        found.push(ReceiverFound {
+            receiver,
+            choice: earliest_to(ends.as_slice(), receiver),
+        })?;
     }
     Ok(found)
 }
 
-/// Returns the coverage of a receiver by some of its routes and one more, from its coverage by
-/// those routes and the first choice that ends at the other one.
-fn with_route(known: ReceiverCoverage, choice: Option<Choice>) -> ReceiverCoverage
-    ensures earlier { (first : Option (List ℕ)) → known ≡ live_or_unmatched first
-        → result ≡ live_or_unmatched (earlier first choice) }
+/// Returns the earliest of the first choices that end at the routes with a receiver.
+fn earliest_to(ends: &[FirstEnd], receiver: usize) -> Option<Choice>
+    ensures earliest { result ≡ earliest_to ends.now receiver }
 {
-    let Some(choice) = choice else {
-        return known;
-    };
-    match known {
-        ReceiverCoverage::Unmatched => ReceiverCoverage::Live(choice),
-        ReceiverCoverage::Live(first) => {
-            if comes_before(&choice, &first) {
-                ReceiverCoverage::Live(choice)
-            } else {
-                known
-            }
+    let mut first = None;
+    for end in ends {
+        if end.receiver == receiver {
+            first = earlier(first, end.choice);
         }
+    }
+    first
+}
+
+/// Returns the earlier of two choices in declared order. Each may be missing.
+fn earlier(first: Option<Choice>, other: Option<Choice>) -> Option<Choice>
+    ensures earlier { result ≡ earlier first other }
+{
+    let Some(one) = first else {
+        return other;
+    };
+    let Some(two) = other else {
+        return first;
+    };
+    if comes_before(&two, &one) {
+        other
+    } else {
+        first
     }
 }
 

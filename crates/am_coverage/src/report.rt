@@ -1,17 +1,18 @@
 //! The reports of routes and of receivers.
-#![tactic(auto, using(crate::proofs::ReportLines::report_steps))]
+#![tactic(auto, using(am_universe::proofs::Writing::steps))]
 
-ghost use Rattle.std.specs.Prelude.{◌≡◌, ◌++◌, length, map, codes};
+ghost use Rattle.std.specs.Prelude.{◌++◌, codes};
 ghost use Rattle.std.specs.List.{AllByRecursion};
 ghost use Rattle.am_universe.specs.Universe.{sizes};
 ghost use Rattle.am_universe.specs.Choice.{IsWhole};
 ghost use Rattle.am_universe.specs.Sink.{Writes};
 ghost use Rattle.am_config.specs.ConfigView.{config_view};
-ghost use Rattle.am_coverage.specs.CoverageView.{found_view, IsShownRoute, IsShownReceiver};
+ghost use Rattle.am_coverage.specs.CoverageView.{IsShownRoute, IsShownReceiver};
 ghost use Rattle.am_coverage.specs.WrittenCoverage.{route_line, routes_text, receiver_line};
 ghost use Rattle.am_coverage.specs.WrittenCoverage.{receivers_text, live_text};
 
-use crate::coverage::{ReceiverCoverage, RouteCoverage};
+use crate::coverage::RouteCoverage;
+use crate::receiver_coverage::ReceiverFound;
 use crate::route_coverage::RouteFound;
 use am_config::Config;
 use am_universe::{Choice, Kind, Sink, Universe, put_all, write_set, write_text};
@@ -23,10 +24,9 @@ pub fn write_routes<W: Sink>(
     routes: &[RouteFound],
     out: &mut W,
 ) -> Result<(), Kind>
-    requires shown { AllByRecursion (λ route. IsShownRoute (sizes universe.now) route.coverage)
-        routes.now }
+    requires shown { AllByRecursion (IsShownRoute (sizes universe.now)) routes.now }
     ensures written { Writes W.taken W.failures out.old out.new
-        (routes_text universe.now (map found_view routes.now)) result }
+        (routes_text universe.now routes.now) result }
 {
     for route in routes {
         write_route(universe, route, out)?;
@@ -35,9 +35,8 @@ pub fn write_routes<W: Sink>(
 }
 
 fn write_route<W: Sink>(universe: &Universe, route: &RouteFound, out: &mut W) -> Result<(), Kind>
-    requires { IsShownRoute (sizes universe.now) route.now.coverage }
-    ensures { Writes W.taken W.failures out.old out.new
-        (route_line universe.now (found_view route.now)) result }
+    requires { IsShownRoute (sizes universe.now) route.now }
+    ensures { Writes W.taken W.failures out.old out.new (route_line universe.now route.now) result }
 {
     route.path.write(out)?;
     match &route.coverage {
@@ -48,39 +47,39 @@ fn write_route<W: Sink>(universe: &Universe, route: &RouteFound, out: &mut W) ->
 }
 
 /// Writes a line for each receiver of a configuration, with its name and its coverage, and then
-/// `# end`. `receivers` has the coverage of each, in declared order. Fails only with `Kind::Write`;
-/// then the sink has taken a proper prefix of the report. Takes no memory.
+/// `# end`. Fails only with `Kind::Write`; then the sink has taken a proper prefix of the report.
+/// Takes no memory.
 pub fn write_receivers<W: Sink>(
     universe: &Universe,
     config: &Config,
-    receivers: &[ReceiverCoverage],
+    receivers: &[ReceiverFound],
     out: &mut W,
 ) -> Result<(), Kind>
-    requires each { length receivers.now ≡ length (config_view config.now).receivers }
-    requires reached { AllByRecursion (IsShownReceiver (sizes universe.now)) receivers.now }
+    requires shown { AllByRecursion (IsShownReceiver universe.now (config_view config.now))
+        receivers.now }
     ensures written { Writes W.taken W.failures out.old out.new
         (receivers_text universe.now (config_view config.now).receivers receivers.now) result }
 {
-    for (i, coverage) in receivers.iter().enumerate() {
-        write_receiver(universe, config.receiver_name(i), coverage, out)?;
+    for found in receivers {
+        write_receiver(universe, config, found, out)?;
     }
     write_trailer(out)
 }
 
 fn write_receiver<W: Sink>(
     universe: &Universe,
-    name: &str,
-    coverage: &ReceiverCoverage,
+    config: &Config,
+    found: &ReceiverFound,
     out: &mut W,
 ) -> Result<(), Kind>
-    requires { IsShownReceiver (sizes universe.now) coverage.now }
+    requires { IsShownReceiver universe.now (config_view config.now) found.now }
     ensures { Writes W.taken W.failures out.old out.new
-        (receiver_line universe.now (name.now, coverage.now)) result }
+        (receiver_line universe.now (config_view config.now).receivers found.now) result }
 {
-    write_text(out, name)?;
-    match coverage {
-        ReceiverCoverage::Live(choice) => write_live(universe, choice, out),
-        ReceiverCoverage::Unmatched => put_all(out, b" unmatched\n"),
+    write_text(out, config.receiver_name(found.receiver))?;
+    match &found.choice {
+        Some(choice) => write_live(universe, choice, out),
+        None => put_all(out, b" unmatched\n"),
     }
 }
 

@@ -1,13 +1,12 @@
 //! Whether label sets reach each route.
 
-ghost use Rattle.std.specs.Prelude.{◌≡◌, map, IfOk, if◌then◌else◌};
+ghost use Rattle.std.specs.Prelude.{◌≡◌, map, IfOk};
 ghost use Rattle.std.specs.List.{AllByRecursion};
 ghost use Rattle.am_universe.specs.Universe.{sizes};
 ghost use Rattle.am_config.specs.ConfigView.{config_view};
 ghost use Rattle.am_config.specs.RoutePaths.{paths_of};
-ghost use Rattle.am_coverage.specs.declared.coverage.RouteCoverage.TheVariants as route_is;
-ghost use Rattle.am_coverage.specs.Coverage.{live_or, route_coverage};
-ghost use Rattle.am_coverage.specs.CoverageView.{is_live_below, found_view, IsShownRoute};
+ghost use Rattle.am_coverage.specs.FirstEnds.{is_entered, coverage_by};
+ghost use Rattle.am_coverage.specs.CoverageView.{route_found, IsShownRoute};
 
 use crate::coverage::RouteCoverage;
 use crate::first_ends::{FirstEnd, first_ends};
@@ -35,34 +34,32 @@ pub fn routes_covered(
     space: &Space,
     config: &Config,
 ) -> Result<Vec<RouteFound>, AllocError>
-    ensures routes { IfOk result (λ found. map found_view found.items
-        ≡ map (λ path. (path, route_coverage space.now (config_view config.now) path))
+    ensures routes { IfOk result (λ found. found.items
+        ≡ map (route_found space.now (config_view config.now))
         (paths_of (config_view config.now))) }
-    ensures shown { IfOk result (λ found. AllByRecursion
-        (λ route. IsShownRoute (sizes space.now.labels) route.coverage) found.items) }
+    ensures shown { IfOk result (λ found.
+        AllByRecursion (IsShownRoute (sizes space.now.labels)) found.items) }
 {
     let ends = first_ends(alloc, space, config)?;
     let mut found = Vec::with_capacity(alloc, ends.len())?;
-    for (i, end) in ends.iter().enumerate() {
+    for end in &ends {
         found.push(RouteFound {
             path: end.path,
-            coverage: coverage_of(end, &ends[i + 1..]),
+            coverage: coverage_by(ends.as_slice(), end),
         })?;
     }
     Ok(found)
 }
 
-/// Returns the coverage of a route, from the first choice that ends there and the first that ends
-/// at each route after it.
-fn coverage_of(end: &FirstEnd, behind: &[FirstEnd]) -> RouteCoverage
-    ensures coverage { result
-        ≡ live_or (if is_live_below end.now.path behind.now then route_is.Entered
-        else route_is.NeverEntered) end.now.choice }
+/// Returns the coverage of a route, from the first choice that ends there and those that end at
+/// each route.
+fn coverage_by(ends: &[FirstEnd], end: &FirstEnd) -> RouteCoverage
+    ensures coverage { result ≡ coverage_by ends.now end.now }
 {
     match end.choice {
         Some(choice) => RouteCoverage::Live(choice),
         None => {
-            if is_live_below(&end.path, behind) {
+            if is_entered(ends, &end.path) {
                 RouteCoverage::Entered
             } else {
                 RouteCoverage::NeverEntered
@@ -71,13 +68,11 @@ fn coverage_of(end: &FirstEnd, behind: &[FirstEnd]) -> RouteCoverage
     }
 }
 
-/// Whether some label set ends below a route, from the first choice that ends at each route after
-/// it. The routes below it come first among these.
-fn is_live_below(path: &Path, behind: &[FirstEnd]) -> bool
-    ensures below { result ≡ is_live_below path.now behind.now }
+/// Whether some label set ends at a route or below it, from the first choice that ends at each
+/// route.
+fn is_entered(ends: &[FirstEnd], path: &Path) -> bool
+    ensures entered { result ≡ is_entered ends.now path.now }
 {
-    behind
-        .iter()
-        .take_while(|end| end.path.leads_through(path))
-        .any(|end| end.choice.is_some())
+    ends.iter()
+        .any(|end| end.choice.is_some() && end.path.leads_through(path))
 }
