@@ -2,10 +2,7 @@ pub mod FirstFound
 pub mod RouteLaws
 pub mod ReceiverLaws
 pub mod PathLaws
-pub mod QuestionLaws
 pub mod ReportFacts
 pub mod EarliestFound
 pub mod FirstEndLaws
-pub mod EntryLaws
 pub mod SeenEnds
-pub mod EmptySpace

@@ -84,7 +84,6 @@ pub fn an_unmatched_receiver_has_dead_routes_alone()
 /// A route is dead exactly if the question whether an alert ends there has no answer, and never
 /// entered exactly if the question whether an alert enters it has none. A receiver is unmatched
 /// exactly if the question whether an alert goes to it has none.
-#[tactic(auto, using(crate::proofs::QuestionLaws::dead_unanswered, crate::proofs::QuestionLaws::never_entered_unanswered, crate::proofs::QuestionLaws::unmatched_unanswered))]
 pub fn a_dead_routes_question_has_no_answer()
     ensures dead { (s : Space) (w : World) (path : List ℕ)
         → IsDead s w.config path ↔ (answers s w (Part (Route Ends path)) ≡ []) }
@@ -97,7 +96,7 @@ pub fn a_dead_routes_question_has_no_answer()
 /// The first label set that enters a route is the earliest of those that end first at the route and
 /// at each route below it. So a dead route is reported as entered exactly if a route below it is
 /// live.
-#[tactic(auto, using(crate::proofs::FirstEndLaws::entry_is_earliest, crate::proofs::EntryLaws::entered_exactly))]
+#[tactic(auto, using(crate::proofs::FirstEndLaws::entry_is_earliest))]
 pub fn a_dead_route_is_entered_where_one_below_it_is_live()
     ensures first { (s : Space) (c : Configuration) (path : List ℕ)
         → first_entry s c path
@@ -120,7 +119,6 @@ pub fn a_receiver_is_live_from_the_first_end_of_its_routes()
 
 /// The empty list of matchers matches every label set. If it is impossible, each route is reported
 /// as never entered, and each receiver as unmatched.
-#[tactic(auto, using(crate::proofs::EmptySpace::enters_nothing, crate::proofs::EmptySpace::matches_nothing))]
 pub fn an_empty_space_reaches_nothing()
     ensures routes { (s : Space) (c : Configuration) (path : List ℕ) → Contains s.impossible []
         → route_coverage s c path ≡ route_is.NeverEntered }

@@ -13,11 +13,10 @@ use Rattle.am_config.specs.ConfigFile.{RouteTree, matchers_of, receiver_of, Conf
 use Rattle.am_config.specs.Path.{route_at, leads_through}
 use Rattle.am_eval.specs.World.{World}
 use Rattle.am_eval.specs.Routing.{ends, receiver_at, receivers, MatchesAt, EndsThere}
-use Rattle.am_eval.specs.declared.property.Property.TheVariants.{Any}
 use Rattle.am_eval.specs.declared.reach.Reach.TheVariants.{Ends, Enters}
-use Rattle.am_eval.specs.Question.{Is, Route, holds_of}
+use Rattle.am_eval.specs.Question.{Route, holds_of}
 use Rattle.am_eval.proofs.FlatEnds.{ends_exactly, matched_ends}
-use Rattle.am_eval.proofs.ListTests.{some_passes, passes_among, one_of}
+use Rattle.am_eval.proofs.ListTests.{some_passes, passes_among}
 use Rattle.am_eval.proofs.SimpleParts.{end_from_test, test_from_end}
 
 -- ---- Lists.
@@ -86,13 +85,3 @@ exactly w s path =
 pub itself : (w : World) (s : LabelMap) (path : List ℕ)
     → IsTrue (holds_of w (Route Ends path) s) → IsTrue (holds_of w (Route Enters path) s)
 itself w s path h = (exactly w s path).1 ([], rw (append-nil path) h)
-
-pub same : (w : World) (s : LabelMap) → IsConfig w.config
-    → (IsTrue (holds_of w (Is Any) s) ↔ ((path : List ℕ) × IsTrue (holds_of w (Route Ends path) s)))
-same w s sound = (
-  λ h.
-      let all = ends s w.config in
-      let first = one_of all (somewhere w.config s sound) in
-      (first.0, test_from_end first.0 all (Contains-from_IsIn all first.0 first.1)),
-  λ h. refl,
-)

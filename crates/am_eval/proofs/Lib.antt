@@ -9,12 +9,10 @@ pub mod InhibitionLaws
 pub mod InhibitionExample
 pub mod ChildEnds
 pub mod EndLaws
-pub mod RoutingExamples
 pub mod QuestionSeen
 pub mod FlatEnds
 pub mod AbsentParts
 pub mod SimpleParts
-pub mod SiblingLaws
 pub mod SomeWay
 pub mod RoutePathLaws
 pub mod RouteConditions

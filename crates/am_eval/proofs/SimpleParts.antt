@@ -5,7 +5,7 @@ use Rattle.std.proofs.Common.{Option, Some, None, refl, sym, ap, subst, ◌∙�
 use Rattle.std.specs.Prelude.{IsTrue, option_map, ◌==◌, not, ◌||◌}
 use Rattle.std.specs.List.{filter_map, cons_option, list_any, AllByRecursion}
 use Rattle.std.specs.Cmp.Lexicographic.{bytes_decides}
-use Rattle.std.proofs.lemmas.Bool.{eqb-true, eq-eqb, and_parts, and_from, false≢true}
+use Rattle.std.proofs.lemmas.Bool.{eqb-true, eq-eqb, false≢true}
 use Rattle.std.proofs.lemmas.Map.Views.{Contains-from_any}
 use Rattle.std.proofs.lemmas.Option.{same_Some}
 use Rattle.std.proofs.lemmas.Grind.{common_steps}
@@ -18,10 +18,9 @@ use Rattle.am_config.specs.Path.{route_at}
 use Rattle.am_eval.specs.World.{World}
 use Rattle.am_eval.specs.Routing.{ends, receivers, receiver_at}
 use Rattle.am_eval.specs.Inhibition.{inhibits}
-use Rattle.am_eval.specs.Tree.{Not, And, Or}
 use Rattle.am_eval.specs.declared.property.Property.TheVariants.{Inhibited}
 use Rattle.am_eval.specs.declared.reach.Reach.TheVariants.{Ends}
-use Rattle.am_eval.specs.Question.{Question, Is, Route, Braces, holds_of, satisfies}
+use Rattle.am_eval.specs.Question.{Is, Route, Braces, holds_of}
 use Rattle.am_eval.proofs.ListTests.{all_exactly, some_passes, passes_among}
 
 -- ---- The tests are what they stand for.
@@ -92,25 +91,13 @@ receiver_of_end s c path t h at =
 
 -- ---- Joined questions.
 
-not_true : (b : Bool) → IsTrue (not b) ↔ (IsTrue b → ⊥)
+pub not_true : (b : Bool) → IsTrue (not b) ↔ (IsTrue b → ⊥)
 not_true true = (λ e h. false≢true e, λ none. absurd (none refl))
 not_true false = (λ e h. false≢true h, λ none. refl)
 
-or_true : (a b : Bool) → IsTrue (a || b) ↔ (IsTrue a ⊎ IsTrue b)
+pub or_true : (a b : Bool) → IsTrue (a || b) ↔ (IsTrue a ⊎ IsTrue b)
 or_true true b = (λ e. inl refl, λ h. refl)
 or_true false b = (λ e. inr e, λ h. elim h [ inl e ↦ absurd (false≢true e) | inr e ↦ e ])
-
-pub negated : (w : World) (s : LabelMap) (q : Question)
-    → IsTrue (satisfies w (Not q) s) ↔ (IsTrue (satisfies w q s) → ⊥)
-negated w s q = not_true (satisfies w q s)
-
-pub both : (w : World) (s : LabelMap) (q r : Question)
-    → IsTrue (satisfies w (And q r) s) ↔ (IsTrue (satisfies w q s) × IsTrue (satisfies w r s))
-both w s q r = grind (arith, common_steps, and_parts, and_from)
-
-pub either : (w : World) (s : LabelMap) (q r : Question)
-    → IsTrue (satisfies w (Or q r) s) ↔ (IsTrue (satisfies w q s) ⊎ IsTrue (satisfies w r s))
-either w s q r = or_true (satisfies w q s) (satisfies w r s)
 
 -- ---- Simple parts.
 

@@ -39,6 +39,7 @@ ghost use Rattle.am_eval.specs.Conditions.{literal_holds, some_way_holds, condit
 /// Every alert ends somewhere, because the top-level route matches every label set.
 ///
 /// Each end is the path of a route that matches, and so has a receiver.
+#[tactic(auto, using(crate::proofs::EndLaws::somewhere, crate::proofs::EndLaws::at_routes, crate::proofs::EndLaws::one_receiver_an_end))]
 pub fn every_label_set_ends()
     ensures somewhere { (c : Configuration) (s : LabelMap) → IsConfig c → ends s c ≢ [] }
     ensures at_routes { (c : Configuration) (s : LabelMap) (path : List ℕ)
@@ -60,6 +61,7 @@ pub fn a_route_handles_what_no_child_matches()
 /// of these that lacks `continue`, and matches no child of the last.
 ///
 /// Its ends are in the order of the routes, each once.
+#[tactic(auto, using(crate::proofs::FlatEnds::ends_exactly, crate::proofs::FlatEnds::ends_ascend))]
 pub fn an_alert_ends_where_nothing_stops_it()
     ensures exactly { (s : LabelMap) (t : RouteTree) (path : List ℕ)
         → (Contains (ends_at s t) path ↔ EndsThere s t path) }
@@ -99,6 +101,7 @@ pub fn an_example_of_routing()
 
 /// `not` is true exactly if its question is false, `and` if both are true, and `or` if at least one
 /// is.
+#[tactic(auto, using(crate::proofs::SimpleParts::not_true, crate::proofs::SimpleParts::or_true))]
 pub fn a_joined_question_is_true_as_its_parts_are()
     ensures not { (w : World) (s : LabelMap) (q : Question)
         → IsTrue (satisfies w (Not q) s) ↔ (IsTrue (satisfies w q s) → ⊥) }
@@ -113,6 +116,7 @@ pub fn a_joined_question_is_true_as_its_parts_are()
 /// A receiver: the alert ends at a route that has it. `ends` and a path: the alert ends there.
 /// `inhibited`: by some rule, some firing alert inhibits it. Matchers in braces: each of them
 /// matches it. `any`, `silenced` and `enters` have laws of their own.
+#[tactic(auto, using(crate::proofs::SimpleParts::goes_there, crate::proofs::SimpleParts::ends_there, crate::proofs::SimpleParts::some_inhibits))]
 pub fn a_simple_part_is_true_as_it_says()
     ensures receiver { (w : World) (s : LabelMap) (receiver : ℕ)
         → IsTrue (holds_of w (Receiver receiver) s)
@@ -139,6 +143,7 @@ pub fn an_example_of_ends_and_enters()
 {}
 
 /// A receiver or a route that the configuration does not have makes its part of a question false.
+#[tactic(auto, using(crate::proofs::AbsentParts::no_receiver_there, crate::proofs::AbsentParts::no_route_there))]
 pub fn what_is_not_there_is_false()
     ensures receiver { (w : World) (s : LabelMap) (receiver : ℕ) → IsConfig w.config
         → length w.config.receivers ≤ receiver → IsFalse (holds_of w (Receiver receiver) s) }
@@ -148,6 +153,7 @@ pub fn what_is_not_there_is_false()
 
 /// `enters` is true of a path exactly if the alert ends at the route at the path, or at one below
 /// it.
+#[tactic(auto, using(crate::proofs::EndLaws::itself, crate::proofs::EndLaws::exactly))]
 pub fn ends_are_entered()
     ensures itself { (w : World) (s : LabelMap) (path : List ℕ)
         → IsTrue (holds_of w (Route Ends path) s) → IsTrue (holds_of w (Route Enters path) s) }
@@ -166,6 +172,7 @@ pub fn any_is_every_end()
 /// An alert is silenced exactly if it has a silencer, which is a silence that hides it.
 ///
 /// Its silencers are the positions of the silences that hide it, in order, each once.
+#[tactic(auto, using(crate::proofs::SilenceLaws::some, crate::proofs::SilenceLaws::ascending))]
 pub fn an_alert_is_silenced_by_its_silencers()
     ensures some { (w : World) (s : LabelMap) → IsTrue (is_silenced w s) ↔ (silencers w s ≢ []) }
     ensures exactly { (w : World) (s : LabelMap) (i : ℕ) → (Contains (silencers w s) i
@@ -179,6 +186,7 @@ pub fn an_alert_is_silenced_by_its_silencers()
 ///
 /// A silence is active if it has begun by the instant, and has not ended. Without an instant none
 /// is.
+#[tactic(auto, using(crate::proofs::SilenceLaws::while_one_matches))]
 pub fn an_alert_is_silenced_while_a_silence_matches_it()
     ensures exactly { (w : World) (s : LabelMap) → (IsTrue (holds_of w (Is Silenced) s)
         ↔ ((instant : ℤ) × (silence : Silence) × (w.instant ≡ Some instant)
@@ -188,6 +196,7 @@ pub fn an_alert_is_silenced_while_a_silence_matches_it()
 {}
 
 /// If no silence is active, no alert is silenced. This is so if no instant is given.
+#[tactic(auto, using(crate::proofs::SilenceLaws::inactive, crate::proofs::SilenceLaws::no_instant))]
 pub fn inactive_silences_hide_nothing()
     ensures inactive { (w : World) (s : LabelMap)
         → AllByRecursion (λ silence. IsFalse (is_active w.instant silence)) w.silences
@@ -201,6 +210,7 @@ pub fn inactive_silences_hide_nothing()
 ///
 /// The active silences must be in the same order. So two instants give the same answers if no
 /// silence begins or ends after the first and up to the second, that one included.
+#[tactic(auto, using(crate::proofs::SilenceLaws::same_active, crate::proofs::SilenceLaws::steady))]
 pub fn answers_change_only_where_silences_begin_or_end()
     ensures same_active { (s : Space) (w v : World) (question : Question)
         → w.config ≡ v.config → w.alerts ≡ v.alerts
@@ -227,6 +237,7 @@ pub fn an_example_of_silencing()
 /// By a rule, a firing alert inhibits another exactly if it matches the source side, the other
 /// matches the target side, both have the same values for `equal`, and the two alerts do not both
 /// match both sides.
+#[tactic(auto, using(crate::proofs::InhibitionLaws::as_the_rule_says))]
 pub fn an_alert_inhibits_as_the_rule_says()
     ensures exactly { (rule : Rule) (firing s : LabelMap) → (IsTrue (inhibits rule firing s)
         ↔ (IsTrue (all_hold firing rule.source) × IsTrue (all_hold s rule.target)
@@ -247,6 +258,7 @@ pub fn two_sided_alerts_do_not_inhibit_each_other()
 /// it by that rule.
 ///
 /// Its inhibitors are in order, each once.
+#[tactic(auto, using(crate::proofs::InhibitionLaws::some, crate::proofs::InhibitionLaws::ascending))]
 pub fn an_alert_is_inhibited_by_its_inhibitors()
     ensures some { (w : World) (s : LabelMap)
         → IsTrue (is_inhibited w s) ↔ (inhibitors w s ≢ []) }
@@ -262,6 +274,7 @@ pub fn an_alert_is_inhibited_by_its_inhibitors()
 ///
 /// A pair says whether the target side matches that alert too. What inhibits an alert is among the
 /// pairs.
+#[tactic(auto, using(crate::proofs::PairLemmas::ascending, crate::proofs::Inhibitors::inhibitors_of_pairs))]
 pub fn pairs_are_the_firing_alerts_of_rules()
     ensures exactly { (rules : List Rule) (alerts : List LabelMap) (pair : Pair)
         → (Contains (pairs_of rules alerts) pair
@@ -277,6 +290,7 @@ pub fn pairs_are_the_firing_alerts_of_rules()
 {}
 
 /// If no alert fires, or there is no rule, nothing is inhibited.
+#[tactic(auto, using(crate::proofs::InhibitionLaws::no_alerts))]
 pub fn without_alerts_or_rules_nothing_is_inhibited()
     ensures no_alerts { (w : World) (s : LabelMap) → w.alerts ≡ []
         → IsFalse (is_inhibited w s) }
@@ -311,6 +325,7 @@ pub fn an_example_of_inhibition()
 /// A simple part of a question is true of an alert exactly if its condition is.
 ///
 /// A condition is true if in one of its ways each list is matched, or not matched, as the way says.
+#[tactic(auto, using(crate::proofs::ConditionLaws::exactly))]
 pub fn a_simple_part_is_true_where_its_condition_holds()
     ensures exactly { (w : World) (s : LabelMap) (simple : Simple)
         → holds_of w simple s ≡ some_way_holds (literal_holds s) (conditions_of w simple) }
@@ -320,6 +335,7 @@ pub fn a_simple_part_is_true_where_its_condition_holds()
 /// question.
 ///
 /// The answers are the list of all whole choices of the labels, without those that are not answers.
+#[tactic(auto, using(crate::proofs::AnswerLaws::answers_of_all))]
 pub fn answers_are_the_choices_that_satisfy()
     ensures exactly { (s : Space) (w : World) (question : Question) (choice : List ℕ)
         → (Contains (answers s w question) choice
@@ -330,6 +346,7 @@ pub fn answers_are_the_choices_that_satisfy()
 {}
 
 /// The answers are in declared order, so none occurs twice.
+#[tactic(auto, using(crate::proofs::AnswerLaws::answers_sorted))]
 pub fn answers_ascend()
     ensures ascending { (s : Space) (w : World) (question : Question)
         → IsStrictlySortedBy (slice_cmp nat_cmp) (answers s w question) }

@@ -1,23 +1,13 @@
--- A dead route is entered exactly if a route below it is live.
-use Rattle.std.proofs.Common.{◌≡◌, ◌↔◌, ℕ, List, Contains}
-use Rattle.std.specs.Prelude.{IsTrue}
 use Rattle.am_universe.specs.LabelSet.{label_set_of}
 use Rattle.am_universe.proofs.ListLemmas.{Contains-from_IsIn}
-use Rattle.am_labels.specs.Space.{Space}
-use Rattle.am_config.specs.ConfigFile.{Configuration}
-use Rattle.am_config.specs.Path.{leads_through}
 use Rattle.am_config.specs.RoutePaths.{paths_of}
 use Rattle.am_eval.proofs.EndLaws.{at_routes}
 use Rattle.am_eval.proofs.RoutePathLaws.{is_path}
-use Rattle.am_coverage.specs.declared.coverage.RouteCoverage.TheVariants as route_is
-use Rattle.am_coverage.specs.Coverage.{IsDead, route_coverage}
 use Rattle.am_coverage.proofs.RouteLaws as of_route
+use Rattle.am_coverage.proofs.laws.a_dead_route_is_entered_where_one_below_it_is_live.Goals as goal
 
-pub entered_exactly : (s : Space) (c : Configuration) (path : List ℕ) → IsDead s c path
-    → (route_coverage s c path ≡ route_is.Entered)
-    ↔ ((below choice : List ℕ) × Contains (paths_of c) below × IsTrue (leads_through path below)
-    × (route_coverage s c below ≡ route_is.Live choice))
-entered_exactly s c path dead = (
+pub returns-clause-entered : goal.returns-clause-entered
+returns-clause-entered _ s c path dead = (
   λ e.
       let entry = of_route.first_entered s c path e in
       let end = entry.1.has in
