@@ -1,31 +1,31 @@
--- Calls of `ask` in a row: each goes on with what the one before it left.
+-- Calls of `ask` in a row: each goes on with what the one before it left, and begins later, so they
+-- come to an end.
 use Rattle.std.proofs.Common.{◌≡◌, inr, ℕ, List, [], ◌∷◌, ◌++◌, Option, None, Some, arith}
-use Rattle.std.proofs.Common.{MatchOption, ap, sym, ◌∙◌, refl}
+use Rattle.std.proofs.Common.{MatchOption, ap, sym, ◌∙◌, refl, suc, ◌-◌, ◌<◌, ◌≤◌, length, subst}
 use Rattle.std.specs.Prelude.{option_map}
 use Rattle.std.specs.List.{flat_map}
-use Rattle.std.proofs.lemmas.Grind.{flat_map-append}
-use Rattle.std.proofs.lemmas.Grind.{common_steps}
+use Rattle.std.proofs.lemmas.Grind.{flat_map-append, common_steps}
 use mathlib.Core.List.{append_cancel_right}
 use Rattle.am_universe.specs.Universe.{sizes}
 use Rattle.am_labels.specs.Space.{Space}
 use Rattle.am_eval.specs.World.{World}
 use Rattle.am_eval.specs.Question.{Question, is_answer}
 use Rattle.am_search.specs.declared.start.Start.{Start}
-use Rattle.am_search.specs.declared.trailer.Trailer.TheVariants.{End}
-use Rattle.am_search.specs.Start.{answers_from}
+use Rattle.am_search.specs.Start.{answers_from, choices_from}
 use Rattle.am_search.specs.Page.{AnswerPage, rest_after, start_after, answers_from_any}
-use Rattle.am_search.specs.BudgetPage.{IsSearchPage}
+use Rattle.am_search.specs.BudgetPage.{IsSearchPage, BeginsLater}
 use Rattle.am_search.specs.Token.{token_text}
 use Rattle.am_search.specs.PageText.{lines_text}
 use Rattle.am_search.proofs.TokenTexts.{sizes_of_universe}
-use Rattle.am_search.proofs.SearchChains.{goes_on}
+use Rattle.am_search.proofs.SearchChains.{goes_on, later_fewer, later_some}
 use Rattle.am_plans.specs.Verdicts.{verdict_of}
 use Rattle.am_questions.specs.Inputs.{Inputs, inputs_fingerprint, after_token, AcceptsInputs}
 use Rattle.am_questions.proofs.OneInputs.{one_meaning_of_inputs}
-use Rattle.am_commands.specs.AskOutcome.{answer_page, searched_page, Asked}
-use Rattle.am_commands.specs.AskOutcome.{IsAskedOf, AreAskedInARow}
+use Rattle.am_commands.specs.AskOutcome.{answer_page, searched_page, Asked, IsAskedOf}
+use Rattle.am_commands.specs.AskOutcome.{AreAskedInARow, AreAskedSoFar}
 use Rattle.am_plans.proofs.Soundness.{question_judges}
 use Rattle.am_commands.proofs.AskedPages.{enough_for, page_unlimited}
+use Rattle.am_universe.specs.Choice.{choices}
 
 -- the lines of the answers from a start on
 abbrev pub lines_left : Space → World → Question → Start → List ℕ
@@ -90,11 +90,11 @@ module _ (inputs : Inputs) (asked : Asked) (h : IsAskedOf inputs asked) where
   lines_and_rest = grind (arith, common_steps, page_lines, flat_map-append)
 
   -- without a limit and without a budget it writes all answers from its start on
-  whole_page : asked.limit ≡ None → asked.steps ≡ None
+  pub whole_page : asked.limit ≡ None → asked.steps ≡ None
       → page ≡ answer_page h.2.space h.2.world h.2.question h.2.start None
   whole_page unlimited unbudgeted = grind (arith, common_steps, page_unlimited)
 
-  whole_lines : asked.limit ≡ None → asked.steps ≡ None → asked.lines ≡ left h.2.start
+  pub whole_lines : asked.limit ≡ None → asked.steps ≡ None → asked.lines ≡ left h.2.start
   whole_lines unlimited unbudgeted =
       page_lines ∙ ap (λ p. lines_text h.2.space.labels p.choices) (whole_page unlimited unbudgeted)
 
@@ -124,33 +124,64 @@ lines_of_row inputs (asked ∷ more) s w q start h accepts =
     by None ends none goes = ap (flat_map (λ (asked : Asked). asked.lines)) none
     by (Some next) ends again goes = goes next ends again
 
--- the lines of calls in a row are those of one call without a limit and without a budget
-pub row_is_one_page : (inputs : Inputs) (row : List Asked) (whole : Asked)
-    → AreAskedInARow inputs row → IsAskedOf inputs whole → whole.limit ≡ None
-    → whole.steps ≡ None → flat_map (λ (asked : Asked). asked.lines) row ≡ whole.lines
-row_is_one_page inputs row whole h one unlimited unbudgeted =
-    lines_of_row inputs row one.2.space one.2.world one.2.question one.2.start h one.2.accepts
-    ∙ sym (whole_lines inputs whole one unlimited unbudgeted)
+-- ---- They come to an end.
 
--- a call with the token of a trailer, without a limit and without a budget, writes what that
--- trailer left
-pub again_ends : (inputs : Inputs) (first second : Asked) (next : Start) → IsAskedOf inputs first
-    → start_after first.trailer ≡ Some next
-    → IsAskedOf (after_token inputs (token_text (inputs_fingerprint inputs) next)) second → second.limit ≡ None
-    → second.steps ≡ None → second.trailer ≡ End
-again_ends inputs first second next asked ends again unlimited unbudgeted = grind (arith, common_steps, whole_page)
+-- the start that the trailer of a call leaves is later than the start of the call
+pub goes_later : (inputs : Inputs) (asked : Asked) (next : Start) (h : IsAskedOf inputs asked)
+    → start_after asked.trailer ≡ Some next → BeginsLater (sizes h.2.space.labels) h.2.start next
+goes_later inputs asked next h ends =
+    let s : Space = h.2.space in
+    let page = searched_page s h.2.world h.2.question h.2.start asked.limit asked.steps in
+    (goes_on (sizes s.labels) (is_answer s h.2.world h.2.question)
+    (verdict_of s h.2.world h.2.question) h.2.start page
+    (question_judges s h.2.world h.2.question h.2.accepts.says_universe.3.is_universe)
+    (asked_page inputs asked h) next (ap start_after (sym h.2.trailer_is) ∙ ends)).later
 
-pub again_writes : (inputs : Inputs) (first second : Asked) (next : Start)
-    → (asked : IsAskedOf inputs first) → start_after first.trailer ≡ Some next
-    → IsAskedOf (after_token inputs (token_text (inputs_fingerprint inputs) next)) second → second.limit ≡ None
-    → second.steps ≡ None → second.lines
-    ≡ lines_text asked.2.space.labels
-    (rest_after (sizes asked.2.space.labels)
-    (is_answer asked.2.space asked.2.world asked.2.question) first.trailer)
-again_writes inputs first second next asked ends again unlimited unbudgeted =
-    whole_lines (after_token inputs (token_text (inputs_fingerprint inputs) next)) second again unlimited unbudgeted
-    ∙ same_lines (after_token inputs (token_text (inputs_fingerprint inputs) next)) again.2.space asked.2.space
-    again.2.world asked.2.world again.2.question asked.2.question again.2.start next
-    again.2.accepts (asked_goes_on inputs first asked next ends)
-    ∙ ap (λ o. lines_text asked.2.space.labels (answers_from_any (sizes asked.2.space.labels)
-    (is_answer asked.2.space asked.2.world asked.2.question) o)) (sym ends)
+-- the number of choices from a start on
+abbrev pub left_from : Space → Start → ℕ
+left_from s start = length (choices_from (sizes s.labels) start)
+
+-- there are at most as many calls in a row as choices from the first start on, or one call; and if
+-- there are as many, they have ended
+pub row_within : (inputs : Inputs) (row : List Asked) (s : Space) (w : World) (q : Question)
+    (start : Start) → AreAskedSoFar inputs row → AcceptsInputs inputs s w q start
+    → (n : ℕ) → 0 < n → left_from s start ≤ n
+    → (length row ≤ n) × (n ≤ length row → AreAskedInARow inputs row)
+row_within inputs [] s w q start h accepts n some within =
+    (omega arith, λ full. absurd (omega (arith, some, full)))
+row_within inputs (asked ∷ more) s w q start h accepts n some within =
+    by (start_after asked.trailer) refl h.1 (λ next ends k. row_within
+    (after_token inputs (token_text (inputs_fingerprint inputs) next)) more h.0.2.space
+    h.0.2.world h.0.2.question next k (asked_goes_on inputs asked h.0 next ends))
+  where
+    Follows : (Inputs → List Asked → Type 0) → Option Start → Type 0
+    Follows IsRow o =
+        MatchOption (option_map (token_text (inputs_fingerprint inputs)) o) (more ≡ [])
+        (λ token. IsRow (after_token inputs token) more)
+
+    same_left : left_from h.0.2.space h.0.2.start ≡ left_from s start
+    same_left =
+        let same = one_meaning_of_inputs inputs h.0.2.space s h.0.2.world w h.0.2.question q
+        h.0.2.start start h.0.2.accepts accepts in
+        λ k. left_from (same.0 k) (same.3 k)
+
+    by : (o : Option Start) → start_after asked.trailer ≡ o → Follows AreAskedSoFar o
+        → ((next : Start) → start_after asked.trailer ≡ Some next
+        → AreAskedSoFar (after_token inputs (token_text (inputs_fingerprint inputs) next)) more
+        → (m : ℕ) → 0 < m → left_from h.0.2.space next ≤ m
+        → (length more ≤ m) × (m ≤ length more
+        → AreAskedInARow (after_token inputs (token_text (inputs_fingerprint inputs) next)) more))
+        → (length (asked ∷ more) ≤ n) × (n ≤ length (asked ∷ more) → AreAskedInARow inputs (asked ∷ more))
+    by None ends none goes =
+        (omega (arith, ap length none), λ full. (h.0, subst (Follows AreAskedInARow) (sym ends) none))
+    by (Some next) ends again goes =
+        let ns : List ℕ = sizes h.0.2.space.labels in
+        let later = goes_later inputs asked next h.0 ends in
+        let fewer = later_fewer ns h.0.2.start next later in
+        let some_left = later_some ns h.0.2.start next later in
+        let less : suc (n - 1) ≡ n = omega arith in
+        let rest = goes next ends again (n - 1) (omega (arith, fewer, same_left, some_left, within))
+        (omega (arith, fewer, same_left, within)) in (
+          omega (arith, rest.0, less),
+          λ full. (h.0, subst (Follows AreAskedInARow) (sym ends) (rest.1 (omega (arith, full, less)))),
+        )

@@ -1,13 +1,10 @@
 -- Pages of the answers to a question.
-use Rattle.std.proofs.Common.{◌≡◌, ◌≢◌, ℕ, ◌<◌, Bool, List, [], ◌∷◌, ◌++◌, Option, None, Some, IfSome, ap, sym, ◌∙◌, refl, arith}
+use Rattle.std.proofs.Common.{◌≡◌, ◌≢◌, ℕ, ◌<◌, List, ◌++◌, Option, None, Some, IfSome, ap, sym, ◌∙◌, refl, arith}
 use Rattle.std.specs.Prelude.{IsTrue}
-use Rattle.std.specs.List.{filter, flat_map}
-use Rattle.std.proofs.lemmas.Grind.{flat_map-append}
-use Rattle.std.proofs.lemmas.Grind.{common_steps}
+use Rattle.std.specs.List.{filter}
 use Rattle.am_universe.specs.declared.limits.TheConstants.{MAX_LABELS}
-use Rattle.am_universe.specs.Universe.{Label, IsUniverse, sizes}
+use Rattle.am_universe.specs.Universe.{IsUniverse, sizes}
 use Rattle.am_universe.specs.Choice.{admits}
-use Rattle.am_universe.specs.WrittenLabelSet.{line}
 use Rattle.am_labels.specs.Space.{Space}
 use Rattle.am_eval.specs.World.{World}
 use Rattle.am_eval.specs.Question.{Question, is_answer}
@@ -17,20 +14,17 @@ use Rattle.am_search.specs.declared.trailer.Trailer.TheVariants.{End, Next, Stop
 use Rattle.am_search.specs.declared.verdict.Verdict.{Verdict}
 use Rattle.am_search.specs.Judge.{AreSizes}
 use Rattle.am_search.specs.Start.{comes_before, answers_from}
-use Rattle.am_search.specs.Page.{AnswerPage, page_from, rest_after, IsChain, all_choices_of}
-use Rattle.am_search.specs.BudgetPage.{page_under, IsEnough, IsSearchChain}
-use Rattle.am_search.specs.PageText.{lines_text, page_text}
-use Rattle.am_search.specs.TrailerText.{trailer_text}
-use Rattle.am_search.proofs.Pages.{chain_joined}
+use Rattle.am_search.specs.Page.{rest_after}
+use Rattle.am_search.specs.BudgetPage.{page_under, IsEnough}
+use Rattle.am_search.specs.PageText.{page_text}
 use Rattle.am_search.proofs.BudgetPages.{same_unstopped, same_next, same_end, stopped_before, rest_under}
-use Rattle.am_search.proofs.SearchChains.{search_chain_joined}
 use Rattle.am_search.proofs.SameVerdicts.{same_page}
 use Rattle.am_plans.specs.Verdicts.{verdict_of}
 use Rattle.am_plans.proofs.Soundness.{question_judges}
 use Rattle.am_questions.specs.declared.inputs.AcceptedInputs.{AcceptedInputs}
 use Rattle.am_questions.specs.Inputs.{Inputs, inputs_fingerprint, AcceptsInputs}
 use Rattle.am_eval.specs.QuestionView.{question_view}
-use Rattle.am_commands.specs.AskOutcome.{AnswersInputs, IsAskedOf, answer_page, searched_page}
+use Rattle.am_commands.specs.AskOutcome.{AnswersInputs, answer_page, searched_page}
 use Rattle.am_commands.specs.AskOutcome.{page_of_inputs, page_promise}
 
 -- ---- The search for the answers to a question.
@@ -76,23 +70,6 @@ page_unlimited s w q start limit steps is none =
     ap (searched_page s w q start limit) none
     ∙ same_unstopped (sizes s.labels) (is_answer s w q) (verdict_of s w q) start (question_judges s w q is) limit None refl
 
--- ---- Pages in a row.
-
--- the lines of pages, joined, are the lines of all their choices
-lines_of_pages : (u : List Label) (pages : List AnswerPage) → flat_map (λ page. lines_text u page.choices) pages ≡ lines_text u (all_choices_of pages)
-lines_of_pages u [] = refl
-lines_of_pages u (page ∷ pages) = ap (λ rest. lines_text u page.choices ++ rest) (lines_of_pages u pages) ∙ sym (flat_map-append (line u) page.choices (all_choices_of pages))
-
-pub lines_of_chain : (u : List Label) (answer : List ℕ → Bool) (start : Start) (pages : List AnswerPage) → IsChain (sizes u) answer start pages
-    → flat_map (λ page. lines_text u page.choices) pages ≡ lines_text u (page_from (sizes u) answer start None).choices
-lines_of_chain u answer start pages h = lines_of_pages u pages ∙ ap (lines_text u) (chain_joined (sizes u) answer start pages h)
-
-pub lines_of_search_chain : (s : Space) (w : World) (q : Question) (start : Start) (pages : List AnswerPage) → IsUniverse s.labels → IsSearchChain (sizes s.labels) (verdict_of s w q) start pages
-    → flat_map (λ page. lines_text s.labels page.choices) pages ≡ lines_text s.labels (page_from (sizes s.labels) (is_answer s w q) start None).choices
-lines_of_search_chain s w q start pages is h =
-    lines_of_pages s.labels pages
-    ∙ ap (lines_text s.labels) (search_chain_joined (sizes s.labels) (is_answer s w q) (verdict_of s w q) start pages (question_judges s w q is) h)
-
 -- the page that is owed after the inputs are read is that of the inputs
 pub page_of_read : (inputs : Inputs) (read : AcceptedInputs) (limit steps : Option ℕ) (trailer : Trailer) (text : List ℕ)
     → AcceptsInputs inputs read.space read.world (question_view read.question) read.start → read.fingerprint ≡ inputs_fingerprint inputs
@@ -119,10 +96,3 @@ page_of_read inputs read limit steps trailer text accepts made_from some enough 
       unstopped = unstopped_page s read.world q read.start limit steps trailer universe some is.0;
       stopped = stopped_page s read.world q read.start limit steps trailer universe some is.0;
     }
-
--- what a call writes is lines and its trailer, so the laws of calls in a row apply to it
-pub asked_from : (inputs : Inputs) (limit steps : Option ℕ) (trailer : Trailer) (text : List ℕ)
-    → IfSome limit (λ n. 0 < n) → IfSome steps (λ n. MAX_LABELS < n) → AnswersInputs inputs limit steps trailer text
-    → (lines : List ℕ) × IsAskedOf inputs (record { limit = limit; steps = steps; lines = lines; trailer = trailer })
-    × (text ≡ lines ++ trailer_text (inputs_fingerprint inputs) trailer)
-asked_from inputs limit steps trailer text some enough answered = grind (arith, common_steps)

@@ -45,9 +45,8 @@ ghost use Rattle.am_classes.specs.declared.alphabet.Alphabet.TheVariants.{Unicod
 ghost use Rattle.am_complete.specs.Complete.{IsSpaceComplete};
 ghost use Rattle.am_complete.specs.Covering.{HasTextsOver};
 ghost use Rattle.am_coverage.specs.declared.coverage.RouteCoverage.TheVariants as route_is;
-ghost use Rattle.am_coverage.specs.declared.coverage.ReceiverCoverage.TheVariants as receiver_is;
 ghost use Rattle.am_coverage.specs.Coverage.{IsDead, IsNeverEntered, IsUnmatched, route_coverage};
-ghost use Rattle.am_coverage.specs.Coverage.{receiver_coverage};
+ghost use Rattle.am_coverage.specs.Coverage.{first_receipt};
 ghost use Rattle.am_every_alert.specs.EveryAlert.{IsAlertOf, NoAlertEndsAt, NoAlertEnters};
 ghost use Rattle.am_every_alert.specs.EveryAlert.{NoAlertGoesTo};
 ghost use Rattle.am_every_alert.specs.Deciding.{coverage_conditions};
@@ -235,7 +234,7 @@ pub fn a_route_is_live_in_any_universe()
         × IsTrue (leads_through path end) }
     ensures receiver { (a : Alphabet) (s : Space) (c : Configuration) (receiver : ℕ)
         (choice : List ℕ) → IsUniverse s.labels → HasTextsOver a s.labels
-        → receiver_coverage s c receiver ≡ receiver_is.Live choice
+        → first_receipt s c receiver ≡ Some choice
         → (alert : LabelMap) × IsAlertOf a s alert × Contains (receivers alert c) receiver }
 {}
 

@@ -1,9 +1,7 @@
 pub mod ListTests
 pub mod AnswerLaws
 pub mod SilenceLaws
-pub mod SilenceSteps
 pub mod PairLemmas
-pub mod PairSteps
 pub mod Inhibitors
 pub mod InhibitionLaws
 pub mod InhibitionExample

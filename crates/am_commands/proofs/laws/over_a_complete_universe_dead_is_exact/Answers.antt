@@ -1,17 +1,18 @@
+use Rattle.am_classes.specs.declared.alphabet.Alphabet.TheVariants.{Unicode}
+use Rattle.am_every_alert.proofs.JsonData.{universe_texts}
 use Rattle.am_commands.proofs.EveryAlert.{dead_exactly, never_exactly, unmatched_exactly}
-use Rattle.am_commands.proofs.EveryAlert.{dead_in_file, never_in_file, unmatched_in_file}
 use Rattle.am_commands.proofs.laws.over_a_complete_universe_dead_is_exact.Goals as goal
 
 pub returns : goal.returns
-returns c = record {
-  dead = λ bytes path s config says complete. dead_in_file bytes s config says complete path;
-  never_entered = λ bytes path s config says complete.
-      never_in_file bytes s config says complete path;
-  unmatched = λ bytes s config receiver says complete.
-      unmatched_in_file bytes s config says complete receiver;
-  dead_over = λ a s config path h texts complete. dead_exactly a s config h texts complete path;
-  never_entered_over = λ a s config path h texts complete.
-      never_exactly a s config h texts complete path;
-  unmatched_over = λ a s config receiver h texts complete.
-      unmatched_exactly a s config h texts complete receiver;
+returns _ = record {
+  dead = λ file path s c says complete.
+      dead_exactly Unicode s c says.3.is_universe (universe_texts file s says) complete path;
+  never_entered = λ file path s c says complete.
+      never_exactly Unicode s c says.3.is_universe (universe_texts file s says) complete path;
+  unmatched = λ file s c receiver says complete.
+      unmatched_exactly Unicode s c says.3.is_universe (universe_texts file s says) complete receiver;
+  dead_over = λ a s c path h texts complete. dead_exactly a s c h texts complete path;
+  never_entered_over = λ a s c path h texts complete. never_exactly a s c h texts complete path;
+  unmatched_over = λ a s c receiver h texts complete.
+      unmatched_exactly a s c h texts complete receiver;
 }

@@ -1,8 +1,7 @@
 -- What is written is a report on what the files say.
-use Rattle.std.proofs.Common.{map, ap, ◌∙◌, arith}
+use Rattle.std.proofs.Common.{◌∙◌, arith}
 use Rattle.std.proofs.lemmas.Grind.{common_steps}
 use Rattle.am_config.specs.ConfigView.{config_view}
-use Rattle.am_coverage.specs.CoverageView.{found_view}
 use Rattle.am_coverage.proofs.ReportFacts.{routes_reported}
 use Rattle.am_files.proofs.Promises.{refused, written, nothing_told}
 use Rattle.am_commands.specs.Reports.{dead_promise}
@@ -26,7 +25,7 @@ returns g c =
             configuration = config_view read.config;
             accepts = c.in_ok-read.ensures.accepts;
             reports = routes_reported read.space (config_view read.config) _
-                (ap (map found_view) c.as_slice.ensures.value ∙ c.in-Ok.ensures.routes);
+                (c.as_slice.ensures.value ∙ c.in-Ok.ensures.routes);
           })
           (nothing_told c.write_routes-written.result) (rw (← c.universe.ensures.labels) c.write_routes-written.ensures.written)
           c.answer_of_write.ensures.answer;

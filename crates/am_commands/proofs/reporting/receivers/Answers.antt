@@ -1,7 +1,5 @@
--- Each receiver of the configuration has a result, and what is written is a report on what the
--- files say.
+-- What is written is a report on what the files say.
 use Rattle.std.proofs.Common.{◌∙◌, arith}
-use Rattle.std.proofs.lemmas.List.FromFn.{length-map-range_with_len}
 use Rattle.std.proofs.lemmas.Grind.{common_steps}
 use Rattle.am_config.specs.ConfigView.{config_view}
 use Rattle.am_coverage.proofs.ReportFacts.{receivers_reported}
@@ -9,12 +7,9 @@ use Rattle.am_files.proofs.Promises.{refused, written, nothing_told}
 use Rattle.am_commands.specs.Reports.{receivers_promise}
 use Rattle.am_commands.proofs.reporting.receivers.Goals as goal
 
-pub write_receivers-written-requires-clause-each : goal.write_receivers-written-requires-clause-each
-write_receivers-written-requires-clause-each g c = grind (arith, common_steps, length-map-range_with_len)
-
-pub write_receivers-written-requires-clause-reached : goal.write_receivers-written-requires-clause-reached
-write_receivers-written-requires-clause-reached g c =
-    rw (c.as_slice.ensures.value, c.universe.ensures.labels) c.in-Ok.ensures.shown
+pub write_receivers-written-requires : goal.write_receivers-written-requires
+write_receivers-written-requires g c =
+    record { shown = rw (c.as_slice.ensures.value, c.universe.ensures.labels) c.in-Ok.ensures.shown }
 
 pub returns-in_err-read : goal.returns-in_err-read
 returns-in_err-read g c = grind (arith, common_steps, refused)

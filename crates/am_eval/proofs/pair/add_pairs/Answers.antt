@@ -1,11 +1,21 @@
-use Rattle.std.proofs.Common.{◌≡◌, ℕ, true, false, sym, ap, ◌∙◌}
+use Rattle.std.proofs.Common.{◌≡◌, ◌<◌, ℕ, List, [], ◌∷◌, ◌++◌, length, true, false, sym, ap, ◌∙◌}
+use Rattle.std.proofs.Common.{append_assoc, arith}
+use Rattle.std.proofs.lemmas.List.{length-append}
 use Rattle.std.proofs.lemmas.Result.{err_from_is_err_and}
+use Rattle.am_universe.proofs.Members.{left_at}
 use Rattle.am_labels.specs.Matcher.{all_hold}
 use Rattle.am_config.specs.ConfigFile.{Rule}
 use Rattle.am_eval.specs.declared.limits.TheConstants.{MAX_PAIRS}
-use Rattle.am_eval.proofs.PairSteps.{no_pair, one_pair, one_too_many, pair_of_sides}
+use Rattle.am_eval.specs.declared.pair.Pair.{Pair}
+use Rattle.am_eval.specs.Pairs.{pair_of}
 use Rattle.am_eval.proofs.pair.add_pairs.Goals as goal
 use Rattle.am_eval.proofs.pair.add_pairs.Goals.{in-Some+in_ok-add_pair, in_default}
+
+-- if there are as many pairs as there may be, one more is too many
+one_too_many : (found left all : List Pair) (pair : Pair) (n : ℕ) → length found ≡ n
+    → found ++ pair ∷ left ≡ all → n < length all
+one_too_many found left all pair n full e =
+    omega (arith, full, ap length e, length-append found (pair ∷ left))
 
 pub returns-in_err-add_pair-clause-limit : goal.returns-in_err-add_pair-clause-limit
 returns-in_err-add_pair-clause-limit c =
@@ -14,18 +24,20 @@ returns-in_err-add_pair-clause-limit c =
     let some = rw c.in-Some.is at c.in_ok-pair.ensures.matched in
     let passes : all_hold c.get.result.now c.args.rule.now.source ≡ true =
     ap (all_hold c.get.result.now) (sym c.loop-i.invariant.source) ∙ sym some in
-    rw (p.1, p.2) (λ other. let full = c.in_err-add_pair.ensures.limit other in (
+    let here = left_at c.args.alerts.now c.loop-i.i c.get.result.now c.get.ensures.alert in
+    rw (p.1, p.2) (λ other.
+    let full = c.in_err-add_pair.ensures.limit other in (
       full.0,
-      one_too_many (c.args.position, c.args.rule.now) c.loop-i.found.items _ c.args.alerts.now
-          c.loop-i.i MAX_PAIRS c.get.ensures.alert passes full.1 c.loop-i.invariant.together,
+      one_too_many c.loop-i.found.items _ _ _ MAX_PAIRS full.1
+          (rw (here, passes) at c.loop-i.invariant.together),
     ))
 
+-- what is left is the alert at the position and the alerts after it
 pub loop-i-preserved : goal.loop-i-preserved
 loop-i-preserved c =
     let rule : ℕ × Rule = (c.args.position, c.args.rule.now) in
-    let found = c.loop-i.found.items in
     let alert = c.get.result.now in
-    let here = c.get.ensures.alert in
+    let here = left_at c.args.alerts.now c.loop-i.i alert c.get.ensures.alert in
     let kept = c.loop-i.invariant in
     let source = ap (all_hold alert) (sym kept.source) in
     let same = c.in_ok-pair.ensures.same in
@@ -36,12 +48,16 @@ loop-i-preserved c =
       | in-Some+in_ok-add_pair w ↦
           let passes : all_hold alert rule.1.source ≡ true =
           source ∙ sym (rw w.in-Some.is at c.in_ok-pair.ensures.matched) in
-          let says = rw w.in-Some.is at c.in_ok-pair.ensures.pair in
+          let pair : w.in-Some.pair ≡ pair_of rule (c.loop-i.i, alert) =
+          (rw w.in-Some.is at c.in_ok-pair.ensures.pair) ∙ (λ k. record {
+            rule = kept.rule k;
+            alert = c.loop-i.i;
+            both = all_hold alert (kept.target k);
+          }) in
           rw w.found-is (record {
-            together = rw w.in_ok-add_pair.ensures.added
-                (one_pair rule found c.args.alerts.now c.loop-i.i w.in-Some.pair here passes
-                (pair_of_sides rule c.loop-i.i alert w.in-Some.pair kept.rule kept.target says)
-                ∙ kept.together);
+            together = rw (w.in_ok-add_pair.ensures.added, pair)
+                (append_assoc c.loop-i.found.items (pair_of rule (c.loop-i.i, alert) ∷ []) _
+                ∙ (rw (here, passes) at kept.together));
             few = w.in_ok-add_pair.ensures.few;
             rule = rule_kept;
             source = source_kept;
@@ -51,7 +67,7 @@ loop-i-preserved c =
           let fails : all_hold alert rule.1.source ≡ false =
           source ∙ sym (rw w.in_default.is at c.in_ok-pair.ensures.matched) in
           rw w.found-is (record {
-            together = no_pair rule found c.args.alerts.now c.loop-i.i here fails ∙ kept.together;
+            together = rw (here, fails) at kept.together;
             few = kept.few;
             rule = rule_kept;
             source = source_kept;

@@ -1,15 +1,14 @@
-use Rattle.std.proofs.Common.{◌≡◌, ◌+◌, map, drop, arith, false, true, sym}
-use Rattle.std.proofs.Common.{◌∙◌}
-use Rattle.std.proofs.lemmas.List.{length-append}
+use Rattle.std.proofs.Common.{◌≡◌, ◌+◌, arith, false, true, sym}
+use Rattle.std.proofs.Common.{◌∙◌, append_assoc}
+use Rattle.std.proofs.lemmas.List.{length-append, append-nil, map-append}
 use Rattle.std.proofs.lemmas.Grind.{common_steps}
 use Rattle.am_labels.specs.Matcher.{all_hold}
 use Rattle.am_config.specs.ConfigFile.{matchers_of, continues_of}
 use Rattle.am_config.specs.RouteView.{route_view}
 use Rattle.am_json.proofs.Items.{left_is}
-use Rattle.am_eval.specs.Routing.{is_last}
-use Rattle.am_config.proofs.RouteLists.{child_within}
-use Rattle.am_eval.proofs.ChildEnds.{is_last-true, is_last-goes_on, is_last-unmatched, one_more}
-use Rattle.am_eval.proofs.ChildEnds.{last_one}
+use Rattle.am_eval.specs.Routing.{ends_at, is_last}
+use Rattle.am_config.proofs.RouteLists.{child_within, paths_below}
+use Rattle.am_eval.proofs.ChildEnds.{is_last-true, is_last-goes_on, is_last-unmatched}
 use Rattle.am_eval.proofs.routing.+ends.Goals as goal
 
 pub add_ends_of_children-overflow_cast-position : goal.add_ends_of_children-overflow_cast-position
@@ -35,13 +34,11 @@ add_ends_of_children-loop-position-preserved t c =
       | goal.add_ends_of_children-else-matches-via-else-matches w ↦
           is_last-unmatched c.args.set.now (route_view child) (sym matched ∙ w.if-matches.false)
     ] in
-    one_more c.args.set.now c.args.path c.child.result l.position (route_view child)
-    (map route_view (drop l.position c.args.children.now))
-    (map route_view (drop (l.position + 1) c.args.children.now)) l.found.items
-    c.add_ends.new.found.items _
-    (left_is route_view c.args.children.now l.position child c.loop-position-test.true
-    c.index-children-position.is) c.child.ensures.steps c.in_ok-matches.ensures.added last
-    l.invariant
+    let left = left_is route_view c.args.children.now l.position child c.loop-position-test.true
+    c.index-children-position.is in
+    let below = paths_below c.args.path l.position (ends_at c.args.set.now (route_view child)) in
+    rw (c.in_ok-matches.ensures.added, c.child.ensures.steps, below, append_assoc)
+    (rw (left, last, map-append) at l.invariant)
 
 pub add_ends_of_children-returns-then-not-continues :
     goal.add_ends_of_children-returns-then-not-continues
@@ -52,12 +49,11 @@ add_ends_of_children-returns-then-not-continues t c =
     sym c.in_ok-matches.ensures.matches ∙ c.if-matches.true in
     let stops : continues_of (route_view child) ≡ false =
     sym c.continues.ensures.continues ∙ c.if-not-continues.true in
+    let left = left_is route_view c.args.children.now l.position child c.loop-position-test.true
+    c.index-children-position.is in
+    let last = is_last-true c.args.set.now (route_view child) matched stops in
+    let below = paths_below c.args.path l.position (ends_at c.args.set.now (route_view child)) in
     record {
-      added = last_one c.args.set.now c.args.path c.child.result l.position (route_view child)
-          (map route_view (drop l.position c.args.children.now))
-          (map route_view (drop (l.position + 1) c.args.children.now)) l.found.items
-          c.add_ends.new.found.items _
-          (left_is route_view c.args.children.now l.position child c.loop-position-test.true
-          c.index-children-position.is) c.child.ensures.steps c.in_ok-matches.ensures.added
-          (is_last-true c.args.set.now (route_view child) matched stops) l.invariant;
+      added = rw (c.in_ok-matches.ensures.added, c.child.ensures.steps, below)
+          (rw (left, last, append-nil) at l.invariant);
     }
