@@ -1,5 +1,3 @@
 mod Truths
 mod Ids
 pub mod ListedSteps
-mod FoundSteps
-mod AlertLaws

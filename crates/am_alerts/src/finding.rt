@@ -1,6 +1,6 @@
 //! The search for the alerts of which a question is true.
 
-ghost use Rattle.std.specs.Prelude.{◌≡◌, ◌<◌, ◌++◌, [], map, length, IfOk, OnOk, slice_get};
+ghost use Rattle.std.specs.Prelude.{◌≡◌, ◌<◌, map, IfOk};
 ghost use Rattle.am_eval.specs.QuestionView.{question_view};
 ghost use Rattle.am_alerts.specs.FoundView.{line_view};
 ghost use Rattle.am_alerts.specs.AlertLines.{lines_of};

@@ -1,12 +1,11 @@
 //! The lines of alerts.
 #![tactic(auto, using(crate::proofs::ListedSteps::listed_steps))]
 
-ghost use Rattle.std.specs.Prelude.{◌≡◌, ◌++◌, ◌==◌, [], List, ℕ, codes, decimal, slice_get};
+ghost use Rattle.std.specs.Prelude.{◌≡◌, ◌++◌, ◌==◌, [], codes, decimal, slice_get};
 ghost use Rattle.std.specs.Prelude.{unwrap_or, if◌then◌else◌};
 ghost use Rattle.std.specs.List.{flat_map};
 ghost use Rattle.am_universe.specs.Sink.{Writes};
 ghost use Rattle.am_config.specs.ConfigView.{config_view};
-ghost use Rattle.am_alerts.specs.SilenceIds.{called};
 ghost use Rattle.am_alerts.specs.FoundView.{found_text};
 ghost use Rattle.am_alerts.specs.AlertLines.{listed, receiver_text, silence_text, inhibitor_text};
 

@@ -1,7 +1,8 @@
 -- What was read is accepted, and what was found is what is written.
-use Rattle.std.proofs.Common.{◌≡◌, ℕ, List, [], ◌∷◌, ◌++◌, Option, map, inl, refl, ap, ◌∙◌, codes}
+use Rattle.std.proofs.Common.{◌≡◌, ℕ, List, [], ◌∷◌, ◌++◌, Option, map, inl, refl, sym, ap, ◌∙◌, codes}
 use Rattle.std.specs.Prelude.{option_copied}
 use Rattle.std.specs.List.{flat_map}
+use Rattle.std.proofs.lemmas.List.Folds.{flat_map-map}
 use Rattle.am_json.specs.Reading.{refusal_of}
 use Rattle.am_config.specs.ConfigFile.{Configuration}
 use Rattle.am_config.specs.ConfigView.{config_view}
@@ -29,13 +30,8 @@ text_of_found : (w : World) (q : Question) (file : Option (List ℕ)) (config : 
     → flat_map (found_text config ids) found ++ codes "# end\n"
     ≡ lines_text w.config (ids_of_file file) (lines_of w q)
 text_of_found w q file config ids found all c i f is =
-    ap (λ text. text ++ codes "# end\n") (one_by_one found)
+    ap (λ text. text ++ codes "# end\n") (sym (flat_map-map (line_text config ids) line_view found))
     ∙ (λ k. lines_text (c k) (i k) ((ap (map line_view) f ∙ is) k))
-  where
-    one_by_one : (some : List Found) → flat_map (found_text config ids) some
-        ≡ flat_map (line_text config ids) (map line_view some)
-    one_by_one [] = refl
-    one_by_one (alert ∷ others) = ap (λ text. found_text config ids alert ++ text) (one_by_one others)
 
 -- the stage after those of the files
 abbrev last_stage : Files → Option (List ℕ) → List Stage
