@@ -27,7 +27,8 @@ use Rattle.am_lint.specs.declared.table.TableRoute.{TableRoute}
 use Rattle.am_lint.specs.Table.{IsTableOf}
 use Rattle.am_lint.specs.Literals.{is_wanted, stands_in, has_route, path_if_any, path_of, IsAbout}
 use Rattle.am_lint.specs.Literals.{AddsPart}
-use Rattle.am_lint.specs.Reaching.{IsSetOf, NoneIs}
+use Rattle.am_every_alert.specs.Deciding.{IsSetOf}
+use Rattle.am_lint.specs.Reaching.{NoneIs}
 use Rattle.am_lint.specs.Standing.{IsSeenBy}
 use Rattle.am_lint.proofs.TableLemmas.{its_route, its_place}
 use Rattle.am_lint.proofs.EnteringLemmas.{Meets}

@@ -7,13 +7,11 @@ use Rattle.am_universe.proofs.ListLemmas.{AllByRecursion-at, IsIn-from_Contains}
 use Rattle.am_labels.specs.Matcher.{all_hold}
 use Rattle.am_config.specs.ConfigFile.{Configuration, matchers_of, continues_of}
 use Rattle.am_config.specs.Path.{leads_through}
-use Rattle.am_eval.proofs.EndLaws.{at_routes}
-use Rattle.am_lint.specs.declared.literals.Part.TheVariants.{Way, Before, Children}
 use Rattle.am_lint.specs.Places.{stands_before, is_child_of}
 use Rattle.am_lint.specs.Reaching.{EndsAt, Enters, NoneIs}
 use Rattle.am_lint.specs.Reasons.{IsReasonWhy, IsExcludedBy, IsTakenBy, IsHandedTo, LacksContinue}
 use Rattle.am_lint.specs.Reasons.{MatchesWay, Matches, Misses}
-use Rattle.am_lint.proofs.EnteringLemmas.{entering_met, ending_met, met_way, on_way, enters_to_end}
+use Rattle.am_lint.proofs.EnteringLemmas.{entered, ends_exactly}
 use Rattle.am_lint.proofs.NamedReasons.{missed}
 
 module _ (Occurs : LabelMap → Type 0) (c : Configuration) (path : List ℕ)
@@ -29,28 +27,22 @@ module _ (Occurs : LabelMap → Type 0) (c : Configuration) (path : List ℕ)
             (AllByRecursion-at IsOfKind routes q by.kind (IsIn-from_Contains routes q there)),
       )
 
-  matches_way : (set : LabelMap) → Enters c path set → MatchesWay c path set
-  matches_way set enters =
-      let end = at_routes c set enters.0 enters.1 in
-      met_way c path set (on_way c.root end.0 enters.0 path end.1 enters.2)
-      (entering_met c path set enters Way tt)
-
   pub excluded_none : IsExcludedBy Occurs c path routes → NoneIs Occurs (Enters c path)
   excluded_none by set is enters =
       none (λ q. IsTrue (leads_through q path)) _ (Matches c) by set is tt
-      (matches_way set enters)
+      (entered c path set enters).0
 
   pub taken_none : IsTakenBy Occurs c path routes → NoneIs Occurs (Enters c path)
   taken_none by set is enters =
+      let met = entered c path set enters in
       none (λ q. IsTrue (stands_before path q) × LacksContinue c q) (MatchesWay c path) (Misses c)
-      by.1 set is (matches_way set enters) (λ q before.
+      by.1 set is met.0 (λ q before.
       let t = before.1.0 in
-      (missed c set q t before.1.1).0 (entering_met c path set enters Before tt q t before.1.1
+      (missed c set q t before.1.1).0 (met.1 q t before.1.1
       (and_from (not (continues_of t)) (stands_before path q) (ap not before.1.2) before.0)))
 
   pub handed_none : IsHandedTo Occurs c path routes → NoneIs Occurs (EndsAt c path)
   handed_none by set is ends =
-      none (λ q. IsTrue (is_child_of path q)) (Enters c path) (Misses c) by set is
-      (enters_to_end c path set ends) (λ q child m.
-      both_ways (all_hold set (matchers_of m.0))
-      (ending_met c path set ends Children tt q m.0 m.1 child) m.2)
+      let met = (ends_exactly c path set).1 ends in
+      none (λ q. IsTrue (is_child_of path q)) (Enters c path) (Misses c) by set is met.0
+      (λ q child m. both_ways (all_hold set (matchers_of m.0)) (met.1 q m.0 m.1 child) m.2)

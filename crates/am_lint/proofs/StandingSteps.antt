@@ -3,22 +3,20 @@ use Rattle.std.proofs.Common.{◌≡◌, ℕ, List, [], ◌++◌, length, take, 
 use Rattle.std.proofs.Common.{Contains}
 use Rattle.std.specs.Prelude.{⊤}
 use Rattle.std.proofs.lemmas.List.{take_at, append_assoc}
-use Rattle.am_universe.specs.LabelSet.{LabelMap}
 use Rattle.am_universe.proofs.ListLemmas.{IsIn-from_Contains}
 use Rattle.am_labels.specs.Space.{Space}
 use Rattle.am_config.specs.ConfigFile.{Configuration}
-use Rattle.am_eval.specs.declared.reach.Reach.TheVariants as reach_is
 use Rattle.am_first_sets.specs.declared.candidate.Candidate.{Candidate}
 use Rattle.am_lint.specs.declared.literals.Literals.{Literals}
 use Rattle.am_lint.specs.declared.literals.Part.TheVariants.{Way, Before, Children}
 use Rattle.am_lint.specs.declared.table.TableRoute.{TableRoute}
 use Rattle.am_lint.specs.Table.{IsTableOf, IsRoute}
 use Rattle.am_lint.specs.Literals.{AreLiterals}
-use Rattle.am_lint.specs.Reaching.{IsSetOf, EndsAt, Enters, SomeIs}
+use Rattle.am_every_alert.specs.Deciding.{IsSetOf}
+use Rattle.am_lint.specs.Reaching.{EndsAt, Enters, SomeIs}
 use Rattle.am_lint.specs.Reasons.{IsReasonWhy, MatchesWay, Misses, IsExcludedBy, IsTakenBy}
 use Rattle.am_lint.specs.Reasons.{IsHandedTo}
-use Rattle.am_lint.proofs.EnteringLemmas.{Meets, MeetsAll, way_met, met_way, entering_met}
-use Rattle.am_lint.proofs.EnteringLemmas.{met_entering, ending_met, met_ending, enters_to_end}
+use Rattle.am_lint.proofs.EnteringLemmas.{way_exactly, enters_exactly, ends_exactly}
 use Rattle.am_lint.proofs.LiteralTruth.{AreFront, nothing_said, more_said}
 use Rattle.am_lint.proofs.NamedReasons.{AreNamedFrom, IsOfPart, part_reason}
 
@@ -30,40 +28,17 @@ module _ (s : Space) (c : Configuration) (routes : List TableRoute)
   on_way : AreFront s routes are.on_way (MatchesWay c path)
   on_way =
       more_said s c routes known path Way [] are.on_way are.way (λ set. ⊤) (MatchesWay c path)
-      (nothing_said s routes)
-      (λ set. (λ h. met_way c path set there h.1, λ way. (tt, way_met c path set way)))
-
-  all_to_enter : (set : LabelMap) → MatchesWay c path set → Meets set c.root path Before
-      → MeetsAll reach_is.Enters set c.root path
-  all_to_enter set way before Way asks = way_met c path set way
-  all_to_enter set way before Before asks = before
-  all_to_enter set way before Children asks = absurd asks
+      (nothing_said s routes) (λ set. way_exactly c path set there)
 
   to_enter : AreFront s routes are.to_enter (Enters c path)
   to_enter =
       more_said s c routes known path Before are.on_way are.to_enter are.before
-      (MatchesWay c path) (Enters c path) on_way
-      (λ set. (
-        λ h. met_entering c path set there (all_to_enter set h.0 h.1),
-        λ enters.
-            let m = entering_met c path set enters in
-            (met_way c path set there (m Way tt), m Before tt),
-      ))
-
-  all_to_end : (set : LabelMap) → MeetsAll reach_is.Enters set c.root path
-      → Meets set c.root path Children → MeetsAll reach_is.Ends set c.root path
-  all_to_end set m none Way asks = m Way tt
-  all_to_end set m none Before asks = m Before tt
-  all_to_end set m none Children asks = none
+      (MatchesWay c path) (Enters c path) on_way (λ set. enters_exactly c path set there)
 
   to_end : AreFront s routes found.all.items (EndsAt c path)
   to_end =
       more_said s c routes known path Children are.to_enter found.all.items are.children
-      (Enters c path) (EndsAt c path) to_enter
-      (λ set. (
-        λ h. met_ending c path set there (all_to_end set (entering_met c path set h.0) h.1),
-        λ ends. (enters_to_end c path set ends, ending_met c path set ends Children tt),
-      ))
+      (Enters c path) (EndsAt c path) to_enter (ends_exactly c path)
 
   -- ---- The same for the first of the literals.
 

@@ -3,29 +3,23 @@ use Rattle.std.proofs.Common.{◌≡◌, ℕ, zero, suc, List, [], ◌∷◌, Co
 use Rattle.std.proofs.Common.{subst, ◌∙◌}
 use Rattle.std.specs.Prelude.{IsTrue, slice_get, ⊤}
 use Rattle.std.proofs.lemmas.Option.{option_and_then_some, same_Some}
-use Rattle.am_universe.specs.Universe.{Label, IsUniverse}
 use Rattle.am_universe.specs.LabelSet.{LabelMap, label_set_of}
 use Rattle.am_labels.specs.Matcher.{Condition, all_hold}
 use Rattle.am_labels.specs.Space.{Space, is_possible}
 use Rattle.am_config.specs.ConfigFile.{Configuration, RouteTree, Routes, route, no_routes}
 use Rattle.am_config.specs.ConfigFile.{next_route, matchers_of}
 use Rattle.am_config.specs.Path.{list_of, route_at}
-use Rattle.am_eval.specs.Routing.{MatchesAt}
 use Rattle.am_classes.specs.declared.alphabet.Alphabet.{Alphabet}
-use Rattle.am_complete.specs.Complete.{IsSpaceComplete, impossible_conditions}
-use Rattle.am_complete.specs.Covering.{HasTextsOver}
 use Rattle.am_asked.specs.Asked.{route_conditions, routes_conditions}
 use Rattle.am_every_alert.specs.EveryAlert.{IsAlert, IsAlertOf, MeetsTheSame}
-use Rattle.am_every_alert.specs.Deciding.{coverage_conditions}
-use Rattle.am_every_alert.proofs.UniverseAlerts.{universe_alert}
-use Rattle.am_every_alert.proofs.SpaceAlerts.{space_choice}
+use Rattle.am_every_alert.specs.Deciding.{IsSetOf, StandsFor}
+use Rattle.am_every_alert.proofs.SpaceAlerts.{IsToldBy, alert_of_set, each_over, some_over}
 use Rattle.am_every_alert.proofs.SameFate.{front_met, rest_met, all_alike, same_ends}
-use Rattle.am_every_alert.proofs.SameFate.{same_possible}
 use Rattle.am_lint.specs.declared.standing.Cause.{Cause}
 use Rattle.am_lint.specs.declared.standing.Cause.TheVariants as cause_is
 use Rattle.am_lint.specs.declared.standing.Standing.{Standing}
 use Rattle.am_lint.specs.declared.standing.Standing.TheVariants as standing_is
-use Rattle.am_lint.specs.Reaching.{IsSetOf, EndsAt, Enters, SomeIs, NoneIs}
+use Rattle.am_lint.specs.Reaching.{EndsAt, Enters, NoneIs}
 use Rattle.am_lint.specs.Reasons.{IsReasonWhy, Matches, Misses, MatchesWay, IsHandedTo}
 use Rattle.am_lint.specs.Standing.{IsSeenBy, IsReasonFor, IsStanding}
 
@@ -63,33 +57,27 @@ own_met s t (route settings children) h =
     all_alike s t settings.matchers
     (front_met s t settings.matchers (routes_conditions children) h)
 
--- a property of label sets depends only on which matchers of all routes they meet
-abbrev pub IsToldByRoutes : Configuration → (LabelMap → Type 0) → Type 0
-IsToldByRoutes c Is =
-    (s t : LabelMap) → MeetsTheSame (route_conditions c.root) s t → Is s → Is t
-
 module _ (c : Configuration) where
-  abbrev pub MeetsRoutes : LabelMap → LabelMap → Type 0
-  MeetsRoutes s t = MeetsTheSame (route_conditions c.root) s t
+  abbrev pub routes : List Condition
+  routes = route_conditions c.root
 
-  turned : (s t : LabelMap) → MeetsRoutes s t → MeetsRoutes t s
-  turned s t = meets_turned (route_conditions c.root) s t
+  none_told : (Is : LabelMap → Type 0) → IsToldBy routes Is → IsToldBy routes (λ set. Is set → ⊥)
+  none_told Is told s t met none is = none (told t s (meets_turned routes s t met) is)
 
-  matches_told : (q : List ℕ) → IsToldByRoutes c (λ set. MatchesAt set c q)
+  matches_told : (q : List ℕ) → IsToldBy routes (Matches c q)
   matches_told q s t met h =
       (h.0, h.1, sym (own_met s t h.0 (met_at s t c.root q h.0 met h.1)) ∙ h.2)
 
-  misses_told : (q : List ℕ) → IsToldByRoutes c (λ set. MatchesAt set c q → ⊥)
-  misses_told q s t met h matched = h (matches_told q t s (turned s t met) matched)
+  misses_told : (q : List ℕ) → IsToldBy routes (Misses c q)
+  misses_told q = none_told (Matches c q) (matches_told q)
 
-  ends_told : (path : List ℕ) → IsToldByRoutes c (EndsAt c path)
+  ends_told : (path : List ℕ) → IsToldBy routes (EndsAt c path)
   ends_told path s t met h = subst (λ paths. Contains paths path) (same_ends s t c met) h
 
-  enters_told : (path : List ℕ) → IsToldByRoutes c (Enters c path)
-  enters_told path s t met h =
-      (h.0, subst (λ paths. Contains paths h.0) (same_ends s t c met) h.1, h.2)
+  enters_told : (path : List ℕ) → IsToldBy routes (Enters c path)
+  enters_told path s t met h = (h.0, ends_told h.0 s t met h.1, h.2)
 
-  way_told : (path : List ℕ) → IsToldByRoutes c (MatchesWay c path)
+  way_told : (path : List ℕ) → IsToldBy routes (MatchesWay c path)
   way_told path s t met h q leads = matches_told q s t met (h q leads)
 
 -- ---- A space that stands for its alerts.
@@ -97,79 +85,56 @@ module _ (c : Configuration) where
 abbrev IsAlertBut : Alphabet → List (List Condition) → LabelMap → Type 0
 IsAlertBut a lists set = IsAlert a set × IsTrue (is_possible lists set)
 
--- the space is complete for the routes and what is impossible, and its texts are over the alphabet
-pub record StandsForAlerts (a : Alphabet) (s : Space) (c : Configuration) : Type 0 where
-  pub universe : IsUniverse s.labels
-  pub complete : IsSpaceComplete a s (coverage_conditions s c)
-  pub over : HasTextsOver a s.labels
+abbrev pub StandsForAlerts : Alphabet → Space → Configuration → Type 0
+StandsForAlerts a s c = StandsFor a s (routes c)
 
 module _ (a : Alphabet) (s : Space) (c : Configuration) (h : StandsForAlerts a s c) where
-  pub alert_of_set : (set : LabelMap) → IsSetOf s set → IsAlertOf a s set
-  alert_of_set set is =
-      subst (λ (x : LabelMap). IsAlertOf a s x) (sym is.2)
-      (universe_alert a s.labels is.0 h.universe h.over, is.1.1)
-
-  pub set_of_alert : (alert : LabelMap) → IsAlertOf a s alert
-      → (set : LabelMap) × IsSetOf s set × MeetsTheSame (route_conditions c.root) set alert
-  set_of_alert alert is =
-      let routes = route_conditions c.root in
-      let lists = impossible_conditions s.impossible in
-      let r = space_choice a s (coverage_conditions s c) alert h.universe h.complete is in
-      let set = label_set_of s.labels r.0 in
-      let possible = same_possible set alert s.impossible
-      (rest_met set alert routes lists r.2) in
-      (set, (r.0, (r.1, possible ∙ is.1), refl), front_met set alert routes lists r.2)
-
-  pub some_over : (Is : LabelMap → Type 0) → SomeIs (IsSetOf s) Is → SomeIs (IsAlertOf a s) Is
-  some_over Is some = (some.0, alert_of_set some.0 some.1, some.2)
-
-  pub none_over : (Is : LabelMap → Type 0) → IsToldByRoutes c Is → NoneIs (IsSetOf s) Is
+  none_over : (Is : LabelMap → Type 0) → IsToldBy (routes c) Is → NoneIs (IsSetOf s) Is
       → NoneIs (IsAlertOf a s) Is
-  none_over Is told none alert is so =
-      let r = set_of_alert alert is in
-      none r.0 r.1 (told alert r.0 (turned c r.0 alert r.2) so)
+  none_over Is told = each_over a s (routes c) h (λ set. Is set → ⊥) (none_told c Is told)
 
   -- ---- Reasons.
 
   why_over : (IsOfKind : List ℕ → Type 0) (First : LabelMap → Type 0)
-      (Does : List ℕ → LabelMap → Type 0) (routes : List (List ℕ)) → IsToldByRoutes c First
-      → ((q : List ℕ) → IsToldByRoutes c (Does q))
-      → IsReasonWhy (IsSetOf s) IsOfKind First Does routes
-      → IsReasonWhy (IsAlertOf a s) IsOfKind First Does routes
-  why_over IsOfKind First Does routes first does by = record {
+      (Does : List ℕ → LabelMap → Type 0) (blamed : List (List ℕ)) → IsToldBy (routes c) First
+      → ((q : List ℕ) → IsToldBy (routes c) (Does q))
+      → IsReasonWhy (IsSetOf s) IsOfKind First Does blamed
+      → IsReasonWhy (IsAlertOf a s) IsOfKind First Does blamed
+  why_over IsOfKind First Does blamed first does by = record {
     kind = by.kind;
-    enough = none_over (λ set. First set × ((q : List ℕ) → Contains routes q → Does q set))
+    enough = none_over (λ set. First set × ((q : List ℕ) → Contains blamed q → Does q set))
         (λ x y met so. (first x y met so.0, λ q there. does q x y met (so.1 q there))) by.enough;
-    needed = λ q there. some_over _ (by.needed q there);
+    needed = λ q there. some_over a s (routes c) h _ (by.needed q there);
   }
 
   pub handed_over : (path : List ℕ) (children : List (List ℕ))
       → IsHandedTo (IsSetOf s) c path children → IsHandedTo (IsAlertOf a s) c path children
-  handed_over path children by =
-      why_over _ (Enters c path) (Misses c) children (enters_told c path) (misses_told c) by
+  handed_over path children =
+      why_over _ (Enters c path) (Misses c) children (enters_told c path) (misses_told c)
 
-  pub reason_over : (path : List ℕ) (cause : Cause) (routes : List (List ℕ))
-      → IsReasonFor (IsSetOf s) c path cause routes
-      → IsReasonFor (IsAlertOf a s) c path cause routes
-  reason_over path cause_is.Excluded routes by =
-      why_over _ (λ set. ⊤) (Matches c) routes (λ x y met so. so) (matches_told c) by
-  reason_over path cause_is.Taken routes by = (
+  pub reason_over : (path : List ℕ) (cause : Cause) (blamed : List (List ℕ))
+      → IsReasonFor (IsSetOf s) c path cause blamed
+      → IsReasonFor (IsAlertOf a s) c path cause blamed
+  reason_over path cause_is.Excluded blamed by =
+      why_over _ (λ set. ⊤) (Matches c) blamed (λ x y met so. so) (matches_told c) by
+  reason_over path cause_is.Taken blamed by = (
     by.0,
-    why_over _ (MatchesWay c path) (Misses c) routes (way_told c path) (misses_told c) by.1,
+    why_over _ (MatchesWay c path) (Misses c) blamed (way_told c path) (misses_told c) by.1,
   )
 
   -- ---- How a route stands.
 
-  seen_over : (u : List Label) (Is : LabelMap → Type 0) (choice : List ℕ)
-      → IsSeenBy u (IsSetOf s) Is choice → IsSeenBy u (IsAlertOf a s) Is choice
-  seen_over u Is choice seen = (seen.0, alert_of_set (label_set_of u choice) seen.1, seen.2)
+  seen_over : (Is : LabelMap → Type 0) (choice : List ℕ)
+      → IsSeenBy s.labels (IsSetOf s) Is choice → IsSeenBy s.labels (IsAlertOf a s) Is choice
+  seen_over Is choice seen =
+      (seen.0, alert_of_set a s (routes c) h (label_set_of s.labels choice) seen.1, seen.2)
 
   pub standing_over : (path : List ℕ) (standing : Standing)
       → IsStanding s.labels (IsSetOf s) c path standing
       → IsStanding s.labels (IsAlertOf a s) c path standing
-  standing_over path (standing_is.Ends choice) so = seen_over s.labels (EndsAt c path) choice so
+  standing_over path (standing_is.Ends choice) so = seen_over (EndsAt c path) choice so
   standing_over path (standing_is.HandsOn entry children) so = (
-    seen_over s.labels (Enters c path) entry so.0,
+    seen_over (Enters c path) entry so.0,
     none_over (EndsAt c path) (ends_told c path) so.1,
     handed_over path children.items so.2,
   )

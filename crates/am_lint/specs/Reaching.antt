@@ -1,15 +1,10 @@
 -- What alerts reach, if only the label sets that occur count. A parameter says which these are:
 -- those of the choices of a space, or those that alerts may have.
-use Rattle.std.specs.Prelude.{◌≡◌, ℕ, List, Contains, IsTrue}
-use Rattle.am_universe.specs.LabelSet.{LabelMap, label_set_of}
-use Rattle.am_labels.specs.Space.{Space, IsChoiceOf}
+use Rattle.std.specs.Prelude.{ℕ, List, Contains, IsTrue}
+use Rattle.am_universe.specs.LabelSet.{LabelMap}
 use Rattle.am_config.specs.ConfigFile.{Configuration}
 use Rattle.am_config.specs.Path.{leads_through}
 use Rattle.am_eval.specs.Routing.{ends, receivers}
-
--- The label sets of the choices of a space.
-abbrev pub IsSetOf : Space → LabelMap → Type 0
-IsSetOf s set = (choice : List ℕ) × IsChoiceOf s choice × (set ≡ label_set_of s.labels choice)
 
 -- An alert ends at a route. It enters a route if it ends there or below it. It goes to a receiver.
 -- Source: Alertmanager configuration reference 0.25, "<route>".
