@@ -1,31 +1,36 @@
 -- The literals of the sides of a rule, and what they say of the label sets of pairs.
 use Rattle.std.proofs.Common.{◌≡◌, ◌≢◌, ◌<◌, ◌+◌, ℕ, zero, suc, List, [], ◌∷◌, length, Bool, true}
 use Rattle.std.proofs.Common.{false, not, cond, Option, Some, None, refl, sym, ap, ◌∙◌, subst, inl}
-use Rattle.std.proofs.Common.{inr, arith, Contains, ◌++◌, take, drop, length-append, ◌≤◌}
+use Rattle.std.proofs.Common.{inr, arith, Contains, ◌++◌, take, drop, length-append, ◌≤◌, map}
 use Rattle.std.proofs.Common.{IfSome, IfNone, get_or, String, Global, string_bytes}
 use Rattle.std.specs.Prelude.{◌&&◌, ◌||◌, slice_get, is_some}
-use Rattle.std.specs.List.{AllByRecursion, AllZip, cons_option}
-use Rattle.std.proofs.lemmas.List.{take_more, map-append}
+use Rattle.std.specs.List.{AllZip, cons_option, enumerate_from, filter}
+use Rattle.std.proofs.lemmas.List.{take_more, map-append, take_at, drop_at}
 use Rattle.std.proofs.lemmas.List.Elements.{filter_map-append}
 use Rattle.std.proofs.lemmas.List.Folds.{list_all-append}
 use Rattle.std.specs.List.Sorted.{IsStrictlySortedBy}
 use Rattle.std.specs.Ordering.{nat_cmp}
-use Rattle.std.specs.Cmp.{nat_cmp_is}
-use Rattle.std.specs.declared.cmp.Ordering.TheVariants.{Less}
-use Rattle.std.proofs.lemmas.Bool.{and_parts, and_from, both_ways}
+use Rattle.std.proofs.lemmas.Bool.{and_parts, and_from, both_ways, cases_Bool}
+use Rattle.std.proofs.lemmas.Grind.{common_steps}
+use Rattle.std.proofs.lemmas.List.Kept.{IsStrictlySortedBy-filter}
 use Rattle.std.proofs.lemmas.Option.{same_Some, slice_get_within}
 use Rattle.am_universe.specs.Universe.{Label, sizes, label_position}
 use Rattle.am_universe.specs.Choice.{IsWhole}
 use Rattle.am_universe.specs.LabelSet.{LabelMap, label_set_of}
 use Rattle.am_universe.proofs.ListLemmas.{IsIn, IsIn-from_Contains, Contains-from_IsIn}
-use Rattle.am_universe.proofs.ListLemmas.{AllByRecursion-each, AllByRecursion-at}
+use Rattle.am_universe.proofs.ListLemmas.{AllByRecursion-each, IsIn-map, IsIn-unmap}
+use Rattle.am_universe.proofs.ListLemmas.{IsStrictlySortedBy-map}
+use Rattle.am_universe.proofs.Members.{item_at, numbered_at}
 use Rattle.am_labels.specs.Matcher.{Condition, condition_holds, all_hold}
 use Rattle.am_labels.specs.Space.{Space}
+use Rattle.am_labels.proofs.Passing.{passes_from_kept, kept_from_passes}
 use Rattle.am_config.specs.ConfigFile.{Rule}
 use Rattle.am_config.specs.RouteView.{names_of}
 use Rattle.am_judged_lists.specs.Cube.{IsCubeOf, MaskedLabels, matches}
 use Rattle.am_eval.specs.Silencing.{positions_where}
 use Rattle.am_eval.specs.Inhibition.{is_two_sided}
+use Rattle.am_eval.proofs.PairLemmas.{Numbers, numbers_ascend}
+use Rattle.am_complete.proofs.Pushed.{zip_right}
 use Rattle.am_first_sets.specs.declared.candidate.Candidate.{Candidate}
 use Rattle.am_first_sets.specs.declared.pairs.Pairs.{Pairs}
 use Rattle.am_first_sets.specs.declared.possible_choices.PossibleChoices.{PossibleChoices}
@@ -47,75 +52,38 @@ use Rattle.am_idle.specs.Rules.{Contradict, IsWhyNone}
 
 -- ---- Positions of the items that pass a test.
 
-positions_in : {X : Type 0} (test : X → Bool) (from : ℕ) (xs : List X) (i : ℕ) (x : X)
-    → slice_get xs i ≡ Some x → test x ≡ true → IsIn (positions_where test from xs) (from + i)
-positions_in test from [] i x at passes = absurd (cc)
-positions_in test from (y ∷ xs) zero x at passes =
-    let is : y ≡ x = cc in
-    let here : test y ≡ true = ap test is ∙ passes in
-    let same : from ≡ from + 0 = omega arith in
-    rw here (inl same)
-positions_in test from (y ∷ xs) (suc i) x at passes =
-    let same : from + 1 + i ≡ from + suc i = omega arith in
-    let later = subst (λ n. IsIn (positions_where test (from + 1) xs) n) same
-    (positions_in test (from + 1) xs i x at passes) in
-    behind (test y) later
-  where
-    behind : (b : Bool) → IsIn (positions_where test (from + 1) xs) (from + suc i)
-        → IsIn (cond b (from ∷ positions_where test (from + 1) xs)
-        (positions_where test (from + 1) xs)) (from + suc i)
-    behind true there = inr there
-    behind false there = there
+-- they are the numbers of the numbered items that pass
+positions_are : {X : Type 0} (test : X → Bool) (from : ℕ) (xs : List X)
+    → positions_where test from xs
+    ≡ map (λ p. p.0) (filter (λ p. test p.1) (enumerate_from from xs))
+positions_are test from [] = refl
+positions_are test from (x ∷ xs) =
+    grind (arith, common_steps, cases_Bool, positions_are test (from + 1) xs)
 
-abbrev IsOut : {X : Type 0} → (X → Bool) → ℕ → List X → ℕ → Type 0
-IsOut {X = X} test from xs j =
-    (i : ℕ) × (x : X) × (j ≡ from + i) × (slice_get xs i ≡ Some x) × (test x ≡ true)
+module _ {X : Type 0} (test : X → Bool) (xs : List X) where
+  abbrev passing : List (ℕ × X)
+  passing = filter (λ p. test p.1) (enumerate_from 0 xs)
 
-out_later : {X : Type 0} (test : X → Bool) (from : ℕ) (y : X) (xs : List X) (j : ℕ)
-    → IsOut test (from + 1) xs j → IsOut test from (y ∷ xs) j
-out_later test from y xs j (i, x, is, at, passes) =
-    (suc i, x, omega (arith, is), at, passes)
+  positions_in : (i : ℕ) (x : X) → slice_get xs i ≡ Some x → test x ≡ true
+      → IsIn (positions_where test 0 xs) i
+  positions_in i x at passes =
+      rw (positions_are test 0 xs) (IsIn-map (λ (p : ℕ × X). p.0) passing (i, x)
+      (kept_from_passes (λ (p : ℕ × X). test p.1) (enumerate_from 0 xs) (i, x)
+      (numbered_at 0 xs i x at i (omega arith)) passes))
 
-out_step : {X : Type 0} (test : X → Bool) (from : ℕ) (y : X) (xs : List X) (j : ℕ) (b : Bool)
-    → test y ≡ b
-    → IsIn (cond b (from ∷ positions_where test (from + 1) xs)
-    (positions_where test (from + 1) xs)) j
-    → (IsIn (positions_where test (from + 1) xs) j → IsOut test (from + 1) xs j)
-    → IsOut test from (y ∷ xs) j
-out_step test from y xs j true passes (inl is) later =
-    (0, y, omega (arith, is), refl, passes)
-out_step test from y xs j true passes (inr there) later = out_later test from y xs j (later there)
-out_step test from y xs j false fails there later = out_later test from y xs j (later there)
+  positions_out : (i : ℕ) → IsIn (positions_where test 0 xs) i
+      → (x : X) × (slice_get xs i ≡ Some x) × (test x ≡ true)
+  positions_out i there =
+      let r = IsIn-unmap (λ (p : ℕ × X). p.0) passing i (rw (positions_are test 0 xs) at there) in
+      let kept = passes_from_kept (λ (p : ℕ × X). test p.1) (enumerate_from 0 xs) r.0 r.1 in
+      (r.0.1, ap (slice_get xs) (sym r.2) ∙ item_at xs r.0 kept.0, kept.1)
 
-positions_out : {X : Type 0} (test : X → Bool) (from : ℕ) (xs : List X) (j : ℕ)
-    → IsIn (positions_where test from xs) j → IsOut test from xs j
-positions_out test from [] j there = absurd there
-positions_out test from (y ∷ xs) j there =
-    out_step test from y xs j (test y) refl there (positions_out test (from + 1) xs j)
-
--- and they are in order
-ascend_if : (b : Bool) (from : ℕ) (later : List ℕ) → AllByRecursion (λ j. from < j) later
-    → IsStrictlySortedBy nat_cmp later
-    → IsStrictlySortedBy nat_cmp (cond b (from ∷ later) later)
-unfolding IsStrictlySortedBy
-ascend_if false from later above sorted = sorted
-ascend_if true from later above sorted = (
-  AllByRecursion-each (λ j. nat_cmp from j ≡ Less) later
-      (λ j there. sym (nat_cmp_is from j Less
-      (AllByRecursion-at (λ k. from < k) later j above there))),
-  sorted,
-)
-
-positions_ascend : {X : Type 0} (test : X → Bool) (from : ℕ) (xs : List X)
-    → IsStrictlySortedBy nat_cmp (positions_where test from xs)
-unfolding IsStrictlySortedBy
-positions_ascend test from [] = tt
-positions_ascend test from (x ∷ xs) =
-    let later = positions_where test (from + 1) xs in
-    ascend_if (test x) from later
-    (AllByRecursion-each (λ j. from < j) later (λ j there.
-    let r = positions_out test (from + 1) xs j there in omega (arith, r.2)))
-    (positions_ascend test (from + 1) xs)
+  positions_ascend : IsStrictlySortedBy nat_cmp (positions_where test 0 xs)
+  positions_ascend =
+      rw (positions_are test 0 xs)
+      (IsStrictlySortedBy-map Numbers nat_cmp (λ p. p.0) passing (λ p q. refl)
+      (IsStrictlySortedBy-filter Numbers (λ p. test p.1) (enumerate_from 0 xs)
+      (numbers_ascend 0 xs)))
 
 -- ---- Literals by their positions.
 
@@ -146,10 +114,7 @@ named_of ks = positions_where (λ k. k.named) 0 ks
 named_at : (ks : List Candidate) (i : ℕ) → Contains (named_of ks) i
     → (k : Candidate) × (slice_get ks i ≡ Some k) × (k.named ≡ true)
 named_at ks i there =
-    let r = positions_out (λ (k : Candidate). k.named) 0 ks i
-    (IsIn-from_Contains (named_of ks) i there) in
-    let same : r.0 ≡ i = omega (arith, r.2) in
-    (r.1, ap (slice_get ks) (sym same) ∙ r.3, r.4)
+    positions_out (λ k. k.named) ks i (IsIn-from_Contains (named_of ks) i there)
 
 -- the named literals of two lists, one behind the other
 meets_both : (e : List ℕ) (ks ls : List Candidate) → meets e (ks ++ ls) ≡ (meets e ks && meets e ls)
@@ -175,73 +140,96 @@ without_rest i (l ∷ ks) ls k at =
       ap (λ n. without n (l ∷ (ks ++ ls))) same ∙ ap (λ rest. l ∷ rest) r.1,
     )
 
--- ---- What literals say of one side of a pair.
-
--- the literals ask for the matchers, one by one, of a label set
-abbrev AskFor : List ℕ → LabelMap → List Condition → List Candidate → Type 0
-AskFor e set ms ks = AllZip (λ m k. holds_at e k ≡ condition_holds set m) ms ks
-
-zip_left : {X Y : Type 0} (R : X → Y → Type 0) (xs : List X) (ys : List Y) (i : ℕ) (y : Y)
-    → AllZip R xs ys → slice_get ys i ≡ Some y → (x : X) × (slice_get xs i ≡ Some x) × R x y
-zip_left R xs [] i y all at = absurd (cc)
-zip_left R [] (z ∷ ys) i y all at = absurd all
-zip_left R (x ∷ xs) (z ∷ ys) zero y all at = (x, refl, subst (R x) (same_Some z y at) all.0)
-zip_left R (x ∷ xs) (z ∷ ys) (suc i) y all at = zip_left R xs ys i y all.1 at
-
-module _ (e : List ℕ) (set : LabelMap) where
-  module _ (ms : List Condition) (ks : List Candidate) (ask : AskFor e set ms ks) where
-    asked_at : (i : ℕ) (m : Condition) (k : Candidate) → slice_get ms i ≡ Some m
-        → slice_get ks i ≡ Some k → holds_at e k ≡ condition_holds set m
-    asked_at i m k at also =
-        let r = zip_left (λ n l. holds_at e l ≡ condition_holds set n) ms ks i k ask also in
-        r.2 ∙ ap (condition_holds set) (same_Some r.0 m (sym r.1 ∙ at))
-
-    meets_at : meets e ks ≡ true → MeetsAt ms (named_of ks) set
-    meets_at met i m there at =
-        let k = named_at ks i there in
-        sym (asked_at i m k.0 at k.1) ∙ met_at e ks i k.0 met k.1 k.2
-
-    meets_at_but : (n : ℕ) → meets e (without n ks) ≡ true → MeetsAtBut ms (named_of ks) n set
-    meets_at_but n met i m there other at =
-        let k = named_at ks i there in
-        sym (asked_at i m k.0 at k.1)
-        ∙ met_at e (without n ks) i k.0 met (unchanged_at n i ks other ∙ k.1) k.2
-
-    at_meets : MeetsAt ms (named_of ks) set → meets e ks ≡ true
-    at_meets so = each_met e ks (λ i k at named.
-        let r = zip_left (λ m l. holds_at e l ≡ condition_holds set m) ms ks i k ask at in
-        let same : 0 + i ≡ i = omega arith in
-        let there = subst (IsIn (named_of ks)) same
-        (positions_in (λ (l : Candidate). l.named) 0 ks i k at named) in
-        r.2 ∙ so i r.0 (Contains-from_IsIn (named_of ks) i there) r.1)
-
-  meets_list : (ms : List Condition) (ks : List Candidate) → AskFor e set ms ks → AreAllNamed ks
-      → meets e ks ≡ all_hold set ms
-  meets_list [] [] ask named = refl
-  meets_list [] (k ∷ ks) ask named = absurd ask
-  meets_list (m ∷ ms) [] ask named = absurd ask
-  meets_list (m ∷ ms) (k ∷ ks) ask named =
-      λ i. (ap (λ b. not b || holds_at e k) named.0 ∙ ask.0) i && meets_list ms ks ask.1 named.1 i
-
--- ---- From the calls that make them.
-
-zip_with : {X Y : Type 0} (R S : X → Y → Type 0) (xs : List X) (ys : List Y)
-    → ((x : X) (y : Y) → R x y → S x y) → AllZip R xs ys → AllZip S xs ys
-zip_with R S [] [] so all = tt
-zip_with R S [] (y ∷ ys) so all = absurd all
-zip_with R S (x ∷ xs) [] so all = absurd all
-zip_with R S (x ∷ xs) (y ∷ ys) so all = (so x y all.0, zip_with R S xs ys so all.1)
+-- ---- The literals of one side.
 
 zip_through : {X Y Z : Type 0} (R : X → Y → Type 0) (S : Y → Z → Type 0) (T : X → Z → Type 0)
     (xs : List X) (ys : List Y) (zs : List Z) → ((x : X) (y : Y) (z : Z) → R x y → S y z → T x z)
     → AllZip R xs ys → AllZip S ys zs → AllZip T xs zs
 zip_through R S T [] [] [] so all more = tt
-zip_through R S T [] [] (z ∷ zs) so all more = absurd more
-zip_through R S T [] (y ∷ ys) zs so all more = absurd all
-zip_through R S T (x ∷ xs) [] zs so all more = absurd all
-zip_through R S T (x ∷ xs) (y ∷ ys) [] so all more = absurd more
 zip_through R S T (x ∷ xs) (y ∷ ys) (z ∷ zs) so all more =
     (so x y z all.0 more.0, zip_through R S T xs ys zs so all.1 more.1)
+zip_through R S T [] (y ∷ ys) zs so all more = absurd all
+zip_through R S T (x ∷ xs) [] zs so all more = absurd all
+zip_through R S T xs (y ∷ ys) [] so all more = absurd more
+zip_through R S T xs [] (z ∷ zs) so all more = absurd more
+
+module _ (u : List Label) (pairs : Pairs) (side : Side) where
+  abbrev set_at : List ℕ → LabelMap
+  set_at e = label_set_of u (side_of pairs side e)
+
+  -- the literal asks for the matcher, of the label set of the side
+  abbrev IsLiteralOf : Condition → Candidate → Type 0
+  IsLiteralOf m k =
+      (e : List ℕ) → IsPossible (pair_choices pairs) e → IsWhole (sizes u) (side_of pairs side e)
+      → holds_at e k ≡ condition_holds (set_at e) m
+
+  -- the literals ask for the matchers of the side, one by one, whichever of them are named
+  abbrev pub AreLiteralsOf : List Condition → List Candidate → Type 0
+  AreLiteralsOf ms ks = AllZip IsLiteralOf ms ks
+
+  module _ (ms : List Condition) where
+    pub literals_are : (cubes : List MaskedLabels) (ks : List Candidate)
+        → AreCubesOfMatchers u pairs side ms cubes → AreWantedFor cubes ks → AreLiteralsOf ms ks
+    literals_are cubes ks are wanted =
+        zip_through _ _ _ ms cubes ks (λ m cube k says asks e possible whole.
+        rw asks.1 (ap (λ (c : MaskedLabels). matches c e) asks.0 ∙ says e possible whole)) are
+        wanted
+
+    same_literals : (ks ls : List Candidate) → AreLiteralsOf ms ks → AreSameLiterals ks ls
+        → AreLiteralsOf ms ls
+    same_literals ks ls are same =
+        zip_through _ _ _ ms ks ls (λ m k l says alike e possible whole.
+        still k l e alike.0 alike.1 ∙ says e possible whole) are same
+      where
+        still : (k l : Candidate) (e : List ℕ) → k.cube ≡ l.cube → k.wanted ≡ l.wanted
+            → holds_at e l ≡ holds_at e k
+        still k l e cube wanted = rw (cube, wanted) refl
+
+    module _ (ks : List Candidate) (are : AreLiteralsOf ms ks) where
+      within_side : AreWithin ms (named_of ks)
+      within_side =
+          AllByRecursion-each (λ i. i < length ms) (named_of ks) (λ i there.
+          let k = named_at ks i (Contains-from_IsIn (named_of ks) i there) in
+          let r = zip_right IsLiteralOf ms ks i k.0 are k.1 in slice_get_within ms i r.0 r.1)
+
+      -- what it says of a pair that they are met
+      module _ (e : List ℕ) (possible : IsPossible (pair_choices pairs) e)
+          (whole : IsWhole (sizes u) (side_of pairs side e)) where
+        asked_at : (i : ℕ) (m : Condition) (k : Candidate) → slice_get ms i ≡ Some m
+            → slice_get ks i ≡ Some k → holds_at e k ≡ condition_holds (set_at e) m
+        asked_at i m k at also =
+            let r = zip_right IsLiteralOf ms ks i k are also in
+            r.2 e possible whole
+            ∙ ap (condition_holds (set_at e)) (same_Some r.0 m (sym r.1 ∙ at))
+
+        meets_at : meets e ks ≡ true → MeetsAt ms (named_of ks) (set_at e)
+        meets_at met i m there at =
+            let k = named_at ks i there in
+            sym (asked_at i m k.0 at k.1) ∙ met_at e ks i k.0 met k.1 k.2
+
+        meets_at_but : (n : ℕ) → meets e (without n ks) ≡ true
+            → MeetsAtBut ms (named_of ks) n (set_at e)
+        meets_at_but n met i m there other at =
+            let k = named_at ks i there in
+            sym (asked_at i m k.0 at k.1)
+            ∙ met_at e (without n ks) i k.0 met (unchanged_at n i ks other ∙ k.1) k.2
+
+        at_meets : MeetsAt ms (named_of ks) (set_at e) → meets e ks ≡ true
+        at_meets so = each_met e ks (λ i k at named.
+            let r = zip_right IsLiteralOf ms ks i k are at in
+            r.2 e possible whole
+            ∙ so i r.0
+            (Contains-from_IsIn (named_of ks) i (positions_in (λ l. l.named) ks i k at named)) r.1)
+
+  meets_list : (ms : List Condition) (ks : List Candidate) → AreLiteralsOf ms ks → AreAllNamed ks
+      → (e : List ℕ) → IsPossible (pair_choices pairs) e
+      → IsWhole (sizes u) (side_of pairs side e) → meets e ks ≡ all_hold (set_at e) ms
+  meets_list [] [] are named e possible whole = refl
+  meets_list [] (k ∷ ks) are named e possible whole = absurd are
+  meets_list (m ∷ ms) [] are named e possible whole = absurd are
+  meets_list (m ∷ ms) (k ∷ ks) are named e possible whole =
+      λ i. (ap (λ b. not b || holds_at e k) named.0 ∙ are.0 e possible whole) i
+      && meets_list ms ks are.1 named.1 e possible whole i
 
 -- the same literals in two parts
 same_parts : (ks ls named : List Candidate) → AreSameLiterals (ks ++ ls) named
@@ -254,41 +242,39 @@ same_parts (k ∷ ks) ls (n ∷ named) same =
     let r = same_parts ks ls named same.1 in
     ((same.0, r.0), r.1, ap (λ rest. n ∷ rest) r.2, ap suc r.3)
 
--- the literals of a side, whichever of them are named
-abbrev AreLiteralsOf : List Label → Pairs → Side → List Condition → List Candidate → Type 0
-AreLiteralsOf u pairs side ms ks =
-    AllZip (λ m k. (e : List ℕ) → IsPossible (pair_choices pairs) e
-    → IsWhole (sizes u) (side_of pairs side e)
-    → holds_at e k ≡ condition_holds (label_set_of u (side_of pairs side e)) m) ms ks
+-- ---- The literals of both sides.
 
-module _ (u : List Label) (pairs : Pairs) (side : Side) (ms : List Condition) where
-  pub literals_are : (cubes : List MaskedLabels) (ks : List Candidate)
-      → AreCubesOfMatchers u pairs side ms cubes → AreWantedFor cubes ks
-      → AreLiteralsOf u pairs side ms ks
-  literals_are cubes ks are wanted =
-      zip_through _ _ _ ms cubes ks (λ m cube k says asks e possible whole.
-      rw asks.1 (ap (λ (c : MaskedLabels). matches c e) asks.0 ∙ says e possible whole)) are wanted
+-- those of the source side, and behind them those of the target side
+pub record AreOfSides (u : List Label) (pairs : Pairs) (rule : Rule) (n : ℕ) (ks : List Candidate)
+    : Type 0 where
+  pub sources : List Candidate
+  pub targets : List Candidate
+  pub are : ks ≡ sources ++ targets
+  pub many : n ≡ length sources
+  pub source : AreLiteralsOf u pairs First rule.source sources
+  pub target : AreLiteralsOf u pairs Second rule.target targets
 
-  same_literals : (ks ls : List Candidate) → AreLiteralsOf u pairs side ms ks → AreSameLiterals ks ls
-      → AreLiteralsOf u pairs side ms ls
-  same_literals ks ls are same =
-      zip_through _ _ _ ms ks ls (λ m k l says alike e possible whole.
-      still k l e alike.0 alike.1 ∙ says e possible whole) are same
-    where
-      still : (k l : Candidate) (e : List ℕ) → k.cube ≡ l.cube → k.wanted ≡ l.wanted
-          → holds_at e l ≡ holds_at e k
-      still k l e cube wanted = rw (cube, wanted) refl
+pub sources_within : (u : List Label) (pairs : Pairs) (rule : Rule) (n : ℕ) (ks : List Candidate)
+    → AreOfSides u pairs rule n ks → n ≤ length ks
+sources_within u pairs rule n ks sides =
+    omega (arith, sides.many, ap length sides.are, length-append sides.sources sides.targets)
 
-  ask_for : (ks : List Candidate) → AreLiteralsOf u pairs side ms ks → (e : List ℕ)
-      → IsPossible (pair_choices pairs) e → IsWhole (sizes u) (side_of pairs side e)
-      → AskFor e (label_set_of u (side_of pairs side e)) ms ks
-  ask_for ks are e possible whole = zip_with _ _ ms ks (λ m k says. says e possible whole) are
-
-  within_side : (ks : List Candidate) → AreLiteralsOf u pairs side ms ks → AreWithin ms (named_of ks)
-  within_side ks are =
-      AllByRecursion-each (λ i. i < length ms) (named_of ks) (λ i there.
-      let k = named_at ks i (Contains-from_IsIn (named_of ks) i there) in
-      let r = zip_left _ ms ks i k.0 are k.1 in slice_get_within ms i r.0 r.1)
+same_sides : (u : List Label) (pairs : Pairs) (rule : Rule) (n : ℕ) (ks named : List Candidate)
+    → AreSameLiterals ks named → AreOfSides u pairs rule n ks → AreOfSides u pairs rule n named
+same_sides u pairs rule n ks named same sides =
+    let first = sides.sources in
+    let parts = same_parts first sides.targets named
+    (subst (λ ls. AreSameLiterals ls named) sides.are same) in
+    record {
+      sources = take (length first) named;
+      targets = drop (length first) named;
+      are = sym parts.2;
+      many = sides.many ∙ sym parts.3;
+      source = same_literals u pairs First rule.source first (take (length first) named)
+          sides.source parts.0;
+      target = same_literals u pairs Second rule.target sides.targets (drop (length first) named)
+          sides.target parts.1;
+    }
 
 -- ---- Pairs.
 
@@ -327,43 +313,59 @@ module _ (s : Space) (names : List (List ℕ)) (pairs : Pairs)
       let r = are.every c d (record { first = one; second = two; same = same }) in
       (r.0, r.1, is ∙ ap (label_set_of u) (sym r.2), also ∙ ap (label_set_of u) (sym r.3))
 
-  module _ (rule : Rule) (ks ls : List Candidate)
-      (source : AreLiteralsOf u pairs First rule.source ks)
-      (target : AreLiteralsOf u pairs Second rule.target ls) where
-    source_asks : (e : List ℕ) → Is e → AskFor e (first e) rule.source ks
-    source_asks e possible =
-        ask_for u pairs First rule.source ks source e possible (are.sides e possible).first.0
+  module _ (rule : Rule) (n : ℕ) (all : List Candidate) (sides : AreOfSides u pairs rule n all) where
+    abbrev ks : List Candidate
+    ks = sides.sources
 
-    target_asks : (e : List ℕ) → Is e → AskFor e (second e) rule.target ls
-    target_asks e possible =
-        ask_for u pairs Second rule.target ls target e possible (are.sides e possible).second.0
+    abbrev ls : List Candidate
+    ls = sides.targets
 
-    some_match : AreAllNamed ks → AreAllNamed ls → IsMet Is (ks ++ ls)
+    module _ (e : List ℕ) (possible : Is e) where
+      abbrev whole : IsWhole (sizes u) (side_of pairs First e)
+      whole = (are.sides e possible).first.0
+
+      abbrev also_whole : IsWhole (sizes u) (side_of pairs Second e)
+      also_whole = (are.sides e possible).second.0
+
+      -- if one literal of a side or none is left out, the others are met
+      source_met : meets e ks ≡ true → MeetsAt rule.source (named_of ks) (first e)
+      source_met = meets_at u pairs First rule.source ks sides.source e possible whole
+
+      target_met : meets e ls ≡ true → MeetsAt rule.target (named_of ls) (second e)
+      target_met = meets_at u pairs Second rule.target ls sides.target e possible also_whole
+
+      both_met : MeetsAt rule.source (named_of ks) (first e)
+          → MeetsAt rule.target (named_of ls) (second e) → meets e (ks ++ ls) ≡ true
+      both_met in_source in_target =
+          meets_both e ks ls
+          ∙ and_from (meets e ks) (meets e ls)
+          (at_meets u pairs First rule.source ks sides.source e possible whole in_source)
+          (at_meets u pairs Second rule.target ls sides.target e possible also_whole in_target)
+
+    pub sides_match : AreAllNamed ks → AreAllNamed ls → IsMet Is all
         → SomeMeet Meet (Matches rule.source) (Matches rule.target)
-    some_match all others (e, possible, met) =
-        let parts = and_parts (meets e ks) (meets e ls) (sym (meets_both e ks ls) ∙ met) in (
+    sides_match named also_named (e, possible, met) =
+        let parts = and_parts (meets e ks) (meets e ls)
+        (sym (meets_both e ks ls) ∙ ap (meets e) (sym sides.are) ∙ met) in (
           first e,
           second e,
           sets_meet e possible,
-          sym (meets_list e (first e) rule.source ks (source_asks e possible) all) ∙ parts.0,
-          sym (meets_list e (second e) rule.target ls (target_asks e possible) others) ∙ parts.1,
+          sym (meets_list u pairs First rule.source ks sides.source named e possible
+              (whole e possible)) ∙ parts.0,
+          sym (meets_list u pairs Second rule.target ls sides.target also_named e possible
+              (also_whole e possible)) ∙ parts.1,
         )
 
     contradict : IsReason Is 0 (ks ++ ls) → Contradict Meet rule (named_of ks) (named_of ls)
     contradict reason = record {
-      in_source = within_side u pairs First rule.source ks source;
-      in_target = within_side u pairs Second rule.target ls target;
-      source_order = positions_ascend (λ (k : Candidate). k.named) 0 ks;
-      target_order = positions_ascend (λ (k : Candidate). k.named) 0 ls;
-      enough = λ (x, y, meet, meets_source, meets_target).
+      in_source = within_side u pairs First rule.source ks sides.source;
+      in_target = within_side u pairs Second rule.target ls sides.target;
+      source_order = positions_ascend (λ k. k.named) ks;
+      target_order = positions_ascend (λ k. k.named) ls;
+      enough = λ (x, y, meet, in_source, in_target).
           let r = pair_of x y meet in
-          let e = r.0 in
-          both_ways (meets e (ks ++ ls)) (reason.enough e r.1)
-          (meets_both e ks ls ∙ and_from (meets e ks) (meets e ls)
-          (at_meets e (first e) rule.source ks (source_asks e r.1)
-          (subst (λ (set : LabelMap). MeetsAt rule.source (named_of ks) set) r.2 meets_source))
-          (at_meets e (second e) rule.target ls (target_asks e r.1)
-          (subst (λ (set : LabelMap). MeetsAt rule.target (named_of ls) set) r.3 meets_target)));
+          both_ways (meets r.0 (ks ++ ls)) (reason.enough r.0 r.1)
+          (both_met r.0 r.1 (rw r.2 at in_source) (rw r.3 at in_target));
       source_needed = λ i there.
           let k = named_at ks i there in
           let place = without_front i ks ls k.0 k.1 in
@@ -374,8 +376,8 @@ module _ (s : Space) (names : List (List ℕ)) (pairs : Pairs)
             first e,
             second e,
             sets_meet e r.1,
-            meets_at_but e (first e) rule.source ks (source_asks e r.1) i parts.0,
-            meets_at e (second e) rule.target ls (target_asks e r.1) parts.1,
+            meets_at_but u pairs First rule.source ks sides.source e r.1 (whole e r.1) i parts.0,
+            target_met e r.1 parts.1,
           );
       target_needed = λ i there.
           let k = named_at ls i there in
@@ -387,31 +389,29 @@ module _ (s : Space) (names : List (List ℕ)) (pairs : Pairs)
             first e,
             second e,
             sets_meet e r.1,
-            meets_at e (first e) rule.source ks (source_asks e r.1) parts.0,
-            meets_at_but e (second e) rule.target ls (target_asks e r.1) i parts.1,
+            source_met e r.1 parts.0,
+            meets_at_but u pairs Second rule.target ls sides.target e r.1 (also_whole e r.1) i
+                parts.1,
           );
     }
 
-  -- the matchers whose literals are left named contradict each other
-  why_none : (rule : Rule) (ks ls named : List Candidate) (n : ℕ) (reason : IdleReason)
-      → AreLiteralsOf u pairs First rule.source ks → AreLiteralsOf u pairs Second rule.target ls
-      → n ≡ length ks → AreSameLiterals (ks ++ ls) named → IsReason Is 0 named
+    -- the matchers whose literals are named contradict each other
+    why_none : (reason : IdleReason) → IsReason Is 0 all → AreNamedIn n all reason
+        → IsWhyNone Meet rule reason
+    why_none reason_is.Both is named = absurd named
+    why_none (reason_is.Contradiction source target) is named =
+        let front : take n all ≡ ks =
+        (λ i. take (sides.many i) (sides.are i)) ∙ take_at ks ls (length ks) refl in
+        let rest : drop n all ≡ ls =
+        (λ i. drop (sides.many i) (sides.are i)) ∙ drop_at ks ls (length ks) refl in
+        rw (named.0 ∙ ap named_of front, named.1 ∙ ap named_of rest)
+        (contradict (subst (IsReason Is 0) sides.are is))
+
+  pub sides_contradict : (rule : Rule) (n : ℕ) (ks named : List Candidate) (reason : IdleReason)
+      → AreOfSides u pairs rule n ks → AreSameLiterals ks named → IsReason Is 0 named
       → AreNamedIn n named reason → IsWhyNone Meet rule reason
-  why_none rule ks ls named n reason_is.Both source target many same reason are_named =
-      absurd are_named
-  why_none rule ks ls named n (reason_is.Contradiction sources targets) source target many same reason
-      are_named =
-      let parts = same_parts ks ls named same in
-      let front = take (length ks) named in
-      let rest = drop (length ks) named in
-      rw (
-        are_named.0 ∙ ap (λ m. named_of (take m named)) many,
-        are_named.1 ∙ ap (λ m. named_of (drop m named)) many,
-      )
-      (contradict rule front rest
-      (same_literals u pairs First rule.source ks front source parts.0)
-      (same_literals u pairs Second rule.target ls rest target parts.1)
-      (subst (IsReason Is 0) (sym parts.2) reason))
+  sides_contradict rule n ks named reason sides same =
+      why_none rule n named (same_sides u pairs rule n ks named same sides) reason
 
   -- ---- What inhibits.
 
@@ -532,51 +532,6 @@ module _ (s : Space) (names : List (List ℕ)) (pairs : Pairs)
       none_spared found other so none so_too none_too =
           never (unmet_by first_in_target found so none)
           (unmet_by second_in_source other so_too none_too)
-
--- ---- The literals of both sides.
-
--- the literals of the source side, all named, and behind them those of the target side
-pub record AreOfSides (u : List Label) (pairs : Pairs) (rule : Rule) (n : ℕ) (ks : List Candidate)
-    : Type 0 where
-  pub sources : List Candidate
-  pub targets : List Candidate
-  pub are : ks ≡ sources ++ targets
-  pub many : n ≡ length sources
-  pub source : AreLiteralsOf u pairs First rule.source sources
-  pub target : AreLiteralsOf u pairs Second rule.target targets
-  pub source_named : AreAllNamed sources
-  pub target_named : AreAllNamed targets
-
-module _ (u : List Label) (pairs : Pairs) (rule : Rule) (n : ℕ) (ks : List Candidate)
-    (sides : AreOfSides u pairs rule n ks) where
-  pub sources_within : n ≤ length ks
-  sources_within =
-      omega (arith, sides.many, ap length sides.are, length-append sides.sources sides.targets)
-
-  module _ (s : Space) (same : u ≡ s.labels)
-      (are : ArePairsOf s (labels_named s.labels rule.equal) pairs) where
-    source_literals : AreLiteralsOf s.labels pairs First rule.source sides.sources
-    source_literals =
-        subst (λ v. AreLiteralsOf v pairs First rule.source sides.sources) same sides.source
-
-    target_literals : AreLiteralsOf s.labels pairs Second rule.target sides.targets
-    target_literals =
-        subst (λ v. AreLiteralsOf v pairs Second rule.target sides.targets) same sides.target
-
-    pub sides_match : IsMet (IsPossible (pair_choices pairs)) ks
-        → SomeMeet (AreMeeting s rule.equal) (Matches rule.source) (Matches rule.target)
-    sides_match met =
-        some_match s rule.equal pairs are rule sides.sources sides.targets source_literals
-        target_literals sides.source_named sides.target_named
-        (subst (IsMet (IsPossible (pair_choices pairs))) sides.are met)
-
-    pub sides_contradict : (named : List Candidate) (reason : IdleReason)
-        → AreSameLiterals ks named → IsReason (IsPossible (pair_choices pairs)) 0 named
-        → AreNamedIn n named reason → IsWhyNone (AreMeeting s rule.equal) rule reason
-    sides_contradict named reason alike is are_named =
-        why_none s rule.equal pairs are rule sides.sources sides.targets named n reason
-        source_literals target_literals sides.many
-        (subst (λ ls. AreSameLiterals ls named) sides.are alike) is are_named
 
 -- ---- What follows.
 
