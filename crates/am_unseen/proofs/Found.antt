@@ -31,17 +31,6 @@ found_in test (y ∷ xs) x e = elim (cases_Bool (test y)) [
       let r = found_in test xs x (rw fails at e) in (inr r.0, r.1)
 ]
 
--- if one passes, one is found
-pub one_found : {X : Type 0} (test : X → Bool) (xs : List X) (x : X) → IsIn xs x
-    → test x ≡ true → (y : X) × (find test xs ≡ Some y)
-one_found test [] x i passes = absurd i
-one_found test (y ∷ xs) x (inl same) passes =
-    let here : test y ≡ true = ap test same ∙ passes in (y, rw here refl)
-one_found test (y ∷ xs) x (inr later) passes = elim (cases_Bool (test y)) [
-  | inl here ↦ (y, rw here refl)
-  | inr fails ↦ let r = one_found test xs x later passes in (r.0, rw fails r.1)
-]
-
 -- ---- All pass.
 
 pub all_each : {X : Type 0} (test : X → Bool) (xs : List X) (x : X) → list_all test xs ≡ true

@@ -1,7 +1,7 @@
--- The sets of values that are kept by the names of their labels, and what they say of a matcher.
+-- The sets of values that are kept by the names of their labels: one more set.
 use Rattle.std.proofs.Common.{◌≡◌, ℕ, List, sym, ap, ◌∙◌, cond}
-use Rattle.std.proofs.Common.{Option, Some, None, inl, inr, Bor, Result, Ok, Err, bytes_eq}
-use Rattle.std.specs.Prelude.{OnOk, OnErr, if◌then◌else◌}
+use Rattle.std.proofs.Common.{Some, inl, inr, Bor, Result, Ok, Err, bytes_eq}
+use Rattle.std.specs.Prelude.{OnOk, OnErr}
 use Rattle.std.specs.BTreeMap.{BTreeMap}
 use Rattle.std.specs.Cmp.Lexicographic.{bytes_decides}
 use Rattle.std.specs.Map.{update, lookup}
@@ -9,53 +9,13 @@ use Rattle.std.proofs.lemmas.Bool.{cases_Bool}
 use Rattle.std.proofs.lemmas.Option.{same_Some}
 use Rattle.indexmap.specs.IndexSet.{IndexSet}
 use Rattle.am_universe.specs.LabelSet.{LabelMap}
-use Rattle.am_labels.specs.Matcher.{Condition}
-use Rattle.am_complete.specs.declared.origin.Origin.{Origin}
-use Rattle.am_unseen.specs.Unseen.{UnseenValue, seen_values, is_missing, unseen_value_of}
-use Rattle.am_unseen.specs.Unseen.{most_similar}
-use Rattle.am_unseen.specs.Search.{texts_of, each_once, set_at, AreSeen}
-use Rattle.am_unseen.proofs.EachOnce.{missing_once, similar_once}
-
--- ---- What is said of a matcher.
-
--- what is said of a matcher, given some texts
-abbrev said_beside : Origin → Condition → List (List ℕ) → Option UnseenValue
-said_beside origin m texts =
-    if is_missing m.value texts
-    then Some (record {
-      origin = origin;
-      name = m.name;
-      value = m.value;
-      similar = most_similar m.value texts;
-    })
-    else None
-
--- given the values of its label, each once, the same is said as given all of them
-pub said_of_all : (alerts : List LabelMap) (origin : Origin) (m : Condition)
-    (texts : List (List ℕ)) → texts ≡ each_once (seen_values alerts m.name)
-    → said_beside origin m texts
-    ≡ (if is_missing m.value (seen_values alerts m.name)
-    then Some (unseen_value_of alerts (origin, m))
-    else None)
-said_of_all alerts origin m texts same =
-    let all = seen_values alerts m.name in
-    ap (said_beside origin m) same
-    ∙ (λ i.
-    if missing_once m.value all i
-    then Some (record {
-      origin = origin;
-      name = m.name;
-      value = m.value;
-      similar = similar_once m.value all i;
-    })
-    else None)
-
--- ---- One more set.
+use Rattle.am_unseen.specs.Unseen.{seen_values}
+use Rattle.am_unseen.specs.Search.{texts_of, set_at, AreSeen}
 
 module _ {S : Type 0} (alerts : List LabelMap)
     (before after : BTreeMap (Bor (List ℕ)) (IndexSet (Bor (List ℕ)) S)) where
   one_set_more : (name : List ℕ) (values : IndexSet (Bor (List ℕ)) S) → AreSeen alerts before
-      → texts_of values ≡ each_once (seen_values alerts name)
+      → texts_of values ≡ seen_values alerts name
       → ((q : List ℕ) → set_at after q ≡ update bytes_eq (set_at before) name (Some values) q)
       → AreSeen alerts after
   one_set_more name values seen all put q found at = elim (cases_Bool (bytes_eq name q)) [
@@ -64,7 +24,7 @@ module _ {S : Type 0} (alerts : List LabelMap)
         let there : set_at after q ≡ Some values =
         put q ∙ ap (λ b. cond b (Some values) (set_at before q)) same in
         let it : found ≡ values = same_Some found values (sym at ∙ there) in
-        ap texts_of it ∙ all ∙ ap (λ n. each_once (seen_values alerts n)) is
+        ap texts_of it ∙ all ∙ ap (seen_values alerts) is
     | inr other ↦
         let there : set_at after q ≡ set_at before q =
         put q ∙ ap (λ b. cond b (Some values) (set_at before q)) other in
@@ -74,7 +34,7 @@ module _ {S : Type 0} (alerts : List LabelMap)
   -- the set of a label was inserted, or memory ran out
   pub seen_still : {T E : Type 0} (r : Result T E) (name : List ℕ)
       (values : IndexSet (Bor (List ℕ)) S) → AreSeen alerts before
-      → texts_of values ≡ each_once (seen_values alerts name)
+      → texts_of values ≡ seen_values alerts name
       → OnOk r ((q : List ℕ) → set_at after q ≡ update bytes_eq (set_at before) name (Some values) q)
       → OnErr r (after.entries ≡ before.entries)
       → AreSeen alerts after

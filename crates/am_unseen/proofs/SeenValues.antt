@@ -1,10 +1,10 @@
 -- The values that alerts have for a label, alert by alert, and what the code asks of a set of them.
-use Rattle.std.proofs.Common.{◌≡◌, ℕ, ◌+◌, List, [], ◌∷◌, ◌++◌, refl, sym, ap, ◌∙◌, Bool, true, false}
+use Rattle.std.proofs.Common.{◌≡◌, ℕ, ◌+◌, List, [], ◌∷◌, refl, sym, ap, ◌∙◌, Bool, true, false}
 use Rattle.std.proofs.Common.{Some, take, map, fold, length, Bor, not, inl, inr, ◌≢◌}
 use Rattle.std.specs.Prelude.{slice_get}
 use Rattle.std.specs.List.{filter, list_any}
 use Rattle.std.proofs.lemmas.Bool.{cases_Bool}
-use Rattle.std.proofs.lemmas.List.{map_push, append-nil}
+use Rattle.std.proofs.lemmas.List.{map_push}
 use Rattle.std.proofs.lemmas.List.Elements.{filter-append}
 use Rattle.std.proofs.lemmas.List.Sums.{fold-append}
 use Rattle.indexmap.specs.IndexSet.{insert_key}
@@ -12,44 +12,37 @@ use Rattle.am_universe.specs.LabelSet.{LabelMap, value_of}
 use Rattle.am_universe.specs.Text.{same_text}
 use Rattle.am_complete.specs.FoundState.{begins}
 use Rattle.am_complete.proofs.Pushed.{one_longer}
-use Rattle.am_unseen.specs.Unseen.{seen_values, is_missing}
-use Rattle.am_unseen.specs.Search.{with_text, each_once}
+use Rattle.am_unseen.specs.Unseen.{seen_values, is_missing, with_text, each_once}
 
 -- ---- One more alert.
 
 seen_more : (alerts : List LabelMap) (name : List ℕ) (i : ℕ) (a : LabelMap)
     → slice_get alerts i ≡ Some a
     → seen_values (take (i + 1) alerts) name
-    ≡ seen_values (take i alerts) name ++ filter begins (value_of a name ∷ [])
+    ≡ fold with_text (seen_values (take i alerts) name) (filter begins (value_of a name ∷ []))
 seen_more alerts name i a at =
+    let values = λ (as' : List LabelMap). map (λ b. value_of b name) as' in
     ap (λ as'. seen_values as' name) (sym (one_longer alerts i a at))
-    ∙ ap (filter begins) (map_push (λ b. value_of b name) (take i alerts) a)
-    ∙ filter-append begins (map (λ b. value_of b name) (take i alerts)) (value_of a name ∷ [])
+    ∙ ap (λ vs. each_once (filter begins vs)) (map_push (λ b. value_of b name) (take i alerts) a)
+    ∙ ap each_once (filter-append begins (values (take i alerts)) (value_of a name ∷ []))
+    ∙ fold-append with_text [] (filter begins (values (take i alerts)))
+    (filter begins (value_of a name ∷ []))
 
 -- an alert without the label
 pub none_more : (alerts : List LabelMap) (name : List ℕ) (i : ℕ) (a : LabelMap)
     (texts : List (List ℕ)) → slice_get alerts i ≡ Some a → begins (value_of a name) ≡ false
-    → texts ≡ each_once (seen_values (take i alerts) name)
-    → texts ≡ each_once (seen_values (take (i + 1) alerts) name)
+    → texts ≡ seen_values (take i alerts) name → texts ≡ seen_values (take (i + 1) alerts) name
 none_more alerts name i a texts at none so_far =
-    let before = seen_values (take i alerts) name in
-    let same : seen_values (take (i + 1) alerts) name ≡ before =
-    seen_more alerts name i a at ∙ rw none (append-nil before) in
-    so_far ∙ ap each_once (sym same)
+    so_far ∙ sym (seen_more alerts name i a at ∙ rw none refl)
 
 -- and one with it
 pub value_more : (alerts : List LabelMap) (name : List ℕ) (i : ℕ) (a : LabelMap)
     (texts more : List (List ℕ)) → slice_get alerts i ≡ Some a
     → begins (value_of a name) ≡ true → more ≡ with_text texts (value_of a name)
-    → texts ≡ each_once (seen_values (take i alerts) name)
-    → more ≡ each_once (seen_values (take (i + 1) alerts) name)
+    → texts ≡ seen_values (take i alerts) name → more ≡ seen_values (take (i + 1) alerts) name
 value_more alerts name i a texts more at some put so_far =
-    let before = seen_values (take i alerts) name in
-    let v = value_of a name in
-    let longer : seen_values (take (i + 1) alerts) name ≡ before ++ v ∷ [] =
-    seen_more alerts name i a at ∙ rw some refl in
-    put ∙ ap (λ ts. with_text ts v) so_far
-    ∙ sym (ap (λ vs. fold with_text [] vs) longer ∙ fold-append with_text [] before (v ∷ []))
+    put ∙ ap (λ ts. with_text ts (value_of a name)) so_far
+    ∙ sym (seen_more alerts name i a at ∙ rw some refl)
 
 -- ---- A set.
 

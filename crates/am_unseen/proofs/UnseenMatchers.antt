@@ -1,8 +1,8 @@
 -- What holds for a matcher that names an unseen value, and for the most similar value.
 use Rattle.std.proofs.Common.{◌≡◌, ◌≢◌, ◌≤◌, ◌<◌, ℕ, List, [], ◌∷◌, refl, sym, ap, ◌∙◌, Bool, true}
-use Rattle.std.proofs.Common.{false, ◌&&◌, inl, Some, None, Contains, map}
+use Rattle.std.proofs.Common.{false, ◌&&◌, inl, inr, Some, None, Contains, map}
 use Rattle.std.specs.Prelude.{IsTrue, nat_le}
-use Rattle.std.specs.List.{AllByRecursion, list_any}
+use Rattle.std.specs.List.{AllByRecursion, filter, list_any}
 use Rattle.std.specs.Cmp.Lexicographic.{bytes_decides}
 use Rattle.std.proofs.lemmas.Bool.{and_parts, and_from, not-true, not_from_false, leb-true}
 use Rattle.std.proofs.lemmas.Bool.{false_from_ne_true, both_ways}
@@ -18,6 +18,7 @@ use Rattle.am_complete.specs.FoundState.{begins, has_label}
 use Rattle.am_unseen.specs.declared.limits.TheConstants.{MOST_EDITS}
 use Rattle.am_unseen.specs.Unseen.{seen_values, is_missing, names_unseen_value}
 use Rattle.am_unseen.specs.Unseen.{most_similar, edits_between, is_similar, is_nearest}
+use Rattle.am_unseen.proofs.EachOnce.{once_in, in_once}
 use Rattle.am_unseen.proofs.Found.{found_in, all_each}
 use Rattle.am_unseen.proofs.Nearest.{all_too_far}
 
@@ -27,14 +28,22 @@ use Rattle.am_unseen.proofs.Nearest.{all_too_far}
 seen_in : (alerts : List LabelMap) (name value : List ℕ) → IsIn (seen_values alerts name) value
     → (a : LabelMap) × IsIn alerts a × (value_of a name ≡ value) × (begins value ≡ true)
 seen_in alerts name value i =
-    let kept = passes_from_kept begins (map (λ a. value_of a name) alerts) value i in
-    let r = IsIn-unmap (λ a. value_of a name) alerts value kept.0 in (r.0, r.1, r.2, kept.1)
+    let values = map (λ a. value_of a name) alerts in
+    elim (once_in [] (filter begins values) value i) [
+      | inl none ↦ absurd none
+      | inr some ↦
+          let kept = passes_from_kept begins values value some in
+          let r = IsIn-unmap (λ a. value_of a name) alerts value kept.0 in
+          (r.0, r.1, r.2, kept.1)
+    ]
 
 in_seen : (alerts : List LabelMap) (name : List ℕ) (a : LabelMap) → IsIn alerts a
     → begins (value_of a name) ≡ true → IsIn (seen_values alerts name) (value_of a name)
 in_seen alerts name a i some =
-    kept_from_passes begins (map (λ b. value_of b name) alerts) (value_of a name)
-    (IsIn-map (λ b. value_of b name) alerts a i) some
+    let values = map (λ b. value_of b name) alerts in
+    in_once [] (filter begins values) (value_of a name)
+    (inr (kept_from_passes begins values (value_of a name)
+    (IsIn-map (λ b. value_of b name) alerts a i) some))
 
 -- ---- A text that is missing.
 

@@ -1,13 +1,11 @@
 -- What is kept while the matchers of a world are looked at.
-use Rattle.std.specs.Prelude.{◌≡◌, ℕ, List, [], ◌∷◌, ◌++◌, map, fold, Option, Some}
+use Rattle.std.specs.Prelude.{◌≡◌, ℕ, List, [], ◌∷◌, ◌++◌, map, Option, Some}
 use Rattle.std.specs.Prelude.{if◌then◌else◌}
-use Rattle.std.specs.List.{list_any}
 use Rattle.std.specs.BTreeMap.{BTreeMap, get_by}
 use Rattle.std.specs.Ordering.{nat_cmp}
 use Rattle.std.specs.Cmp.Lexicographic.{slice_cmp}
 use Rattle.indexmap.specs.IndexSet.{IndexSet}
 use Rattle.am_universe.specs.LabelSet.{LabelMap}
-use Rattle.am_universe.specs.Text.{same_text}
 use Rattle.am_labels.specs.Matcher.{Condition}
 use Rattle.am_complete.specs.declared.origin.Origin.{Origin}
 use Rattle.am_unseen.specs.Unseen.{UnseenValue, seen_values, names_unseen_value, unseen_value_of}
@@ -25,13 +23,6 @@ after_matcher s placed =
     then record s { found = s.found ++ unseen_value_of s.alerts placed ∷ [] }
     else s
 
--- Texts, each once, in the order in which they come first.
-abbrev pub with_text : List (List ℕ) → List ℕ → List (List ℕ)
-with_text texts text = if list_any (same_text text) texts then texts else texts ++ text ∷ []
-
-abbrev pub each_once : List (List ℕ) → List (List ℕ)
-each_once texts = fold with_text [] texts
-
 -- The texts of a set, in their order.
 abbrev pub texts_of : {S : Type 0} → IndexSet (Bor (List ℕ)) S → List (List ℕ)
 texts_of texts = map (λ t. t.now) texts.keys
@@ -45,4 +36,4 @@ abbrev pub AreSeen : {S : Type 0} → List LabelMap
     → BTreeMap (Bor (List ℕ)) (IndexSet (Bor (List ℕ)) S) → Type 0
 AreSeen {S} alerts sets =
     (name : List ℕ) (values : IndexSet (Bor (List ℕ)) S) → set_at sets name ≡ Some values
-    → texts_of values ≡ each_once (seen_values alerts name)
+    → texts_of values ≡ seen_values alerts name

@@ -12,6 +12,7 @@ ghost use Rattle.am_unseen.specs.Unseen.{names_unseen_value, most_similar, edits
 /// A matcher with an unseen value matches no alert, though some alert has its label. Conversely, if
 /// both are true of a matcher with `=` and a value that is not empty, the matcher has an unseen
 /// value.
+#[tactic(auto, using(crate::proofs::UnseenMatchers::unseen_matches_none, crate::proofs::UnseenMatchers::unseen_has_label, crate::proofs::UnseenMatchers::each_unseen))]
 pub fn a_matcher_of_an_unseen_value_matches_no_alert()
     ensures matches_none { (alerts : List LabelMap) (m : Condition)
         → IsTrue (names_unseen_value alerts m)

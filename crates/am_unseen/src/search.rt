@@ -2,7 +2,7 @@
 
 ghost use Rattle.std.specs.Prelude.{◌≡◌, [], Some, None, IfOk, if◌then◌else◌};
 ghost use Rattle.am_unseen.specs.Unseen.{seen_values, is_missing, unseen_value_of, most_similar};
-ghost use Rattle.am_unseen.specs.Search.{after_matcher, texts_of, each_once};
+ghost use Rattle.am_unseen.specs.Search.{after_matcher, texts_of};
 
 use crate::UnseenValue;
 use crate::similar::most_similar;
@@ -105,7 +105,7 @@ fn values_of<'w>(
     name: &str,
 ) -> Result<IndexSet<&'w str>, AllocError>
     ensures { IfOk result (λ values.
-        texts_of values ≡ each_once (seen_values alerts.now name.now)) }
+        texts_of values ≡ seen_values alerts.now name.now) }
 {
     let mut values = IndexSet::new(alloc);
     for i in 0..alerts.len() {
