@@ -186,3 +186,9 @@ pub complete_without_lists : (a : Alphabet) (u : List Label) (c : Configuration)
 complete_without_lists a u c ms among complete =
     complete_for_some a u (route_conditions c.root ++ []) ms
     (both_among (route_conditions c.root) [] ms among tt) complete
+
+-- ---- What the laws say.
+
+pub ruleset space_parts = (complete_space, complete_universe, space_complete_for_some)
+
+pub ruleset parts_among = (first_among, last_among, among_through, both_among)

@@ -1,13 +1,15 @@
 -- Label sets that meet the same of the matchers that decide have the same fate.
 use Rattle.std.proofs.Common.{◌≡◌, ℕ, ◌+◌, List, [], ◌∷◌, ◌++◌, map, Bool, false, cond, not, refl}
-use Rattle.std.proofs.Common.{sym, ap, ◌∙◌, inl, inr}
+use Rattle.std.proofs.Common.{sym, ap, ◌∙◌, inl, inr, subst}
 use Rattle.std.specs.Prelude.{◌&&◌, ◌||◌, ◌==◌}
 use Rattle.std.specs.List.{flat_map, filter, filter_map, list_any}
 use Rattle.std.proofs.lemmas.Bool.{cases_Bool}
 use Rattle.am_universe.specs.LabelSet.{LabelMap}
-use Rattle.am_universe.proofs.ListLemmas.{AllByRecursion-each, AllByRecursion-at}
+use Rattle.am_universe.proofs.ListLemmas.{IsIn, AllByRecursion-each, AllByRecursion-at}
 use Rattle.am_labels.specs.Matcher.{Condition, condition_holds, all_hold}
 use Rattle.am_labels.specs.Space.{is_possible}
+use Rattle.am_labels.proofs.Passing.{kept_from_passes}
+use Rattle.am_list_files.specs.SilencesFile.{Silence}
 use Rattle.am_config.specs.ConfigFile.{RouteTree, Routes, route, no_routes, next_route, matchers_of}
 use Rattle.am_config.specs.ConfigFile.{continues_of, Configuration, Rule}
 use Rattle.am_eval.specs.Inhibition.{have_equal, inhibits, is_inhibited}
@@ -93,29 +95,36 @@ module _ (s t : LabelMap) where
 
   -- ---- Silences and impossible lists.
 
-  -- if a test of each item depends only on the matchers of the item, whether any item passes
-  -- depends only on the matchers of all items
-  any_alike : {X : Type 0} (conditions : X → List Condition) (f g : X → Bool)
-      → ((x : X) → MeetsTheSame (conditions x) s t → f x ≡ g x) → (xs : List X)
-      → MeetsTheSame (flat_map conditions xs) s t → list_any f xs ≡ list_any g xs
-  any_alike conditions f g each [] h = refl
-  any_alike conditions f g each (x ∷ xs) h =
-      let here = each x (front_met (conditions x) (flat_map conditions xs) h) in
-      let later = any_alike conditions f g each xs
-      (rest_met (conditions x) (flat_map conditions xs) h) in
-      λ i. here i || later i
+  -- what is met alike of the matchers of all items is met alike of those of each
+  each_met : {X : Type 0} (conditions : X → List Condition) (xs : List X) (x : X) → IsIn xs x
+      → MeetsTheSame (flat_map conditions xs) s t → MeetsTheSame (conditions x) s t
+  each_met conditions [] x there h = absurd there
+  each_met conditions (y ∷ xs) x (inl same) h =
+      subst (λ z. MeetsTheSame (conditions z) s t) same
+      (front_met (conditions y) (flat_map conditions xs) h)
+  each_met conditions (y ∷ xs) x (inr later) h =
+      each_met conditions xs x later (rest_met (conditions y) (flat_map conditions xs) h)
+
+  any_alike : {X : Type 0} (f g : X → Bool) (xs : List X)
+      → ((x : X) → IsIn xs x → f x ≡ g x) → list_any f xs ≡ list_any g xs
+  any_alike f g [] each = refl
+  any_alike f g (x ∷ xs) each =
+      λ i. each x (inl refl) i || any_alike f g xs (λ y later. each y (inr later)) i
 
   pub same_silenced : (w : World) → MeetsTheSame (silence_conditions w.silences) s t
       → is_silenced w s ≡ is_silenced w t
-  same_silenced w =
-      any_alike (λ silence. silence.matchers) (hides w s) (hides w t)
-      (λ silence here i. is_active w.instant silence && all_alike silence.matchers here i)
-      w.silences
+  same_silenced w h =
+      any_alike (hides w s) (hides w t) w.silences (λ silence there i.
+      is_active w.instant silence
+      && all_alike silence.matchers
+      (each_met (λ (x : Silence). x.matchers) w.silences silence there h) i)
 
   pub same_possible : (lists : List (List Condition))
       → MeetsTheSame (impossible_conditions lists) s t
       → is_possible lists s ≡ is_possible lists t
-  same_possible lists h = ap not (any_alike (λ ms. ms) (all_hold s) (all_hold t) all_alike lists h)
+  same_possible lists h =
+      ap not (any_alike (all_hold s) (all_hold t) lists (λ ms there.
+      all_alike ms (each_met (λ (x : List Condition). x) lists ms there h)))
 
   -- ---- Inhibition rules.
 
@@ -144,45 +153,25 @@ module _ (s t : LabelMap) where
   abbrev fires : Rule → LabelMap → Bool
   fires rule firing = all_hold firing rule.source
 
-  alerts_alike : (rule : Rule) (alerts : List LabelMap) → MeetsTheSame rule.source s t
-      → MeetsTheSame rule.target s t
-      → MeetsTheSame (flat_map (equal_to_alert rule.equal) (filter (fires rule) alerts)) s t
-      → list_any (λ a. inhibits rule a s) alerts ≡ list_any (λ a. inhibits rule a t) alerts
-  alerts_alike rule [] source target equal = refl
-  alerts_alike rule (a ∷ alerts) source target equal =
-      let others = flat_map (equal_to_alert rule.equal) (filter (fires rule) alerts) in
-      elim (cases_Bool (fires rule a)) [
-        | inl fired ↦
-            let both : MeetsTheSame (equal_to_alert rule.equal a ++ others) s t =
-            rw fired at equal in
-            let here = inhibits_alike rule a source target
-            (front_met (equal_to_alert rule.equal a) others both) in
-            let later = alerts_alike rule alerts source target
-            (rest_met (equal_to_alert rule.equal a) others both) in
-            λ i. here i || later i
-        | inr not_fired ↦
-            let left : MeetsTheSame others s t = rw not_fired at equal in
-            let here = unfired rule a s not_fired ∙ sym (unfired rule a t not_fired) in
-            let later = alerts_alike rule alerts source target left in
-            λ i. here i || later i
-      ]
-
   rules_alike : (rules : List Rule) (alerts : List LabelMap)
       → MeetsTheSame (rule_conditions rules) s t
       → MeetsTheSame (equal_conditions rules alerts) s t
       → list_any (λ rule. list_any (λ a. inhibits rule a s) alerts) rules
       ≡ list_any (λ rule. list_any (λ a. inhibits rule a t) alerts) rules
-  rules_alike [] alerts sides equal = refl
-  rules_alike (rule ∷ rules) alerts sides equal =
-      let own = rule.source ++ rule.target in
-      let mine = front_met own (rule_conditions rules) sides in
-      let asked = flat_map (equal_to_alert rule.equal) (filter (fires rule) alerts) in
-      let here = alerts_alike rule alerts (front_met rule.source rule.target mine)
-      (rest_met rule.source rule.target mine)
-      (front_met asked (equal_conditions rules alerts) equal) in
-      let later = rules_alike rules alerts (rest_met own (rule_conditions rules) sides)
-      (rest_met asked (equal_conditions rules alerts) equal) in
-      λ i. here i || later i
+  rules_alike rules alerts sides equal = any_alike _ _ rules (λ rule there.
+      let own = each_met (λ (r : Rule). r.source ++ r.target) rules rule there sides in
+      let asked = each_met
+      (λ (r : Rule). flat_map (equal_to_alert r.equal) (filter (fires r) alerts)) rules rule there
+      equal in
+      any_alike (λ a. inhibits rule a s) (λ a. inhibits rule a t) alerts (λ a among.
+      elim (cases_Bool (fires rule a)) [
+        | inl fired ↦
+            inhibits_alike rule a (front_met rule.source rule.target own)
+            (rest_met rule.source rule.target own)
+            (each_met (equal_to_alert rule.equal) (filter (fires rule) alerts) a
+            (kept_from_passes (fires rule) alerts a among fired) asked)
+        | inr not_fired ↦ unfired rule a s not_fired ∙ sym (unfired rule a t not_fired)
+      ]))
 
   pub same_inhibited : (w : World) → MeetsTheSame (rule_conditions w.config.rules) s t
       → MeetsTheSame (equal_conditions w.config.rules w.alerts) s t
@@ -231,3 +220,15 @@ module _ (s t : LabelMap) where
       let one = same_truth w q fate (front_met (question_conditions q) (question_conditions r) h) in
       let two = same_truth w r fate (rest_met (question_conditions q) (question_conditions r) h) in
       λ i. one i || two i
+
+-- ---- All of it.
+
+pub ruleset alike = (
+  met_of_some,
+  same_ends,
+  same_receivers,
+  same_silenced,
+  same_inhibited,
+  same_possible,
+  same_fate,
+)

@@ -56,6 +56,7 @@ pub fn a_complete_universe_stands_for_every_alert()
 /// the matchers of the routes, they end at the same routes and go to the same receivers. Both or
 /// neither are silenced, inhibited or possible, if they meet the same of the matchers that decide
 /// it. Label sets that meet the same of some matchers meet the same of each part of them.
+#[tactic(auto, using(crate::proofs::SameFate::alike))]
 pub fn what_meets_the_same_has_the_same_fate()
     ensures ends { (c : Configuration) (s t : LabelMap)
         → MeetsTheSame (route_conditions c.root) s t → ends s c ≡ ends t c }
@@ -164,6 +165,7 @@ pub fn a_universe_is_complete_by_its_matchers()
 /// A space is complete for some matchers, over an alphabet, if its universe is. If nothing is
 /// impossible, it is complete only then. A space that is complete for some matchers is complete for
 /// each part of them.
+#[tactic(auto, using(crate::proofs::CompleteSpaces::space_parts))]
 pub fn a_space_is_complete_where_its_universe_is()
     ensures universe { (a : Alphabet) (s : Space) (ms : List Condition)
         → IsComplete a s.labels ms → IsSpaceComplete a s ms }
@@ -175,6 +177,7 @@ pub fn a_space_is_complete_where_its_universe_is()
 
 /// Both parts of a list of matchers are among the whole list. To be among others is transitive, and
 /// two lists that are among a third are so together.
+#[tactic(auto, using(crate::proofs::CompleteSpaces::parts_among))]
 pub fn parts_of_matchers_are_among_them()
     ensures front { (ms ns : List Condition) → AreAmong ms (ms ++ ns) }
     ensures behind { (ms ns : List Condition) → AreAmong ns (ms ++ ns) }
