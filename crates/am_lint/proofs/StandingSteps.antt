@@ -1,6 +1,5 @@
 -- What the first literals for a route say, and which reasons follow from those that are named.
-use Rattle.std.proofs.Common.{◌≡◌, ℕ, List, [], ◌++◌, length, take, refl, sym, ap, ◌∙◌, subst}
-use Rattle.std.proofs.Common.{Contains}
+use Rattle.std.proofs.Common.{◌≡◌, ℕ, List, [], ◌++◌, length, take, refl, ap, ◌∙◌}
 use Rattle.std.specs.Prelude.{⊤}
 use Rattle.std.proofs.lemmas.List.{take_at, append_assoc}
 use Rattle.am_universe.proofs.ListLemmas.{IsIn-from_Contains}
@@ -19,6 +18,19 @@ use Rattle.am_lint.specs.Reasons.{IsHandedTo}
 use Rattle.am_lint.proofs.EnteringLemmas.{way_exactly, enters_exactly, ends_exactly}
 use Rattle.am_lint.proofs.LiteralTruth.{AreFront, nothing_said, more_said}
 use Rattle.am_lint.proofs.NamedReasons.{AreNamedFrom, IsOfPart, part_reason}
+
+-- what is known of the literals for a route, and of the first of them
+pub record AreKnown (s : Space) (c : Configuration) (routes : List TableRoute) (path : List ℕ)
+    (on_way to_enter : ℕ) (all : List Candidate) : Type 0 where
+  pub ending : AreFront s routes all (EndsAt c path)
+  pub entering : AreFront s routes (take to_enter all) (Enters c path)
+  pub matching : AreFront s routes (take on_way all) (MatchesWay c path)
+  pub handed : (paths : List (List ℕ)) → AreNamedFrom s routes to_enter all paths
+      → IsHandedTo (IsSetOf s) c path paths
+  pub taken : (paths : List (List ℕ)) → AreNamedFrom s routes on_way (take to_enter all) paths
+      → SomeIs (IsSetOf s) (MatchesWay c path) → IsTakenBy (IsSetOf s) c path paths
+  pub excluded : (paths : List (List ℕ)) → AreNamedFrom s routes 0 (take on_way all) paths
+      → IsExcludedBy (IsSetOf s) c path paths
 
 module _ (s : Space) (c : Configuration) (routes : List TableRoute)
     (known : IsTableOf s.labels c routes) (path : List ℕ) (there : IsRoute c path)
@@ -40,68 +52,43 @@ module _ (s : Space) (c : Configuration) (routes : List TableRoute)
       more_said s c routes known path Children are.to_enter found.all.items are.children
       (Enters c path) (EndsAt c path) to_enter (ends_exactly c path)
 
-  -- ---- The same for the first of the literals.
+  enter_first : take found.to_enter found.all.items ≡ are.to_enter
+  enter_first =
+      (λ i. take (are.many_to_enter i) (are.children.adds i))
+      ∙ take_at are.to_enter are.children.more (length are.to_enter) refl
 
-  module _ (all : List Candidate) (same : all ≡ found.all.items) where
-    enter_first : take found.to_enter all ≡ are.to_enter
-    enter_first =
-        (λ i. take (are.many_to_enter i) ((same ∙ are.children.adds) i))
-        ∙ take_at are.to_enter are.children.more (length are.to_enter) refl
+  way_first : take found.on_way found.all.items ≡ are.on_way
+  way_first =
+      (λ i. take (are.many_on_way i) ((are.children.adds
+      ∙ ap (λ ks. ks ++ are.children.more) are.before.adds
+      ∙ append_assoc are.on_way are.before.more are.children.more) i))
+      ∙ take_at are.on_way (are.before.more ++ are.children.more) (length are.on_way) refl
 
-    way_first : take found.on_way all ≡ are.on_way
-    way_first =
-        (λ i. take (are.many_on_way i) ((same ∙ are.children.adds
-        ∙ ap (λ ks. ks ++ are.children.more) are.before.adds
-        ∙ append_assoc are.on_way are.before.more are.children.more) i))
-        ∙ take_at are.on_way (are.before.more ++ are.children.more) (length are.on_way) refl
+  -- ---- Reasons.
 
-    pub ending : AreFront s routes all (EndsAt c path)
-    ending = subst (λ (ks : List Candidate). AreFront s routes ks (EndsAt c path)) (sym same) to_end
+  taken_by : (paths : List (List ℕ))
+      → IsReasonWhy (IsSetOf s) (IsOfPart c path Before) (MatchesWay c path) (Misses c) paths
+      → SomeIs (IsSetOf s) (MatchesWay c path) → IsTakenBy (IsSetOf s) c path paths
+  taken_by paths why some = (
+    λ none. why.enough some.0 some.1 (
+      some.2,
+      λ q among. absurd (IsIn-from_Contains [] q (rw none at among)),
+    ),
+    why,
+  )
 
-    pub entering : AreFront s routes (take found.to_enter all) (Enters c path)
-    entering =
-        subst (λ (ks : List Candidate). AreFront s routes ks (Enters c path)) (sym enter_first)
-        to_enter
-
-    pub matching : AreFront s routes (take found.on_way all) (MatchesWay c path)
-    matching =
-        subst (λ (ks : List Candidate). AreFront s routes ks (MatchesWay c path)) (sym way_first)
-        on_way
-
-    -- ---- Reasons.
-
-    pub handed : (paths : List (List ℕ)) → AreNamedFrom s routes found.to_enter all paths
-        → IsHandedTo (IsSetOf s) c path paths
-    handed paths named =
+  pub known_of : AreKnown s c routes path found.on_way found.to_enter found.all.items
+  known_of = record {
+    ending = to_end;
+    entering = rw enter_first to_enter;
+    matching = rw way_first on_way;
+    handed = λ paths named.
         part_reason s c routes known path Children are.to_enter found.all.items are.children
-        (Enters c path) to_enter.say paths
-        (subst (λ n. AreNamedFrom s routes n found.all.items paths) are.many_to_enter
-        (subst (λ (ks : List Candidate). AreNamedFrom s routes found.to_enter ks paths) same named))
-
-    pub taken : (paths : List (List ℕ))
-        → AreNamedFrom s routes found.on_way (take found.to_enter all) paths
-        → SomeIs (IsSetOf s) (MatchesWay c path) → IsTakenBy (IsSetOf s) c path paths
-    taken paths named some =
-        let why : IsReasonWhy (IsSetOf s) (IsOfPart c path Before) (MatchesWay c path) (Misses c)
-        paths =
-        part_reason s c routes known path Before are.on_way are.to_enter are.before
-        (MatchesWay c path) on_way.say paths
-        (subst (λ n. AreNamedFrom s routes n are.to_enter paths) are.many_on_way
-        (subst (λ (ks : List Candidate). AreNamedFrom s routes found.on_way ks paths) enter_first
-        named)) in (
-          λ empty.
-              why.enough some.0 some.1 (
-                some.2,
-                λ q among. absurd (IsIn-from_Contains [] q
-                    (subst (λ (qs : List (List ℕ)). Contains qs q) empty among)),
-              ),
-          why,
-        )
-
-    pub excluded : (paths : List (List ℕ))
-        → AreNamedFrom s routes 0 (take found.on_way all) paths
-        → IsExcludedBy (IsSetOf s) c path paths
-    excluded paths named =
+        (Enters c path) to_enter.say paths (rw are.many_to_enter at named);
+    taken = λ paths named.
+        taken_by paths (part_reason s c routes known path Before are.on_way are.to_enter are.before
+        (MatchesWay c path) on_way.say paths (rw (enter_first, are.many_on_way) at named));
+    excluded = λ paths named.
         part_reason s c routes known path Way [] are.on_way are.way (λ set. ⊤)
-        (nothing_said s routes).say paths
-        (subst (λ (ks : List Candidate). AreNamedFrom s routes 0 ks paths) way_first named)
+        (nothing_said s routes).say paths (rw way_first at named);
+  }

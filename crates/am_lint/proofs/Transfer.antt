@@ -1,5 +1,5 @@
 -- What is true of the label sets of a complete space is true of all its alerts.
-use Rattle.std.proofs.Common.{◌≡◌, ℕ, zero, suc, List, [], ◌∷◌, Contains, Some, refl, sym}
+use Rattle.std.proofs.Common.{◌≡◌, ℕ, zero, suc, List, [], ◌∷◌, Contains, Some, sym}
 use Rattle.std.proofs.Common.{subst, ◌∙◌}
 use Rattle.std.specs.Prelude.{IsTrue, slice_get, ⊤}
 use Rattle.std.proofs.lemmas.Option.{option_and_then_some, same_Some}

@@ -32,14 +32,12 @@ pub fn found_routes(
     ensures once { IfOk result (λ found. AllByRecursion (λ route. route.every ≡ None) found.items) }
 {
     let table = Table::of(alloc, space, config)?;
-    let listed = config.routes(alloc)?;
-    let mut found = Vec::with_capacity(alloc, listed.paths.len())?;
-    for i in 0..listed.paths.len() {
-        let path = listed.paths[i];
+    let mut found = Vec::with_capacity(alloc, table.routes.len())?;
+    for route in &table.routes {
         found.push(FoundRoute {
-            path,
-            receiver: listed.routes[i].receiver(),
-            ordinary: standing_of(alloc, &table, &path)?,
+            path: route.path,
+            receiver: route.receiver,
+            ordinary: standing_of(alloc, &table, &route.path)?,
             every: None,
         })?;
     }

@@ -35,8 +35,8 @@ impl Part {
     {
         match self {
             Part::Way => path.leads_through(&route.path),
-            Part::Before => !route.continues && stands_before(path, &route.path),
-            Part::Children => is_child_of(path, &route.path),
+            Part::Before => !route.continues && stands_before(path.steps(), route.path.steps()),
+            Part::Children => is_child_of(path.steps(), route.path.steps()),
         }
     }
 }

@@ -16,6 +16,7 @@ pub(crate) struct TableRoute {
     pub path: Path,
     pub continues: bool,
     pub cube: Cube,
+    pub receiver: usize,
 }
 
 /// The routes of a configuration over a space, in preorder, and what is impossible.
@@ -46,6 +47,7 @@ impl<'a> Table<'a> {
                 path: listed.paths[i],
                 continues: route.continues(),
                 cube: Cube::of(alloc, route.matchers(), space.universe())?,
+                receiver: route.receiver(),
             })?;
         }
         Ok(Table {

@@ -27,11 +27,17 @@ loop-i-preserved c =
     let there = listed_at all listed i path c.index-route.result.now c.in_ok-listed.ensures.routes
     lt c.index.ensures c.index-route.ensures in
     let route : TableRoute =
-    record { path = path; continues = c.continues.result; cube = c.in_ok-of.field-0 } in
+    record {
+      path = path;
+      continues = c.continues.result;
+      cube = c.in_ok-of.field-0;
+      receiver = c.receiver.result;
+    } in
     let is : IsTabled u (path, t) route = (
       refl,
       c.continues.ensures.continues,
       rw (c.universe.ensures.labels, c.matchers.ensures.matchers) at c.in_ok-of.ensures.exact,
+      c.receiver.ensures.receiver,
     ) in
     subst (AllZip (IsTabled u) (take (i + 1) all)) (sym c.in_ok-push.ensures.items)
     (subst (λ (rs : List (List ℕ × RouteTree)). AllZip (IsTabled u) rs
