@@ -2,13 +2,14 @@
 -- same of its matchers. The label sets of two such choices are alerts that may meet. So what is
 -- found of a rule among the choices of a universe that stands for every alert is true of every
 -- alert.
-use Rattle.std.proofs.Common.{◌≡◌, ℕ, zero, suc, List, [], ◌∷◌, length, Bool, true, false, not}
+use Rattle.std.proofs.Common.{◌≡◌, ◌↔◌, ℕ, zero, suc, List, [], ◌∷◌, length, Bool, true, not}
 use Rattle.std.proofs.Common.{cond, Option, Some, None, refl, sym, ap, ◌∙◌, subst, inl, inr, arith}
-use Rattle.std.specs.Prelude.{◌&&◌, ◌||◌, ◌==◌, IsTrue, IfSome, slice_get}
+use Rattle.std.specs.Prelude.{◌&&◌, ◌||◌, ◌==◌, IsTrue, IsFalse, IfSome, slice_get}
 use Rattle.std.specs.Prelude.{slice_index, unwrap_or, nat_lt}
 use Rattle.std.specs.List.{cons_option}
 use Rattle.std.specs.Cmp.Lexicographic.{bytes_decides}
 use Rattle.std.proofs.lemmas.Bool.{cases_Bool, and_parts, and_from, both_ways, eqb-true, eq-eqb}
+use Rattle.std.proofs.lemmas.Bool.{not-true}
 use Rattle.std.proofs.lemmas.List.Quantifiers.{position-Some}
 use Rattle.am_universe.specs.Text.{same_text}
 use Rattle.am_universe.specs.Universe.{Label, IsUniverse, sizes, label_position}
@@ -26,10 +27,10 @@ use Rattle.am_config.specs.ConfigFile.{Rule}
 use Rattle.am_search.proofs.ChoiceOrder.{got_at}
 use Rattle.am_eval.specs.Inhibition.{have_equal, is_two_sided, inhibits}
 use Rattle.am_judged_lists.specs.Pairs.{is_shared, are_same_at}
-use Rattle.am_judged_lists.proofs.ListLemmas.{all_pass, some_passes}
+use Rattle.am_judged_lists.proofs.ListLemmas.{all_pass, each_passes, some_passes}
 use Rattle.am_classes.specs.declared.alphabet.Alphabet.{Alphabet}
 use Rattle.am_complete.specs.Complete.{impossible_conditions}
-use Rattle.am_every_alert.specs.EveryAlert.{IsAlertOf, MeetsTheSame}
+use Rattle.am_every_alert.specs.EveryAlert.{MeetsTheSame}
 use Rattle.am_every_alert.specs.Deciding.{deciding_conditions, space_of}
 use Rattle.am_every_alert.proofs.SpaceAlerts.{space_choice, alert_of_set}
 use Rattle.am_every_alert.proofs.SameFate.{front_met, rest_met, all_alike, same_possible}
@@ -128,16 +129,10 @@ module _ (u : List Label) (h : IsUniverse u) where
 -- label sets that agree in all of some names have the same value for each of them
 equal_at : (names : List (List ℕ)) (x y : LabelMap) (name : List ℕ)
     → have_equal names x y ≡ true → IsIn names name → value_of x name ≡ value_of y name
-equal_at [] x y name same there = absurd there
-equal_at (first ∷ names) x y name same (inl is) =
-    let here = (and_parts (same_text (value_of x first) (value_of y first))
-    (have_equal names x y) same).0 in
-    subst (λ n. value_of x n ≡ value_of y n) is
-    ((bytes_decides (value_of x first) (value_of y first)).0 here)
-equal_at (first ∷ names) x y name same (inr later) =
-    equal_at names x y name
-    (and_parts (same_text (value_of x first) (value_of y first)) (have_equal names x y) same).1
-    later
+equal_at names x y name same there =
+    let test = λ (n : List ℕ). same_text (value_of x n) (value_of y n) in
+    (bytes_decides (value_of x name) (value_of y name)).0
+    (AllByRecursion-at (λ n. test n ≡ true) names name (each_passes test names same) there)
 
 -- ---- A choice that has the positions of another at some labels.
 
@@ -163,20 +158,13 @@ mixed_admitted takes (n ∷ ns) (p ∷ c) (q ∷ d) first second =
     let one = and_parts (nat_lt p n) (admits ns c) first in
     let two = and_parts (nat_lt q n) (admits ns d) second in
     and_from (nat_lt (cond (takes 0) p q) n) (admits ns (mixed (λ i. takes (suc i)) c d))
-    (either (takes 0) one.0 two.0)
+    (elim (cases_Bool (takes 0)) [ inl e ↦ rw e one.0 | inr e ↦ rw e two.0 ])
     (mixed_admitted (λ i. takes (suc i)) ns c d one.1 two.1)
-  where
-    either : (b : Bool) → nat_lt p n ≡ true → nat_lt q n ≡ true → nat_lt (cond b p q) n ≡ true
-    either true a b = a
-    either false a b = b
 
 mixed_at : (takes : ℕ → Bool) (c d : List ℕ) (i : ℕ) → length c ≡ length d
     → slice_index (mixed takes c d) i ≡ cond (takes i) (slice_index c i) (slice_index d i)
-mixed_at takes [] [] i same = either (takes i)
-  where
-    either : (b : Bool) → ◌≡◌ {A = ℕ} 0 (cond b 0 0)
-    either true = refl
-    either false = refl
+mixed_at takes [] [] i same =
+    elim (cases_Bool (takes i)) [ inl e ↦ rw e refl | inr e ↦ rw e refl ]
 mixed_at takes [] (q ∷ d) i same = absurd (omega (arith, same))
 mixed_at takes (p ∷ c) [] i same = absurd (omega (arith, same))
 mixed_at takes (p ∷ c) (q ∷ d) zero same = refl
@@ -276,53 +264,39 @@ meets_told ms positions set alert met is i m there at =
     condition_told ms set alert i m met at (is i m there at)
 
 -- and what matches a list meets each matcher of it
-matched_at : (ms : List Condition) (set : LabelMap) (i : ℕ) (m : Condition)
-    → all_hold set ms ≡ true → slice_get ms i ≡ Some m → condition_holds set m ≡ true
-matched_at [] set i m all at = absurd (cc)
-matched_at (n ∷ ms) set zero m all at =
-    let is : n ≡ m = cc in
-    ap (condition_holds set) (sym is)
-    ∙ (and_parts (condition_holds set n) (all_hold set ms) all).0
-matched_at (n ∷ ms) set (suc i) m all at =
-    matched_at ms set i m (and_parts (condition_holds set n) (all_hold set ms) all).1 at
-
 meets_all : (ms : List Condition) (positions : List ℕ) (set : LabelMap) → Matches ms set
     → MeetsAt ms positions set
-meets_all ms positions set all i m there at = matched_at ms set i m all at
+meets_all ms positions set all i m there at =
+    AllByRecursion-at (λ n. condition_holds set n ≡ true) ms m
+    (each_passes (condition_holds set) ms all) (got_at ms i m at)
 
 module _ (rule : Rule) where
   -- ---- What inhibits.
 
-  inhibits_where : (x y : LabelMap) → have_equal rule.equal x y ≡ true
-      → all_hold x rule.source ≡ true → all_hold y rule.target ≡ true
-      → (is_two_sided rule x && is_two_sided rule y) ≡ false → inhibits rule x y ≡ true
-  inhibits_where x y equal source target spared =
-      and_from (all_hold x rule.source && all_hold y rule.target && have_equal rule.equal x y)
-      (not (is_two_sided rule x && is_two_sided rule y))
-      (and_from (all_hold x rule.source && all_hold y rule.target) (have_equal rule.equal x y)
-      (and_from (all_hold x rule.source) (all_hold y rule.target) source target) equal)
-      (ap not spared)
+  inhibits_exactly : (x y : LabelMap) → IsTrue (inhibits rule x y)
+      ↔ (IsTrue (have_equal rule.equal x y) × IsTrue (all_hold x rule.source)
+      × IsTrue (all_hold y rule.target) × IsFalse (is_two_sided rule x && is_two_sided rule y))
+  inhibits_exactly x y =
+      let source = all_hold x rule.source in
+      let target = all_hold y rule.target in
+      let same = have_equal rule.equal x y in
+      let both = is_two_sided rule x && is_two_sided rule y in (
+        λ is.
+            let parts = and_parts (source && target && same) (not both) is in
+            let front = and_parts (source && target) same parts.0 in
+            let sides = and_parts source target front.0 in
+            (front.1, sides.0, sides.1, not-true both parts.1),
+        λ h.
+            and_from (source && target && same) (not both)
+            (and_from (source && target) same (and_from source target h.1 h.2) h.0) (ap not h.3),
+      )
 
   module _ (a : Alphabet) (s : Space) where
-    two_of_inhibits : (x y : LabelMap) → IsAlertOf a s x → IsAlertOf a s y
-        → inhibits rule x y ≡ true → SomeInhibit (MayMeet a s rule) rule
-    two_of_inhibits x y first second is =
-        let source = all_hold x rule.source in
-        let target = all_hold y rule.target in
-        let same = have_equal rule.equal x y in
-        let both = is_two_sided rule x && is_two_sided rule y in
-        let parts = and_parts (source && target && same) (not both) is in
-        let front = and_parts (source && target) same parts.0 in
-        let sides = and_parts source target front.0 in
-        (x, y, (first, second, front.1), sides.0, sides.1, spared both parts.1)
-      where
-        spared : (b : Bool) → not b ≡ true → b ≡ false
-        spared true e = sym e
-        spared false e = refl
-
     none_inhibits : (SomeInhibit (MayMeet a s rule) rule → ⊥) → IsIdle a s rule
     none_inhibits none x y first second = elim (cases_Bool (inhibits rule x y)) [
-      | inl is ↦ absurd (none (two_of_inhibits x y first second is))
+      | inl is ↦
+          let h = (inhibits_exactly x y).0 is in
+          absurd (none (x, y, (first, second, h.0), h.1, h.2, h.3))
       | inr is_not ↦ is_not
     ]
 
@@ -426,11 +400,6 @@ module _ (rule : Rule) where
             also r.1 two.1 (target_met r.1 two.1 r.4) two.4,
           )
 
-      inhibiting_over : SomeInhibit (AreMeeting made rule.equal) rule
-          → SomeInhibit (MayMeet a s rule) rule
-      inhibiting_over two =
-          (two.0, two.1, alerts_meet two.0 two.1 two.2, two.3, two.4, two.5)
-
       same_sides : (set alert : LabelMap) → MeetsListed set alert
           → is_two_sided rule set ≡ is_two_sided rule alert
       same_sides set alert met = λ i.
@@ -473,12 +442,12 @@ module _ (rule : Rule) where
       pub found_over : (finding : Option IdleReason)
           → IsFoundOf (AreMeeting made rule.equal) rule finding → IsRuleFinding a s rule finding
       found_over None two =
-          let over = inhibiting_over two in (
-            over.0,
-            over.1,
-            over.2.0,
-            over.2.1,
-            inhibits_where over.0 over.1 over.2.2 over.3 over.4 over.5,
+          let meet = alerts_meet two.0 two.1 two.2 in (
+            two.0,
+            two.1,
+            meet.0,
+            meet.1,
+            (inhibits_exactly two.0 two.1).1 (meet.2, two.3, two.4, two.5),
           )
       found_over (Some reason) why =
           let over = why_over reason why in (idle_by reason over, over)

@@ -1,7 +1,7 @@
 -- The literals of the sides of a rule, and what they say of the label sets of pairs.
 use Rattle.std.proofs.Common.{◌≡◌, ◌≢◌, ◌<◌, ◌+◌, ℕ, zero, suc, List, [], ◌∷◌, length, Bool, true}
-use Rattle.std.proofs.Common.{false, not, cond, Option, Some, None, refl, sym, ap, ◌∙◌, subst, inl}
-use Rattle.std.proofs.Common.{inr, arith, Contains, ◌++◌, take, drop, length-append, ◌≤◌, map}
+use Rattle.std.proofs.Common.{false, not, Option, Some, None, refl, sym, ap, ◌∙◌, subst}
+use Rattle.std.proofs.Common.{arith, Contains, ◌++◌, take, drop, length-append, ◌≤◌, map}
 use Rattle.std.proofs.Common.{IfSome, IfNone, get_or, String, Global, string_bytes}
 use Rattle.std.specs.Prelude.{◌&&◌, ◌||◌, slice_get, is_some}
 use Rattle.std.specs.List.{AllZip, cons_option, enumerate_from, filter}
@@ -544,12 +544,6 @@ pub found_if_some : (Meet : LabelMap → LabelMap → Type 0) (rule : Rule) (P :
     → IfSome o P → is_some o ≡ true → IsFoundOf Meet rule o
 found_if_some Meet rule P so None h is = absurd (cc)
 found_if_some Meet rule P so (Some reason) h is = so reason h
-
-pub cube_as : (v w : List Label) (given ms : List Condition) (cube : MaskedLabels) → v ≡ w
-    → given ≡ ms → IsCubeOf v given cube → IsCubeOf w ms cube
-cube_as v w given ms cube labels is h =
-    subst (λ (u : List Label). IsCubeOf u ms cube) labels
-    (subst (λ (list : List Condition). IsCubeOf v list cube) is h)
 
 -- ---- Names, one after another.
 

@@ -47,7 +47,6 @@ pub fn an_idle_silence_hides_no_alert()
 /// The reason that is given for an idle rule shows that it is idle: no alert inhibits another by
 /// it. Either matchers of its sides contradict each other, or any two alerts that match one side
 /// each both match both sides.
-#[tactic(auto, using(crate::proofs::RuleAlerts::idle_by))]
 pub fn a_reason_shows_that_a_rule_is_idle()
     ensures idle { (a : Alphabet) (s : Space) (rule : Rule) (reason : IdleReason)
         → IsWhyNone (MayMeet a s rule) rule reason → IsIdle a s rule }

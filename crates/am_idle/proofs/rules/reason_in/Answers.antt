@@ -4,7 +4,7 @@ use Rattle.am_labels.specs.Space.{Space}
 use Rattle.am_judged_lists.specs.Cube.{IsCubeOf}
 use Rattle.am_first_sets.specs.Pairs.{ArePairsOf}
 use Rattle.am_idle.specs.RuleChoices.{labels_named, AreMeeting}
-use Rattle.am_idle.proofs.RuleLiterals.{none_if, found_if_some, cube_as}
+use Rattle.am_idle.proofs.RuleLiterals.{none_if, found_if_some}
 use Rattle.am_idle.proofs.rules.reason_in.Goals as goal
 use Rattle.am_idle.proofs.rules.reason_in.Goals.{In_ok-pairs, In_ok-target}
 
@@ -23,16 +23,14 @@ pairs_are c =
 source_cube : (c : In_ok-target)
     → IsCubeOf c.args.space.now.labels c.args.rule.now.source c.in_ok-source.source
 source_cube c =
-    cube_as c.universe-universe.result.now c.args.space.now.labels c.source.result.now
-    c.args.rule.now.source c.in_ok-source.source c.universe-universe.ensures.labels
-    c.source.ensures.source c.in_ok-source.ensures.exact
+    rw (c.universe-universe.ensures.labels, c.source.ensures.source)
+    at c.in_ok-source.ensures.exact
 
 target_cube : (c : In_ok-target)
     → IsCubeOf c.args.space.now.labels c.args.rule.now.target c.in_ok-target.target
 target_cube c =
-    cube_as c.universe-universe.result.now c.args.space.now.labels c.target.result.now
-    c.args.rule.now.target c.in_ok-target.target c.universe-universe.ensures.labels
-    c.target.ensures.target c.in_ok-target.ensures.exact
+    rw (c.universe-universe.ensures.labels, c.target.ensures.target)
+    at c.in_ok-target.ensures.exact
 
 pub returns-then-is_some : goal.returns-then-is_some
 returns-then-is_some c =
