@@ -1,5 +1,5 @@
 -- What `universe` makes, and what it says about a universe. (This project's own.)
-use Rattle.std.specs.Prelude.{◌≡◌, ◌<◌, ℕ, List, [], ◌∷◌, ◌++◌, length, map, Bool, false, ⊤}
+use Rattle.std.specs.Prelude.{◌≡◌, ◌⊎◌, ◌<◌, ℕ, List, [], ◌∷◌, ◌++◌, length, map, Bool, false, ⊤}
 use Rattle.std.specs.Prelude.{IsTrue, string_bytes, if◌then◌else◌, Option, Some, None, is_some}
 use Rattle.std.specs.Prelude.{slice_get, ◌↔◌}
 use Rattle.std.specs.List.{AllByRecursion, list_all}
@@ -63,19 +63,25 @@ deciding_labels routes w questions impossible =
 -- ---- A universe that is made.
 
 -- A universe is made for matchers, from the labels of a space. With the impossible lists of the
--- space it is complete for the matchers, unless it may be open. It keeps the labels and values of
+-- space it is complete for the matchers, unless it may lack values. It keeps the labels and values of
 -- the space, and adds only what is needed. If the texts of the space are over the alphabet, so are
 -- its own.
 -- Source: own choice.
 -- Example: from a space without labels, for `team="db"`, it has `team` with absence and `db`.
-pub record IsMadeBeside (form : UniverseForm) (s : Space) (ms : List Condition) (u : List Label)
-    : Type 0 where
+pub record IsMadeBeside (a : Alphabet) (may_lack : Bool) (s : Space) (ms : List Condition)
+    (u : List Label) : Type 0 where
   pub universe : IsUniverse u
-  pub complete : form.open ≡ false
-      → IsSpaceComplete form.alphabet (record { labels = u; impossible = s.impossible }) ms
+  pub complete : may_lack ≡ false
+      → IsSpaceComplete a (record { labels = u; impossible = s.impossible }) ms
   pub keeps : KeepsLabels s.labels u
-  pub adds : AddsNeeded form.alphabet s ms u
-  pub over : HasTextsOver form.alphabet s.labels → HasTextsOver form.alphabet u
+  pub adds : AddsNeeded a s ms u
+  pub over : HasTextsOver a s.labels → HasTextsOver a u
+
+-- The same, of the form that is wanted, for the matchers that decide.
+abbrev pub IsMadeFor : UniverseForm → Space → World → List Question → List Label → Type 0
+IsMadeFor form s w questions u =
+    IsMadeBeside form.alphabet form.open s
+    (deciding_conditions form.routes w questions s.impossible) u
 
 -- The text is that of a universe file made from a space, for a world and for questions. `lists` are
 -- the texts of the impossible lists of the space. The file says such a universe, with the same
@@ -88,7 +94,7 @@ pub record IsMadeUniverse (form : UniverseForm) (s : Space) (lists : List (List 
   pub labels : List Label
   pub says : FileSaysUniverse text (record { labels = labels; impossible = s.impossible })
   pub word_for_word : FileHasImpossibleTexts text lists
-  pub made : IsMadeBeside form s (deciding_conditions form.routes w questions s.impossible) labels
+  pub made : IsMadeFor form s w questions labels
 
 -- The inputs are accepted, and the text is that of a universe file made for what they say.
 -- Source: own choice.
@@ -104,6 +110,8 @@ pub record MakesUniverse (inputs : UniverseInputs) (form : UniverseForm) (text :
   pub has_lists : HasListsIfAny inputs.universe lists
   pub made : IsMadeUniverse form space lists world questions text
 
+-- ---- Why no universe is made.
+
 -- The file in which a matcher stands, or `Question` if it stands in a question.
 abbrev pub origin_place : Origin → Place
 origin_place (origin_is.Route path) = places.Config
@@ -112,19 +120,14 @@ origin_place (origin_is.Silence position) = places.Silences
 origin_place (origin_is.Question position) = places.Question
 origin_place (origin_is.Impossible position) = places.Universe
 
--- No universe is made, since there is no room for the labels that are asked about: one of them
--- needs more values than a label may have, or, together with those of the space, more labels have
--- to be declared than a universe may have.
+-- There is no room for the labels that are asked about: one of them needs more values than a label
+-- may have, or, together with those of the space, more labels have to be declared than a universe
+-- may have.
 -- Source: own choice.
 -- Example: this is so if 65 routes ask about 65 labels, each with one matcher `=`.
-pub record NoRoomFor (inputs : UniverseInputs) (form : UniverseForm) (r : Refusal) : Type 0 where
-  pub space : Space
-  pub world : World
-  pub questions : List Question
-  pub accepts : AcceptsUniverseInputs inputs space world questions
-  pub full : HaveNoRoom form.alphabet space
-      (deciding_labels form.routes world questions space.impossible)
-  pub refusal : r ≡ refusal_here kinds.Limit
+abbrev pub NoRoomFor : Alphabet → Space → List AskedLabel → Place → Refusal → Type 0
+NoRoomFor a s asked place r =
+    (place ≡ places.Universe) × HaveNoRoom a s asked × (r ≡ refusal_here kinds.Limit)
 
 -- Some universe keeps the labels of a space and covers each label that is asked about, except those
 -- at some positions.
@@ -135,89 +138,81 @@ HaveRoomBut a s asked unproved =
     (u : List Label) × IsUniverse u × KeepsLabels s.labels u
     × CoversEachBut a s.impossible u asked unproved
 
--- No universe is made, since some labels are unproved and the universe may not be open, though
--- there is room for the others. The refusal is at the place of the first matcher on the first of
--- these labels, and points to what that matcher stands in.
+-- A label is the first of those that are unproved, and there is room for the others.
+-- Source: own choice.
+-- Example: over Unicode, if a route has `team=~"\bdb"` and no label before `team` has a pattern,
+-- `team` may be the first.
+pub record IsFirstUnproved (a : Alphabet) (s : Space) (asked : List AskedLabel)
+    (label : AskedLabel) : Type 0 where
+  pub unproved : List ℕ
+  pub labels : AreUnproved a s asked unproved
+  pub room : HaveRoomBut a s asked unproved
+  pub position : ℕ
+  pub first : slice_get unproved 0 ≡ Some position
+  pub there : slice_get asked position ≡ Some label
+
+-- Some labels are unproved, though there is room for the others. The refusal is at the place of the
+-- first matcher on the first of these labels, and points to what that matcher stands in.
 -- Source: own choice.
 -- Example: over Unicode, if the first child of the top-level route has `team=~"\bdb"`, and no
 -- matcher before it is on `team`, the pointer is `/route/routes/0`.
-pub record UnprovedFor (inputs : UniverseInputs) (form : UniverseForm) (place : Place)
-    (r : Refusal) : Type 0 where
-  pub space : Space
-  pub world : World
-  pub questions : List Question
-  pub accepts : AcceptsUniverseInputs inputs space world questions
-  pub closed : form.open ≡ false
-  pub unproved : List ℕ
-  pub labels : AreUnproved form.alphabet space
-      (deciding_labels form.routes world questions space.impossible) unproved
-  pub room : HaveRoomBut form.alphabet space
-      (deciding_labels form.routes world questions space.impossible) unproved
-  pub position : ℕ
-  pub first : slice_get unproved 0 ≡ Some position
-  pub label : AskedLabel
-  pub asked : slice_get (deciding_labels form.routes world questions space.impossible) position
-      ≡ Some label
-  pub stands : place ≡ origin_place label.first
-  pub refusal : r ≡ record { kind = kinds.Unproved; pointer = origin_pointer label.first }
+abbrev pub UnprovedFor : Alphabet → Space → List AskedLabel → (AskedLabel → Place) → Place
+    → Refusal → Type 0
+UnprovedFor a s asked place_of place r =
+    (label : AskedLabel) × IsFirstUnproved a s asked label × (place ≡ place_of label)
+    × (r ≡ record { kind = kinds.Unproved; pointer = origin_pointer label.first })
 
--- No universe is made, since the file of the universe would have more bytes than a file may have.
--- This is checked last.
+-- The file of the universe would have more bytes than a file may have. This is checked last.
 -- Source: own choice.
 -- Example: this is so if a matcher of a question names a text of 20 megabytes.
-pub record TooLongFor (inputs : UniverseInputs) (form : UniverseForm) (r : Refusal) : Type 0 where
-  pub space : Space
-  pub world : World
-  pub questions : List Question
-  pub accepts : AcceptsUniverseInputs inputs space world questions
+pub record TooLongFor (form : UniverseForm) (s : Space) (w : World) (questions : List Question)
+    (place : Place) (r : Refusal) : Type 0 where
+  pub stands : place ≡ places.Universe
   pub labels : List Label
-  pub made : IsMadeBeside form space
-      (deciding_conditions form.routes world questions space.impossible) labels
+  pub made : IsMadeFor form s w questions labels
   pub texts : List (List ℕ)
-  pub of_lists : AreTextsOfLists texts space.impossible
+  pub of_lists : AreTextsOfLists texts s.impossible
   pub long : MAX_FILE_BYTES < length (universe_text labels texts)
   pub refusal : r ≡ refusal_here kinds.Limit
 
--- The stages of making a universe: there is room, no label is unproved, and the file is not too
--- long. The fault of an unproved label may be at the configuration, the silences, a question or the
--- universe file. And what `universe` owes, whose stages are those of the inputs and then these.
+-- No universe file is made for a world and questions, from a space: there is no room, a label is
+-- unproved and the universe may not be open, or the file is too long.
 -- Source: own choice.
--- Example: if the file of alerts is `{}` and a label is unproved, the first fault is the `shape` of
--- the alerts. If a label is unproved and there is no room for the others, it is the `limit`.
-abbrev pub room_stage : UniverseInputs → UniverseForm → Stage
-room_stage inputs form = record {
-  place = places.Universe;
-  accepts = ⊤;
-  refuses = NoRoomFor inputs form;
-}
+-- Example: if a label is unproved and there is no room for the others, it is the `limit`.
+abbrev pub IsMakingRefusal :
+    UniverseForm → Space → World → List Question → Place → Refusal → Type 0
+IsMakingRefusal form s w questions place r =
+    let asked = deciding_labels form.routes w questions s.impossible in
+    NoRoomFor form.alphabet s asked place r
+    ⊎ (((form.open ≡ false)
+    × UnprovedFor form.alphabet s asked (λ l. origin_place l.first) place r)
+    ⊎ TooLongFor form s w questions place r)
 
-abbrev pub unproved_stage : UniverseInputs → UniverseForm → Place → Stage
-unproved_stage inputs form place = record {
-  place = place;
-  accepts = ⊤;
-  refuses = UnprovedFor inputs form place;
-}
+-- The inputs are accepted, and no universe file is made for what they say.
+abbrev pub RefusesMaking : UniverseInputs → UniverseForm → Place → Refusal → Type 0
+RefusesMaking inputs form place r =
+    (s : Space) × (w : World) × (questions : List Question)
+    × AcceptsUniverseInputs inputs s w questions × IsMakingRefusal form s w questions place r
 
-abbrev pub length_stage : UniverseInputs → UniverseForm → Stage
-length_stage inputs form = record {
-  place = places.Universe;
-  accepts = ⊤;
-  refuses = TooLongFor inputs form;
-}
-
-abbrev pub made_stages : UniverseInputs → UniverseForm → List Stage
-made_stages inputs form =
-    room_stage inputs form
-    ∷ unproved_stage inputs form places.Config
-    ∷ unproved_stage inputs form places.Silences
-    ∷ unproved_stage inputs form places.Question
-    ∷ unproved_stage inputs form places.Universe
-    ∷ length_stage inputs form
+-- The inputs in which a matcher may stand.
+abbrev pub matcher_places : List Place
+matcher_places =
+    places.Universe ∷ places.Config ∷ places.Old ∷ places.New ∷ places.Silences ∷ places.Question
     ∷ []
 
+-- The stages after those of the inputs, for what the inputs say. It may be refused at each of these
+-- places.
+abbrev pub later_stages : (Place → Refusal → Type 0) → List Stage
+later_stages Refuses =
+    map (λ place. record { place = place; accepts = ⊤; refuses = Refuses place }) matcher_places
+
+-- What `universe` owes.
+-- Source: own choice.
+-- Example: if the file of alerts is `{}` and a label is unproved, the first fault is the `shape` of
+-- the alerts.
 abbrev pub universe_promise : UniverseInputs → UniverseForm → Promise ⊤
 universe_promise inputs form = record {
-  stages = universe_input_stages inputs ++ made_stages inputs form;
+  stages = universe_input_stages inputs ++ later_stages (RefusesMaking inputs form);
   May = λ _. MakesUniverse inputs form;
 }
 

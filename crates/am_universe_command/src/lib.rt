@@ -26,7 +26,7 @@ mod checking;
 mod making;
 
 pub use checking::check_universe;
-pub use making::{universe, unproved_fault};
+pub use making::{universe, universe_for, unproved_fault};
 
 // Facts about the definitions alone.
 pub mod laws;

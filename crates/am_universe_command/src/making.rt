@@ -4,24 +4,28 @@ ghost use Rattle.std.specs.Prelude.{◌≡◌, ◌≢◌, ◌<◌, ℕ, List, So
 ghost use Rattle.std.specs.Prelude.{false, length, map, slice_get, string_bytes};
 ghost use Rattle.std.specs.List.{AllByRecursion};
 ghost use Rattle.am_universe.specs.declared.kind.Kind.TheVariants as kinds;
+ghost use Rattle.am_labels.specs.Matcher.{Condition};
 ghost use Rattle.am_json.specs.Reading.{refusal_of};
 ghost use Rattle.am_list_files.specs.UniverseFile.{AreTextsOfLists};
 ghost use Rattle.am_eval.specs.QuestionView.{question_view};
-ghost use Rattle.am_files.specs.Faults.{IsFirstFault};
 ghost use Rattle.am_files.specs.Promise.{IsKept};
+ghost use Rattle.am_complete.specs.AskedLabel.{IsAskedOf};
+ghost use Rattle.am_complete.specs.Complete.{AreAmong, impossible_conditions};
 ghost use Rattle.am_universe_command.specs.CheckText.{origin_pointer};
-ghost use Rattle.am_universe_command.specs.UniverseInputs.{UniverseInputs, AcceptsUniverseInputs};
-ghost use Rattle.am_universe_command.specs.Universes.{IsMadeBeside, IsMadeUniverse, made_stages};
-ghost use Rattle.am_universe_command.specs.Universes.{deciding_conditions, origin_place};
-ghost use Rattle.am_universe_command.specs.Universes.{universe_promise};
+ghost use Rattle.am_universe_command.specs.Universes.{IsMadeBeside, IsMadeFor, IsMadeUniverse};
+ghost use Rattle.am_universe_command.specs.Universes.{IsFirstUnproved, IsMakingRefusal, NoRoomFor};
+ghost use Rattle.am_universe_command.specs.Universes.{origin_place, universe_promise};
 
 use crate::asked_labels::labels_asked;
 use crate::read_inputs::{ReadInputs, read_inputs};
 use crate::universe_file::universe_text;
 use crate::{UniverseForm, UniverseInputs, pointer_to};
 use am_asked::equal_matchers_of;
+use am_classes::Alphabet;
 use am_complete::{AskedLabel, Origin, universe_beside};
 use am_json::limits::MAX_FILE_BYTES;
+use am_labels::Space;
+use am_list_files::Alerts;
 use am_universe::{Fault, Kind, Place, Sink, Universe, answer_of_write, put_str};
 use std::alloc::Global;
 
@@ -79,10 +83,9 @@ fn made_text(alloc: Global, read: &ReadInputs, form: UniverseForm) -> Result<Str
     ensures made { IfOk result (λ text. IsMadeUniverse form read.now.space
         (map string_bytes read.now.texts.items) read.now.world
         (map question_view read.now.questions.items) (string_bytes text)) }
-    ensures first { IfErr result (λ fault. (inputs : UniverseInputs)
-        → AcceptsUniverseInputs inputs read.now.space read.now.world
-        (map question_view read.now.questions.items)
-        → IsFirstFault (made_stages inputs form) fault) }
+    ensures refused { IfErr result (λ fault. fault.kind ≢ kinds.Memory
+        → IsMakingRefusal form read.now.space read.now.world
+        (map question_view read.now.questions.items) fault.place (refusal_of fault)) }
 {
     let universe = made_universe(alloc, read, form)?;
     let Ok(text) = universe_text(alloc, &universe, read.texts.as_slice()) else {
@@ -96,12 +99,11 @@ fn made_text(alloc: Global, read: &ReadInputs, form: UniverseForm) -> Result<Str
 
 /// Makes the universe for the inputs.
 fn made_universe(alloc: Global, read: &ReadInputs, form: UniverseForm) -> Result<Universe, Fault>
-    ensures made { IfOk result (IsMadeBeside form read.now.space (deciding_conditions form.routes
-        read.now.world (map question_view read.now.questions.items) read.now.space.impossible)) }
-    ensures first { IfErr result (λ fault. (inputs : UniverseInputs)
-        → AcceptsUniverseInputs inputs read.now.space read.now.world
-        (map question_view read.now.questions.items)
-        → IsFirstFault (made_stages inputs form) fault) }
+    ensures made { IfOk result (IsMadeFor form read.now.space read.now.world
+        (map question_view read.now.questions.items)) }
+    ensures refused { IfErr result (λ fault. fault.kind ≢ kinds.Memory
+        → IsMakingRefusal form read.now.space read.now.world
+        (map question_view read.now.questions.items) fault.place (refusal_of fault)) }
 {
     let world = &read.world;
     let Ok(equal) = equal_matchers_of(alloc, world) else {
@@ -117,35 +119,62 @@ fn made_universe(alloc: Global, read: &ReadInputs, form: UniverseForm) -> Result
     ) else {
         return Err(Fault::memory(alloc));
     };
-    let made = match universe_beside(
-        alloc,
-        form.alphabet,
-        &read.space,
-        asked.as_slice(),
-        Some(world.alerts()),
-    ) {
-        Ok(made) => made,
-        Err(kind) => return Err(Fault::at(alloc, kind, Place::Universe)),
-    };
-    if let Some(label) = first_unproved(asked.as_slice(), made.unproved.as_slice(), form) {
-        return Err(unproved_fault(alloc, &label.first()));
+    let labels = asked.as_slice();
+    let alerts = Some(world.alerts());
+    let found = universe_for(alloc, form.alphabet, form.open, &read.space, labels, alerts)?;
+    match found {
+        Ok(universe) => Ok(universe),
+        Err(label) => Err(unproved_fault(alloc, &label.first())),
     }
-    Ok(made.universe)
 }
 
-/// The first unproved label, unless the form is open. `positions` are those of the unproved labels.
+/// Makes a universe for the labels that matchers ask about, beside the labels of a space, as
+/// [`universe_beside`] does. If some label is unproved, and the universe may not lack values, it
+/// returns the first such label instead.
+///
+/// Fails with `Limit`, at `Universe`, if there is no room for the labels, and with `Memory`.
+pub fn universe_for<'a, 'm>(
+    alloc: Global,
+    alphabet: Alphabet,
+    may_lack: bool,
+    space: &Space,
+    asked: &'a [AskedLabel<'m>],
+    alerts: Option<&Alerts>,
+) -> Result<Result<Universe, &'a AskedLabel<'m>>, Fault>
+    requires { (ms : List Condition) × IsAskedOf asked.now ms
+        × AreAmong (impossible_conditions space.now.impossible) ms }
+    ensures made { IfOk result (λ found. IfOk found (λ universe. (ms : List Condition)
+        → IsAskedOf asked.now ms → IsMadeBeside alphabet may_lack space.now ms universe)) }
+    ensures unproved { IfOk result (λ found. IfErr found (λ label. (may_lack ≡ false)
+        × IsFirstUnproved alphabet space.now asked.now label.now)) }
+    ensures refused { IfErr result (λ fault. fault.kind ≢ kinds.Memory
+        → NoRoomFor alphabet space.now asked.now fault.place (refusal_of fault)) }
+{
+    let made = match universe_beside(alloc, alphabet, space, asked, alerts) {
+        Ok(made) => made,
+        Err(Kind::Limit) => return Err(Fault::at(alloc, Kind::Limit, Place::Universe)),
+        Err(_) => return Err(Fault::memory(alloc)),
+    };
+    match first_unproved(asked, made.unproved.as_slice(), may_lack) {
+        Some(label) => Ok(Err(label)),
+        None => Ok(Ok(made.universe)),
+    }
+}
+
+/// The first unproved label, unless the universe may lack values. `positions` are those of the
+/// unproved labels.
 fn first_unproved<'a, 'm>(
     asked: &'a [AskedLabel<'m>],
     positions: &[usize],
-    form: UniverseForm,
+    may_lack: bool,
 ) -> Option<&'a AskedLabel<'m>>
     requires { AllByRecursion (λ i. i < length asked.now) positions.now }
-    ensures some { IfSome result (λ label. (form.open ≡ false)
+    ensures some { IfSome result (λ label. (may_lack ≡ false)
         × ((i : ℕ) × (slice_get positions.now 0 ≡ Some i)
         × (slice_get asked.now i ≡ Some label.now))) }
-    ensures none { IfNone result (form.open ≡ false → positions.now ≡ []) }
+    ensures none { IfNone result (may_lack ≡ false → positions.now ≡ []) }
 {
-    if form.open {
+    if may_lack {
         return None;
     }
     match positions.first() {

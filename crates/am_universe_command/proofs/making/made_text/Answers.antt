@@ -1,5 +1,5 @@
 -- The text is read back as the universe, with the impossible lists of the space.
-use Rattle.std.proofs.Common.{◌≡◌, ℕ, List, inl, inr, ◌<◌, ◌≤◌, length, map, string_bytes, subst, sym}
+use Rattle.std.proofs.Common.{◌≡◌, ℕ, List, inr, ◌<◌, ◌≤◌, length, map, string_bytes, subst, sym}
 use Rattle.std.proofs.Common.{ap, ◌∙◌}
 use Rattle.std.specs.Str.{IsUtf8}
 use Rattle.am_json.specs.declared.limits.TheConstants.{MAX_FILE_BYTES}
@@ -8,7 +8,6 @@ use Rattle.am_list_files.specs.UniverseFile.{FileHasImpossibleTexts}
 use Rattle.am_eval.specs.QuestionView.{question_view}
 use Rattle.am_universe_command.specs.UniverseText.{universe_text}
 use Rattle.am_universe_command.proofs.SaidByText.{text_says, texts_kept}
-use Rattle.am_universe_command.specs.Universes.{TooLongFor}
 use Rattle.am_universe_command.proofs.UniverseStages.{refused_here}
 use Rattle.am_universe_command.proofs.making.made_text.Goals as goal
 
@@ -32,17 +31,14 @@ returns-clause-made c =
       made = c.in_ok-universe.ensures.made;
     }
 
-pub returns-then-as_str-gt-MAX_FILE_BYTES-clause-first :
-    goal.returns-then-as_str-gt-MAX_FILE_BYTES-clause-first
-returns-then-as_str-gt-MAX_FILE_BYTES-clause-first c = λ inputs accepts remembered.
+pub returns-then-as_str-gt-MAX_FILE_BYTES-clause-refused :
+    goal.returns-then-as_str-gt-MAX_FILE_BYTES-clause-refused
+returns-then-as_str-gt-MAX_FILE_BYTES-clause-refused c = λ remembered.
     let read = c.args.read.now in
     let u = c.in_ok-universe.universe in
     let lists = map string_bytes read.texts.items in
-    let found : TooLongFor inputs c.args.form (refusal_of c.at.result) = record {
-      space = read.space;
-      world = read.world;
-      questions = map question_view read.questions.items;
-      accepts = accepts;
+    inr (inr (record {
+      stands = c.at.ensures.place (λ e. cc e) (λ e. cc e);
       labels = u;
       made = c.in_ok-universe.ensures.made;
       texts = lists;
@@ -52,6 +48,4 @@ returns-then-as_str-gt-MAX_FILE_BYTES-clause-first c = λ inputs accepts remembe
           ∙ ap (λ ts. universe_text u (map string_bytes ts)) c.as_slice.ensures.value)
           c.if-as_str-gt-MAX_FILE_BYTES.true;
       refusal = refused_here c.at.result _ c.at.ensures.kind c.at.ensures.pointer;
-    } in
-    let at = c.at.ensures.place (λ e. cc e) (λ e. cc e) in
-    inr (tt, inr (tt, inr (tt, inr (tt, inr (tt, inl (at, found))))))
+    }))

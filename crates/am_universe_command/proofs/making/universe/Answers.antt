@@ -5,8 +5,8 @@ use Rattle.am_eval.specs.QuestionView.{question_view}
 use Rattle.am_files.proofs.FirstFaults.{first_of_more}
 use Rattle.am_files.proofs.Promises.{refused, written, nothing_told}
 use Rattle.am_universe_command.specs.UniverseInputs.{universe_input_stages}
-use Rattle.am_universe_command.specs.Universes.{universe_promise, made_stages}
-use Rattle.am_universe_command.proofs.UniverseStages.{first_behind_inputs}
+use Rattle.am_universe_command.specs.Universes.{universe_promise, later_stages, RefusesMaking}
+use Rattle.am_universe_command.proofs.UniverseStages.{making_refused}
 use Rattle.am_universe_command.proofs.making.universe.Goals as goal
 
 pub returns-in_err-read : goal.returns-in_err-read
@@ -17,7 +17,7 @@ returns-in_err-read g c =
       kept = refused (universe_promise inputs c.args.form) fault c.from_residual.result refl
           c.from_residual.ensures.1
           (λ remembered. first_of_more (universe_input_stages inputs)
-          (made_stages inputs c.args.form) fault.place (refusal_of fault)
+          (later_stages (RefusesMaking inputs c.args.form)) fault.place (refusal_of fault)
           (c.in_err-read.ensures.first remembered));
     }
 
@@ -26,13 +26,12 @@ returns-in_err-text g c =
     let fault = c.in_err-text.field-0.0 in
     let inputs = c.args.inputs.now in
     let read = c.in_ok-read.read in
-    let accepts = c.in_ok-read.ensures.accepts in
     record {
       kept = refused (universe_promise inputs c.args.form) fault
           c.from_residual-in_err-text.result refl c.from_residual-in_err-text.ensures.1
-          (λ remembered. first_behind_inputs inputs read.space read.world
-          (map question_view read.questions.items) (made_stages inputs c.args.form) fault.place
-          (refusal_of fault) accepts (c.in_err-text.ensures.first inputs accepts remembered));
+          (λ remembered. making_refused inputs c.args.form read.space read.world
+          (map question_view read.questions.items) fault.place (refusal_of fault)
+          c.in_ok-read.ensures.accepts (c.in_err-text.ensures.refused remembered));
     }
 
 pub returns : goal.returns
