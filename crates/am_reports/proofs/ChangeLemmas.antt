@@ -3,6 +3,7 @@ use Rattle.std.proofs.Common.{◌≡◌, ◌⊎◌, ℕ, Bool, true, false, not,
 use Rattle.std.proofs.Common.{Contains, refl, sym, ap, subst, ◌∙◌, inl, inr}
 use Rattle.std.specs.Cmp.Lexicographic.{bytes_decides}
 use Rattle.std.proofs.lemmas.Bool.{cases_Bool, false≢true}
+use Rattle.std.proofs.lemmas.List.{nil_from_length}
 use lib.Pointwise.{pointwise_decides}
 use Rattle.am_universe.specs.Universe.{Label}
 use Rattle.am_universe.specs.LabelSet.{LabelMap, label_set_of}
@@ -21,7 +22,7 @@ use Rattle.am_outcomes.proofs.FirstsLemmas.{Decides}
 use Rattle.am_reports.specs.Configurations.{Pair}
 use Rattle.am_reports.specs.AllOutcomes.{AreAllOutcomes, IsOutcome, fates}
 use Rattle.am_reports.specs.Comparing.{GoesTheSameWay, IsChange, IsComparison}
-use Rattle.am_reports.proofs.KeptItems.{distinct_kept, none_in, without_items}
+use Rattle.am_reports.proofs.KeptItems.{distinct_kept, without_items}
 
 names_decide : Decides same_names
 names_decide = pointwise_decides bytes_decides
@@ -102,7 +103,10 @@ module _ (ascii : Bool) (s : Space) (old new : Configuration) (u : List Label)
     | inr told ↦
         let there = IsIn-from_Contains (fates changes) (both alert) told in
         let change = IsIn-unmap (λ o. o.0) changes (both alert) there in
-        absurd (none_in changes change.0 none change.1)
+        let never : IsIn [] change.0 =
+        subst (λ (cs : List (List (List ℕ) × List ℕ)). IsIn cs change.0)
+        (nil_from_length changes none) change.1 in
+        absurd never
   ]
 
   none_there : AllGoTheSameWay → length changes ≡ 0

@@ -1,5 +1,5 @@
 -- The state of the label at a position of a space, and what follows from it.
-use Rattle.std.proofs.Common.{◌≡◌, ◌≢◌, ℕ, List, [], map, take, Some, slice_get, string_bytes}
+use Rattle.std.proofs.Common.{◌≡◌, ◌≢◌, ◌⊎◌, ℕ, List, [], map, take, Some, slice_get, string_bytes}
 use Rattle.std.proofs.Common.{option_map, sym, ap, subst, inl, inr, ◌∙◌}
 use Rattle.std.specs.Prelude.{IsTrue}
 use Rattle.std.specs.List.{AllByRecursion}
@@ -17,14 +17,14 @@ use Rattle.am_complete.specs.declared.label_state.Completeness.TheVariants as st
 use Rattle.am_complete.specs.declared.label_state.LabelState.{LabelState}
 use Rattle.am_complete.specs.Complete.{IsSpaceCompleteAt}
 use Rattle.am_complete.specs.AskedLabel.{AskedLabel}
-use Rattle.am_complete.specs.LabelState.{IsSoAt, IsSoIfNamed, reported_names}
+use Rattle.am_complete.specs.LabelState.{IsSoAt, IsSoIfNamed, is_settled, reported_names}
 use Rattle.am_complete.proofs.CompleteUniverses.{space_complete_without_matchers}
 use Rattle.am_complete.proofs.Pushed.{got_front}
 use Rattle.am_every_alert.proofs.OptionParts.{mapped}
 use Rattle.am_reports.specs.Configurations.{Configurations, routing_conditions}
-use Rattle.am_reports.specs.Configurations.{labels_of_routes, first_place}
-use Rattle.am_reports.specs.Made.{AreDeclaredWhole, IsDeclaredRefusal}
-use Rattle.am_reports.specs.Made.{IsSettledState, IsStateRefusal}
+use Rattle.am_reports.specs.Configurations.{labels_of_routes}
+use Rattle.am_reports.specs.Made.{AreDeclaredWhole, IsDeclaredRefusal, LacksValue, IsUndecided}
+use Rattle.am_reports.specs.Made.{IsStateRefusal}
 
 -- ---- The state at a position.
 
@@ -60,56 +60,38 @@ told_at a s ms asked states i l is reported each at =
 -- ---- What follows from it.
 
 pub whole_by : (a : Alphabet) (s : Space) (ms : List Condition) (asked : List AskedLabel)
-    (name : List ℕ) (found : Completeness) → IsUniverse s.labels → IsSettledState found
+    (name : List ℕ) (found : Completeness) → IsUniverse s.labels → IsTrue (is_settled found)
     → IsSoAt a s ms asked name found → IsSpaceCompleteAt a s ms name
 whole_by a s ms asked name (state_is.Complete classes) is settled so = so.0
-whole_by a s ms asked name (state_is.Lacks text) is settled so = absurd settled
+whole_by a s ms asked name (state_is.Lacks text) is settled so =
+    absurd (false≢true settled)
 whole_by a s ms asked name state_is.Unasked is settled so =
     space_complete_without_matchers a s ms name is so
-whole_by a s ms asked name state_is.Undeclarable is settled so = absurd settled
-whole_by a s ms asked name (state_is.Unproved origin) is settled so = absurd settled
+whole_by a s ms asked name state_is.Undeclarable is settled so =
+    absurd (false≢true settled)
+whole_by a s ms asked name (state_is.Unproved origin) is settled so =
+    absurd (false≢true settled)
 
 pub refused_by : (a : Alphabet) (s : Space) (k : Configurations) (i : ℕ) (l : Label)
     (found : Completeness) (place : Place) (r : Refusal) → slice_get s.labels i ≡ Some l
     → AreDeclaredWhole a s k (take i s.labels) → IsStateRefusal k i l.name found place r
     → IsSoAt a s (routing_conditions s k) (labels_of_routes k s.impossible) l.name found
     → IsDeclaredRefusal a s k place r
-refused_by a s k i l (state_is.Complete classes) place r at before refused so = absurd refused
-refused_by a s k i l (state_is.Lacks text) place r at before refused so =
-    inl (
-      refused.0,
-      record {
-        position = i;
-        label = l;
-        there = at;
-        before = before;
-        lacks = λ whole. so.3 (whole (string_bytes text) so.1 so.2);
-        refusal = refused.1;
-      },
-    )
-refused_by a s k i l state_is.Unasked place r at before refused so = absurd refused
-refused_by a s k i l state_is.Undeclarable place r at before refused so =
-    inl (
-      refused.0,
-      record {
-        position = i;
-        label = l;
-        there = at;
-        before = before;
-        lacks = so.1;
-        refusal = refused.1;
-      },
-    )
-refused_by a s k i l (state_is.Unproved origin) place r at before refused so =
-    inr (record {
-      position = i;
-      label = l;
-      there = at;
-      before = before;
-      asked = so.0.0;
-      found = so.0.1;
-      same = so.0.2;
-      pattern = so.1;
-      stands = refused.0 ∙ sym (λ j. first_place k (so.0.2 j) (so.0.3 j));
-      refusal = rw so.0.3 refused.1;
-    })
+refused_by a s k i l found place r at before refused so = record {
+  position = i;
+  label = l;
+  there = at;
+  before = before;
+  refused = by found refused so;
+}
+  where
+    by : (found : Completeness) → IsStateRefusal k i l.name found place r
+        → IsSoAt a s (routing_conditions s k) (labels_of_routes k s.impossible) l.name found
+        → LacksValue a s k i l place r ⊎ IsUndecided s k l place r
+    by (state_is.Complete classes) refused so = absurd refused
+    by (state_is.Lacks text) refused so =
+        inl ((λ whole. so.3 (whole (string_bytes text) so.1 so.2)), refused)
+    by state_is.Unasked refused so = absurd refused
+    by state_is.Undeclarable refused so = inl (so.1, refused)
+    by (state_is.Unproved origin) refused so =
+        inr (so.0.0, so.0.1, so.0.2, so.1, rw (so.0.2, so.0.3) refused)

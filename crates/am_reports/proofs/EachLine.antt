@@ -4,19 +4,15 @@ use Rattle.std.proofs.Common.{Some, slice_get, subst, sym, ap, ◌∙◌, append
 use Rattle.std.specs.List.{AllZip}
 use Rattle.std.proofs.lemmas.List.{take_all, append-nil}
 use Rattle.std.proofs.lemmas.Option.{same_Some}
+use Rattle.am_complete.proofs.Pushed.{zip_left}
 use Rattle.am_reports.specs.LintSections.{each_line}
 
 pub zip_at : {X F : Type 0} (R : X → F → Type 0) (xs : List X) (found : List F) (i : ℕ) (x : X)
     (finding : F) → AllZip R xs found → slice_get xs i ≡ Some x → slice_get found i ≡ Some finding
     → R x finding
-zip_at R [] found i x finding all at there = cc at
-zip_at R (y ∷ xs) [] i x finding all at there = cc there
-zip_at R (y ∷ xs) (g ∷ found) zero x finding all at there =
-    let same = same_Some y x at in
-    let one = same_Some g finding there in
-    subst (λ z. R z finding) same (subst (R y) one all.0)
-zip_at R (y ∷ xs) (g ∷ found) (suc i) x finding all at there =
-    zip_at R xs found i x finding all.1 at there
+zip_at R xs found i x finding all at there =
+    let other = zip_left R xs found i x all at in
+    subst (R x) (same_Some other.0 finding (sym other.1 ∙ there)) other.2
 
 pub zip_so : {X F : Type 0} (R Q : X → F → Type 0) → ((x : X) (finding : F) → R x finding → Q x finding)
     → (xs : List X) (found : List F) → AllZip R xs found → AllZip Q xs found

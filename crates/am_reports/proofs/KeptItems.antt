@@ -1,6 +1,6 @@
 -- Facts about the items of a list that a test keeps.
 use Rattle.std.proofs.Common.{◌≡◌, Bool, true, false, cond, List, [], ◌∷◌, map, length, refl, subst}
-use Rattle.std.proofs.Common.{inl, arith}
+use Rattle.std.proofs.Common.{inl}
 use Rattle.std.specs.List.{AllByRecursion, IsDistinct, filter}
 use Rattle.am_universe.proofs.ListLemmas.{IsIn, IsIn-map, IsIn-unmap, AllByRecursion-each}
 use Rattle.am_universe.proofs.ListLemmas.{AllByRecursion-at}
@@ -32,11 +32,7 @@ module _ {X K : Type 0} (same : K → K → Bool) (key : X → K) (test : X → 
       one_kept (test x) x (filter test xs)
       (other_keys (λ k. same (key x) k ≡ false) xs distinct.0) (distinct_kept xs distinct.1)
 
--- a list of length 0 has no item, and a list without items has length 0
-pub none_in : {X : Type 0} (xs : List X) (x : X) → length xs ≡ 0 → IsIn xs x → ⊥
-none_in [] x none there = absurd there
-none_in (y ∷ xs) x none there = absurd (omega (arith, none))
-
+-- a list without items has length 0
 pub without_items : {X : Type 0} (xs : List X) → ((x : X) → IsIn xs x → ⊥) → length xs ≡ 0
 without_items [] none = refl
 without_items (x ∷ xs) none = absurd (none x (inl refl))

@@ -1,9 +1,6 @@
 pub mod DeclaredStates
-pub mod Origins
-pub mod StageLemmas
-pub mod LintStages
+pub mod LaterFaults
 pub mod EachLine
-pub mod InputStages
 pub mod RoutesFound
 pub mod KeptItems
 pub mod OutcomesOver

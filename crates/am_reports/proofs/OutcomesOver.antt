@@ -19,7 +19,8 @@ use Rattle.am_lint.specs.Findings.{alphabet_of, Counts}
 use Rattle.am_outcomes.specs.Outcomes.{fate, same_fate, with_fate, outcomes_of}
 use Rattle.am_outcomes.proofs.FirstsLemmas.{Decides, first_is_one, first_of_key, firsts_apart}
 use Rattle.am_reports.specs.Configurations.{Configurations, One, Pair, each_of}
-use Rattle.am_reports.specs.Configurations.{conditions_of_routes, space_of}
+use Rattle.am_every_alert.specs.Deciding.{space_of}
+use Rattle.am_reports.specs.Configurations.{conditions_of_routes}
 use Rattle.am_reports.specs.Made.{StandsForAll}
 use Rattle.am_reports.specs.AllOutcomes.{AreAllOutcomes, IsOutcome, fates}
 

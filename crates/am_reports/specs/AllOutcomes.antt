@@ -8,7 +8,8 @@ use Rattle.am_labels.specs.Space.{Space}
 use Rattle.am_config.specs.ConfigFile.{Configuration}
 use Rattle.am_lint.specs.Findings.{alphabet_of, Counts}
 use Rattle.am_outcomes.specs.Outcomes.{fate, same_fate, outcomes_of}
-use Rattle.am_reports.specs.Configurations.{Configurations, each_of, space_of}
+use Rattle.am_every_alert.specs.Deciding.{space_of}
+use Rattle.am_reports.specs.Configurations.{Configurations, each_of}
 use Rattle.am_reports.specs.Made.{StandsForAll}
 
 -- The label set that is shown for an outcome is that of an alert that counts, and it has the fate

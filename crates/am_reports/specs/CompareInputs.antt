@@ -8,7 +8,6 @@ use Rattle.am_config.specs.ConfigFile.{Configuration, FileSaysConfig}
 use Rattle.am_config.specs.ConfigForm.{ConfigFileRefusedFor}
 use Rattle.am_files.specs.Faults.{Stage, SaysSomeConfig}
 use Rattle.am_universe_command.specs.UniverseInputs.{SaysUniverseIfAny, universe_stage_if_any}
-use Rattle.am_reports.specs.Configurations.{Configurations, One, Pair}
 
 -- The bytes of a universe file, if there is one, and those of the old and the new configuration
 -- file; and whether only ordinary alerts count.
@@ -40,12 +39,3 @@ compare_input_stages inputs =
     ∷ config_stage_at places.Old inputs.old
     ∷ config_stage_at places.New inputs.new
     ∷ []
-
--- The inputs are accepted, and the configurations are the old and the new one that they say.
-abbrev pub AcceptsCompare : CompareInputs → Space → Configurations → Type 0
-AcceptsCompare inputs s (One c) = ⊥
-AcceptsCompare inputs s (Pair old new) = AcceptsCompareInputs inputs s old new
-
--- The places where the matchers of routes and impossible lists stand, in the order of their faults.
-abbrev pub compare_places : List Place
-compare_places = places.Old ∷ places.New ∷ places.Universe ∷ []

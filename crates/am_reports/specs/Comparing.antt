@@ -1,9 +1,11 @@
 -- What `compare` owes. (This project's own.)
 use Rattle.std.specs.Prelude.{◌≡◌, ◌⊎◌, ◌↔◌, ℕ, List, [], ◌∷◌, ◌++◌, Bool, length, Contains}
 use Rattle.std.specs.List.{AllByRecursion, IsDistinct}
+use Rattle.am_universe.specs.declared.place.Place.{Place}
 use Rattle.am_universe.specs.Universe.{Label}
 use Rattle.am_universe.specs.LabelSet.{LabelMap, label_set_of}
 use Rattle.am_labels.specs.Space.{Space}
+use Rattle.am_json.specs.Pointer.{Refusal}
 use Rattle.am_config.specs.ConfigFile.{Configuration}
 use Rattle.am_files.specs.Promise.{Promise}
 use Rattle.am_eval.specs.Routing.{receivers}
@@ -11,9 +13,10 @@ use Rattle.am_lint.specs.Findings.{alphabet_of, Counts}
 use Rattle.am_outcomes.specs.Outcomes.{fate, same_fate}
 use Rattle.am_outcomes.specs.OutcomeText.{names_of, changes_of, changes_text}
 use Rattle.am_reports.specs.Configurations.{Pair}
+use Rattle.am_universe_command.specs.Universes.{later_stages}
 use Rattle.am_reports.specs.CompareInputs.{CompareInputs, AcceptsCompareInputs}
-use Rattle.am_reports.specs.CompareInputs.{compare_input_stages, AcceptsCompare, compare_places}
-use Rattle.am_reports.specs.LaterStages.{outcome_stages}
+use Rattle.am_reports.specs.CompareInputs.{compare_input_stages}
+use Rattle.am_reports.specs.LaterStages.{IsOutcomesRefusal}
 use Rattle.am_reports.specs.Made.{AreDeclaredWhole}
 use Rattle.am_reports.specs.AllOutcomes.{AreAllOutcomes, fates}
 
@@ -73,12 +76,18 @@ pub record ComparesFiles (inputs : CompareInputs) (changes : ℕ) (report : List
   pub whole : AreDeclaredWhole (alphabet_of inputs.ascii) space (Pair old new) space.labels
   pub compares : IsComparison inputs.ascii space old new changes report
 
+-- The inputs are accepted, and what they say is refused at this place.
+abbrev pub RefusesComparison : CompareInputs → Place → Refusal → Type 0
+RefusesComparison inputs place r =
+    (s : Space) × (old : Configuration) × (new : Configuration)
+    × AcceptsCompareInputs inputs s old new
+    × IsOutcomesRefusal (alphabet_of inputs.ascii) s (Pair old new) place r
+
 -- What `compare` owes. It returns the number of changes.
 -- Source: own choice.
 -- Example: if neither configuration is JSON, the first fault is the `not-json` of the old one.
 abbrev pub compare_promise : CompareInputs → Promise ℕ
 compare_promise inputs = record {
-  stages = compare_input_stages inputs
-      ++ outcome_stages (AcceptsCompare inputs) compare_places (alphabet_of inputs.ascii);
+  stages = compare_input_stages inputs ++ later_stages (RefusesComparison inputs);
   May = ComparesFiles inputs;
 }

@@ -4,7 +4,6 @@ use Rattle.std.specs.List.{list_any}
 use Rattle.am_universe.specs.declared.place.Place.{Place}
 use Rattle.am_universe.specs.declared.place.Place.TheVariants as places
 use Rattle.am_universe.specs.Text.{same_text}
-use Rattle.am_universe.specs.Universe.{Label}
 use Rattle.am_labels.specs.Matcher.{Condition}
 use Rattle.am_labels.specs.Space.{Space}
 use Rattle.am_config.specs.ConfigFile.{Configuration}
@@ -25,10 +24,6 @@ pub data Configurations : Type 0 where
 abbrev pub each_of : Configurations → List Configuration
 each_of (One c) = c ∷ []
 each_of (Pair old new) = old ∷ new ∷ []
-
--- The space with some labels, in which some lists are impossible.
-abbrev pub space_of : List (List Condition) → List Label → Space
-space_of lists u = record { labels = u; impossible = lists }
 
 -- The matchers of the routes of each configuration.
 abbrev pub conditions_of_routes : Configurations → List Condition

@@ -1,13 +1,12 @@
 -- The inputs of `lint`, when they are accepted, and the order of their faults. (This project's
 -- own.)
-use Rattle.std.specs.Prelude.{◌≡◌, ℕ, List, ◌∷◌, Bool, Option}
+use Rattle.std.specs.Prelude.{ℕ, List, ◌∷◌, Bool, Option}
 use Rattle.am_labels.specs.Space.{Space}
 use Rattle.am_files.specs.Files.{Files}
 use Rattle.am_eval.specs.World.{World}
 use Rattle.am_files.specs.AcceptedWorld.{AcceptsWorld, world_stages}
 use Rattle.am_files.specs.Faults.{Stage}
 use Rattle.am_universe_command.specs.UniverseInputs.{SaysUniverseIfAny, universe_stage_if_any}
-use Rattle.am_reports.specs.Configurations.{Configurations, One, Pair}
 
 -- The bytes of a universe file, if there is one; the other files, with the instant; and whether
 -- only ordinary alerts count.
@@ -24,8 +23,3 @@ pub record AcceptsLintInputs (inputs : LintInputs) (s : Space) (w : World) : Typ
 
 abbrev pub lint_input_stages : LintInputs → List Stage
 lint_input_stages inputs = universe_stage_if_any inputs.universe ∷ world_stages inputs.files
-
--- The inputs are accepted, and the configuration is the one that they say.
-abbrev pub AcceptsLint : LintInputs → Space → Configurations → Type 0
-AcceptsLint inputs s (One c) = (w : World) × AcceptsLintInputs inputs s w × (w.config ≡ c)
-AcceptsLint inputs s (Pair old new) = ⊥

@@ -1,7 +1,7 @@
 -- Universes that are made in memory for the routes of one or two configurations, and why none is
 -- made. (This project's own.)
 use Rattle.std.specs.Prelude.{◌≡◌, ◌⊎◌, ℕ, List, [], ◌++◌, Some, slice_get, take, codes, decimal}
-use Rattle.std.specs.Prelude.{Contains, Bool, ⊤}
+use Rattle.std.specs.Prelude.{Contains, Bool}
 use Rattle.std.specs.List.{AllByRecursion}
 use Rattle.am_universe.specs.declared.kind.Kind.TheVariants as kinds
 use Rattle.am_universe.specs.declared.place.Place.{Place}
@@ -9,7 +9,7 @@ use Rattle.am_universe.specs.declared.place.Place.TheVariants as places
 use Rattle.am_universe.specs.Universe.{Label, IsUniverse}
 use Rattle.am_labels.specs.Matcher.{Condition}
 use Rattle.am_labels.specs.Space.{Space}
-use Rattle.am_json.specs.Pointer.{Refusal, refusal_here}
+use Rattle.am_json.specs.Pointer.{Refusal}
 use Rattle.am_config.specs.ConfigFile.{Configuration}
 use Rattle.am_classes.specs.declared.alphabet.Alphabet.{Alphabet}
 use Rattle.am_classes.specs.declared.alphabet.Alphabet.TheVariants.{Ascii}
@@ -19,13 +19,17 @@ use Rattle.am_complete.specs.declared.label_state.Completeness.TheVariants as st
 use Rattle.am_complete.specs.AskedLabel.{AskedLabel}
 use Rattle.am_complete.specs.Complete.{about, IsSpaceComplete, IsSpaceCompleteAt}
 use Rattle.am_complete.specs.Covering.{HasTextsOver, AddsNeeded}
-use Rattle.am_complete.specs.Room.{HaveNoRoom, AreUnproved}
 use Rattle.am_classes.specs.Alike.{HasPattern}
+use Rattle.am_every_alert.specs.Deciding.{space_of}
 use Rattle.am_universe_command.specs.CheckText.{origin_pointer}
-use Rattle.am_universe_command.specs.Universes.{HaveRoomBut}
+use Rattle.am_universe_command.specs.Universes.{NoRoomFor, UnprovedFor}
 use Rattle.am_lint.specs.Findings.{alphabet_of}
-use Rattle.am_reports.specs.Configurations.{Configurations, One, space_of}
+use Rattle.am_reports.specs.Configurations.{Configurations, One}
 use Rattle.am_reports.specs.Configurations.{routing_conditions, labels_of_routes, first_place}
+
+-- A space in which the same is impossible as in the given one, and no label is declared.
+abbrev pub undeclared : Space → Space
+undeclared s = space_of s.impossible []
 
 -- A universe stands for every alert over an alphabet that no impossible list matches: it is
 -- complete for the matchers of the routes and of these lists, its texts are over the alphabet, and
@@ -40,31 +44,17 @@ pub record StandsForAll (a : Alphabet) (lists : List (List Condition)) (k : Conf
   pub over : HasTextsOver a u
   pub adds : AddsNeeded a (space_of lists []) (routing_conditions (space_of lists u) k) u
 
--- No universe is made, since there is no room for the labels that are asked about.
+-- No universe is made, since there is no room for the labels that are asked about, or since some of
+-- them are unproved. The refusal of an unproved label is at the file of the first matcher on it.
 -- Source: own choice.
 -- Example: this is so if 65 routes ask about 65 labels, each with one matcher `=`.
-abbrev pub NoRoomFor :
-    Alphabet → List (List Condition) → Configurations → Refusal → Type 0
-NoRoomFor a lists k r =
-    HaveNoRoom a (space_of lists []) (labels_of_routes k lists) × (r ≡ refusal_here kinds.Limit)
-
--- No universe is made, since some labels are unproved, though there is room for the others. The
--- refusal is at the file of the first matcher on the first of these labels, and points to the route
--- or list of that matcher.
--- Source: own choice.
--- Example: over Unicode, if the first child of the top-level route has `team=~"\bdb"`, and no
--- matcher before it is on `team`, the pointer is `/route/routes/0`.
-pub record UnprovedFor (a : Alphabet) (lists : List (List Condition)) (k : Configurations)
-    (place : Place) (r : Refusal) : Type 0 where
-  pub unproved : List ℕ
-  pub labels : AreUnproved a (space_of lists []) (labels_of_routes k lists) unproved
-  pub room : HaveRoomBut a (space_of lists []) (labels_of_routes k lists) unproved
-  pub position : ℕ
-  pub first : slice_get unproved 0 ≡ Some position
-  pub label : AskedLabel
-  pub asked : slice_get (labels_of_routes k lists) position ≡ Some label
-  pub stands : place ≡ first_place k label.name label.first
-  pub refusal : r ≡ record { kind = kinds.Unproved; pointer = origin_pointer label.first }
+abbrev pub IsMadeRefusal :
+    Alphabet → List (List Condition) → Configurations → Place → Refusal → Type 0
+IsMadeRefusal a lists k place r =
+    let s = space_of lists [] in
+    let asked = labels_of_routes k lists in
+    NoRoomFor a s asked place r
+    ⊎ UnprovedFor a s asked (λ l. first_place k l.name l.first) place r
 
 -- ---- Labels that a universe file declares.
 
@@ -77,48 +67,6 @@ IsDeclaredWhole a s k label = IsSpaceCompleteAt a s (routing_conditions s k) lab
 abbrev pub AreDeclaredWhole : Alphabet → Space → Configurations → List Label → Type 0
 AreDeclaredWhole a s k labels = AllByRecursion (IsDeclaredWhole a s k) labels
 
--- The space is refused, since one of its labels lacks a value. No label before it does.
--- Source: own choice.
--- Example: if `team` may be `db` or `web`, and a route asks for `team="db"`, it lacks no value. If
--- it may only be `db`, the refusal is `incomplete` at `/labels/0`.
-pub record IncompleteFor (a : Alphabet) (s : Space) (k : Configurations) (r : Refusal)
-    : Type 0 where
-  pub position : ℕ
-  pub label : Label
-  pub there : slice_get s.labels position ≡ Some label
-  pub before : AreDeclaredWhole a s k (take position s.labels)
-  pub lacks : IsDeclaredWhole a s k label → ⊥
-  pub refusal : r
-      ≡ record { kind = kinds.Incomplete; pointer = codes "/labels/" ++ decimal position }
-
--- The space is refused, since a matcher on one of its labels takes a pattern, and the classes of
--- that label could not be computed. No label before it lacks a value. The refusal is at the file of
--- the first matcher on the label, and points to the route or list of that matcher.
--- Source: own choice.
--- Example: `team` is declared, and a route has `team=~"\bdb"`, over Unicode.
-pub record UndecidedFor (a : Alphabet) (s : Space) (k : Configurations) (place : Place)
-    (r : Refusal) : Type 0 where
-  pub position : ℕ
-  pub label : Label
-  pub there : slice_get s.labels position ≡ Some label
-  pub before : AreDeclaredWhole a s k (take position s.labels)
-  pub asked : AskedLabel
-  pub found : Contains (labels_of_routes k s.impossible) asked
-  pub same : asked.name ≡ label.name
-  pub pattern : HasPattern (about label.name (routing_conditions s k))
-  pub stands : place ≡ first_place k asked.name asked.first
-  pub refusal : r ≡ record { kind = kinds.Unproved; pointer = origin_pointer asked.first }
-
--- What is to be made, or what is declared, is refused at this place for one of these reasons.
-abbrev pub IsMadeRefusal :
-    Alphabet → List (List Condition) → Configurations → Place → Refusal → Type 0
-IsMadeRefusal a lists k place r =
-    ((place ≡ places.Universe) × NoRoomFor a lists k r) ⊎ UnprovedFor a lists k place r
-
-abbrev pub IsDeclaredRefusal : Alphabet → Space → Configurations → Place → Refusal → Type 0
-IsDeclaredRefusal a s k place r =
-    ((place ≡ places.Universe) × IncompleteFor a s k r) ⊎ UndecidedFor a s k place r
-
 -- No universe is made for the alerts that count, or none for ordinary alerts.
 abbrev pub IsRoutesRefusal :
     Bool → List (List Condition) → Configuration → Place → Refusal → Type 0
@@ -126,14 +74,8 @@ IsRoutesRefusal ascii lists c place r =
     IsMadeRefusal (alphabet_of ascii) lists (One c) place r
     ⊎ IsMadeRefusal Ascii lists (One c) place r
 
--- Whether a label is known to lack no value, by its state; and how it is refused, by its state.
-abbrev pub IsSettledState : Completeness → Type 0
-IsSettledState (state_is.Complete classes) = ⊤
-IsSettledState (state_is.Lacks text) = ⊥
-IsSettledState state_is.Unasked = ⊤
-IsSettledState state_is.Undeclarable = ⊥
-IsSettledState (state_is.Unproved origin) = ⊥
-
+-- The refusal of a label at a position, which lacks a value; and that of a label of this name that
+-- is unproved, at the file of the first matcher on it, which has this origin.
 abbrev pub IsIncompleteAt : ℕ → Place → Refusal → Type 0
 IsIncompleteAt position place r =
     (place ≡ places.Universe)
@@ -144,6 +86,35 @@ IsUnprovedAt k name origin place r =
     (place ≡ first_place k name origin)
     × (r ≡ record { kind = kinds.Unproved; pointer = origin_pointer origin })
 
+-- A label of a space, at a position, is refused since it lacks a value.
+-- Source: own choice.
+-- Example: if `team` may be `db` or `web`, and a route asks for `team="db"`, it lacks no value. If
+-- it may only be `db`, the refusal is `incomplete` at `/labels/0`.
+abbrev pub LacksValue : Alphabet → Space → Configurations → ℕ → Label → Place → Refusal → Type 0
+LacksValue a s k position label place r =
+    (IsDeclaredWhole a s k label → ⊥) × IsIncompleteAt position place r
+
+-- A label of a space is refused since a matcher on it takes a pattern, and the classes of the label
+-- could not be computed.
+-- Source: own choice.
+-- Example: `team` is declared, and a route has `team=~"\bdb"`, over Unicode.
+abbrev pub IsUndecided : Space → Configurations → Label → Place → Refusal → Type 0
+IsUndecided s k label place r =
+    (asked : AskedLabel) × Contains (labels_of_routes k s.impossible) asked
+    × (asked.name ≡ label.name) × HasPattern (about label.name (routing_conditions s k))
+    × IsUnprovedAt k asked.name asked.first place r
+
+-- A label that the space declares is refused at this place, for one of these reasons. No label
+-- before it lacks a value.
+pub record IsDeclaredRefusal (a : Alphabet) (s : Space) (k : Configurations) (place : Place)
+    (r : Refusal) : Type 0 where
+  pub position : ℕ
+  pub label : Label
+  pub there : slice_get s.labels position ≡ Some label
+  pub before : AreDeclaredWhole a s k (take position s.labels)
+  pub refused : LacksValue a s k position label place r ⊎ IsUndecided s k label place r
+
+-- How a label at a position is refused, by its state.
 abbrev pub IsStateRefusal :
     Configurations → ℕ → List ℕ → Completeness → Place → Refusal → Type 0
 IsStateRefusal k position name (state_is.Complete classes) place r = ⊥

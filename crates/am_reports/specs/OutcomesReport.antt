@@ -1,15 +1,17 @@
 -- What `outcomes` owes. (This project's own.)
 use Rattle.std.specs.Prelude.{◌≡◌, ℕ, List, ◌++◌, Bool, ⊤}
+use Rattle.am_universe.specs.declared.place.Place.{Place}
 use Rattle.am_universe.specs.Universe.{Label}
 use Rattle.am_labels.specs.Space.{Space}
+use Rattle.am_json.specs.Pointer.{Refusal}
 use Rattle.am_config.specs.ConfigFile.{Configuration}
 use Rattle.am_files.specs.Promise.{Promise}
 use Rattle.am_lint.specs.Findings.{alphabet_of}
 use Rattle.am_outcomes.specs.OutcomeText.{outcomes_text}
 use Rattle.am_reports.specs.Configurations.{One}
-use Rattle.am_reports.specs.ReportInputs.{ReportInputs, AcceptsReportInputs}
-use Rattle.am_reports.specs.ReportInputs.{report_input_stages, AcceptsReport, report_places}
-use Rattle.am_reports.specs.LaterStages.{outcome_stages}
+use Rattle.am_universe_command.specs.Universes.{later_stages}
+use Rattle.am_reports.specs.ReportInputs.{ReportInputs, AcceptsReportInputs, report_input_stages}
+use Rattle.am_reports.specs.LaterStages.{IsOutcomesRefusal}
 use Rattle.am_reports.specs.Made.{AreDeclaredWhole}
 use Rattle.am_reports.specs.AllOutcomes.{AreAllOutcomes}
 
@@ -37,12 +39,17 @@ pub record ReportsOutcomes (inputs : ReportInputs) (report : List ℕ) : Type 0 
   pub whole : AreDeclaredWhole (alphabet_of inputs.ascii) space (One configuration) space.labels
   pub reports : IsOutcomesReport inputs.ascii space configuration report
 
+-- The inputs are accepted, and what they say is refused at this place.
+abbrev pub RefusesOutcomes : ReportInputs → Place → Refusal → Type 0
+RefusesOutcomes inputs place r =
+    (s : Space) × (c : Configuration) × AcceptsReportInputs inputs s c
+    × IsOutcomesRefusal (alphabet_of inputs.ascii) s (One c) place r
+
 -- What `outcomes` owes.
 -- Source: own choice.
 -- Example: if the configuration is not JSON, the first fault is its `not-json`.
 abbrev pub outcomes_promise : ReportInputs → Promise ⊤
 outcomes_promise inputs = record {
-  stages = report_input_stages inputs
-      ++ outcome_stages (AcceptsReport inputs) report_places (alphabet_of inputs.ascii);
+  stages = report_input_stages inputs ++ later_stages (RefusesOutcomes inputs);
   May = λ _. ReportsOutcomes inputs;
 }

@@ -1,13 +1,10 @@
 -- The inputs of a report on one configuration, when they are accepted, and the order of their
 -- faults. (This project's own.)
 use Rattle.std.specs.Prelude.{ℕ, List, [], ◌∷◌, Bool, Option}
-use Rattle.am_universe.specs.declared.place.Place.{Place}
-use Rattle.am_universe.specs.declared.place.Place.TheVariants as places
 use Rattle.am_labels.specs.Space.{Space}
 use Rattle.am_config.specs.ConfigFile.{Configuration, FileSaysConfig}
 use Rattle.am_files.specs.Faults.{Stage, config_stage}
 use Rattle.am_universe_command.specs.UniverseInputs.{SaysUniverseIfAny, universe_stage_if_any}
-use Rattle.am_reports.specs.Configurations.{Configurations, One, Pair}
 
 -- The bytes of a universe file, if there is one, and those of the configuration file; and whether
 -- only ordinary alerts count.
@@ -26,12 +23,3 @@ pub record AcceptsReportInputs (inputs : ReportInputs) (s : Space) (c : Configur
 abbrev pub report_input_stages : ReportInputs → List Stage
 report_input_stages inputs =
     universe_stage_if_any inputs.universe ∷ config_stage inputs.config ∷ []
-
--- The inputs are accepted, and the configuration is the one that they say.
-abbrev pub AcceptsReport : ReportInputs → Space → Configurations → Type 0
-AcceptsReport inputs s (One c) = AcceptsReportInputs inputs s c
-AcceptsReport inputs s (Pair old new) = ⊥
-
--- The places where the matchers of routes and impossible lists stand, in the order of their faults.
-abbrev pub report_places : List Place
-report_places = places.Config ∷ places.Universe ∷ []

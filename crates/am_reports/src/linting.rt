@@ -1,10 +1,10 @@
 //! The command `lint`.
 
-ghost use Rattle.std.specs.Prelude.{IfOk, IfErr, string_bytes};
-ghost use Rattle.am_files.specs.Faults.{IsFirstFault};
+ghost use Rattle.std.specs.Prelude.{◌≢◌, IfOk, IfErr, string_bytes};
+ghost use Rattle.am_universe.specs.declared.kind.Kind.TheVariants as kinds;
+ghost use Rattle.am_json.specs.Reading.{refusal_of};
 ghost use Rattle.am_files.specs.Promise.{IsKept};
-ghost use Rattle.am_reports.specs.LintInputs.{AcceptsLintInputs};
-ghost use Rattle.am_reports.specs.Linting.{lint_promise, IsLinted, later_stages};
+ghost use Rattle.am_reports.specs.Linting.{lint_promise, IsLinted, IsLintRefusal};
 
 use crate::LintInputs;
 use crate::configs::Configs;
@@ -50,31 +50,33 @@ pub fn lint<W: Sink>(alloc: Global, inputs: &LintInputs<'_>, out: &mut W) -> Res
     ensures kept { IsKept (lint_promise inputs.now) W.taken W.failures out.old out.new result }
 {
     let mut read = read_lint_inputs(alloc, inputs)?;
-    let lint = lint_report(alloc, inputs, &mut read.space, &read.world)?;
+    let (ascii, given) = (inputs.is_ascii(), inputs.has_alerts());
+    let lint = lint_report(alloc, ascii, given, &mut read.space, &read.world)?;
     answer_of_write(
         alloc,
         put_str(out, lint.text.as_str()).and(Ok(lint.findings > 0)),
     )
 }
 
-/// Makes the report on the inputs that were read. At the end the space has no labels.
+/// Makes the report on what was read. If `given`, there is a file of firing alerts. At the end the
+/// space has no labels.
 fn lint_report(
     alloc: Global,
-    inputs: &LintInputs<'_>,
+    ascii: bool,
+    given: bool,
     space: &mut Space,
     world: &World,
 ) -> Result<LintReport, Fault>
-    ensures reports { IfOk result (λ report. AcceptsLintInputs inputs.now space.old world.now
-        → IsLinted inputs.now space.old world.now report.findings (string_bytes report.text)) }
-    ensures first { IfErr result (λ fault. AcceptsLintInputs inputs.now space.old world.now
-        → IsFirstFault (later_stages inputs.now) fault) }
+    ensures reports { IfOk result (λ report. IsLinted ascii given space.old world.now
+        report.findings (string_bytes report.text)) }
+    ensures refused { IfErr result (λ fault. fault.kind ≢ kinds.Memory
+        → IsLintRefusal ascii space.old world.now fault.place (refusal_of fault)) }
 {
-    let alphabet = alphabet_of(inputs.is_ascii());
+    let alphabet = alphabet_of(ascii);
     check_declared(alloc, alphabet, space, Configs::One(world.config()))?;
     space.declare(Universe::empty(alloc));
-    let routes = route_section(alloc, inputs.is_ascii(), space, world.config())?;
+    let routes = route_section(alloc, ascii, space, world.config())?;
     let rules = rule_section(alloc, alphabet, space, world.config().rules())?;
-    let given = inputs.has_alerts();
     let silences = silence_section(alloc, alphabet, space, world, given)?;
     let Ok(values) = value_section(alloc, world, given) else {
         return Err(Fault::memory(alloc));

@@ -1,20 +1,22 @@
 //! Universes that stand for every alert, made in memory.
 
 ghost use Rattle.std.specs.Prelude.{◌≡◌, ◌≢◌, ◌<◌, ◌++◌, IfOk, IfErr, OnOk, length, codes, decimal};
-ghost use Rattle.std.specs.Prelude.{[], string_bytes};
+ghost use Rattle.std.specs.Prelude.{[], string_bytes, IsTrue};
 ghost use Rattle.am_universe.specs.declared.kind.Kind.TheVariants as kinds;
 ghost use Rattle.am_universe.specs.declared.place.Place.TheVariants as places;
 ghost use Rattle.am_json.specs.Reading.{refusal_of};
+ghost use Rattle.am_complete.specs.LabelState.{is_settled};
 ghost use Rattle.am_lint.specs.Findings.{alphabet_of};
 ghost use Rattle.am_reports.specs.ConfigsView.{configurations_of};
 ghost use Rattle.am_reports.specs.Made.{StandsForAll, AreDeclaredWhole, IsMadeRefusal};
-ghost use Rattle.am_reports.specs.Made.{IsDeclaredRefusal, IsStateRefusal, IsSettledState};
+ghost use Rattle.am_reports.specs.Made.{IsDeclaredRefusal, IsStateRefusal};
 
 use crate::configs::{Configs, labels_asked, unproved_label};
 use am_classes::Alphabet;
-use am_complete::{Completeness, LabelState, label_states, universe_beside};
+use am_complete::{Completeness, LabelState, label_states};
 use am_labels::Space;
 use am_universe::{Fault, Kind, Place, Universe};
+use am_universe_command::universe_for;
 use std::alloc::Global;
 
 /// The alphabet of the alerts that count.
@@ -51,15 +53,11 @@ pub(crate) fn universe_for_routes(
     let Ok(asked) = labels_asked(alloc, configs, space) else {
         return Err(Fault::memory(alloc));
     };
-    let made = match universe_beside(alloc, alphabet, space, asked.as_slice(), None) {
-        Ok(made) => made,
-        Err(kind) => return Err(Fault::at(alloc, kind, Place::Universe)),
-    };
-    if let Some(position) = made.unproved.first() {
-        let label = &asked[*position];
-        return Err(unproved_label(alloc, configs, label.name(), &label.first()));
+    let found = universe_for(alloc, alphabet, false, space, asked.as_slice(), None)?;
+    match found {
+        Ok(universe) => Ok(universe),
+        Err(label) => Err(unproved_label(alloc, configs, label.name(), &label.first())),
     }
-    Ok(made.universe)
 }
 
 /// Checks that no label of a space lacks a value, for the matchers of the routes and of the
@@ -103,7 +101,7 @@ fn check_state(
     position: usize,
     state: &LabelState,
 ) -> Result<(), Fault>
-    ensures settled { OnOk result (IsSettledState state.now.completeness) }
+    ensures settled { OnOk result (IsTrue (is_settled state.now.completeness)) }
     ensures refused { IfErr result (λ fault. fault.kind ≢ kinds.Memory
         → IsStateRefusal (configurations_of configs.entry) position (string_bytes state.now.name)
         state.now.completeness fault.place (refusal_of fault)) }

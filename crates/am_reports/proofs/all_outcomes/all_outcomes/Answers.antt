@@ -10,7 +10,8 @@ use Rattle.am_files.proofs.FirstFaults.{handed_on}
 use Rattle.am_lint.specs.Findings.{alphabet_of}
 use Rattle.am_outcomes.specs.Outcomes.{outcomes_of}
 use Rattle.am_outcomes.specs.Ways.{HaveManyWays}
-use Rattle.am_reports.specs.Configurations.{each_of, space_of}
+use Rattle.am_every_alert.specs.Deciding.{space_of}
+use Rattle.am_reports.specs.Configurations.{each_of}
 use Rattle.am_reports.specs.ConfigsView.{configurations_of}
 use Rattle.am_reports.specs.AllOutcomes.{AreAllOutcomes}
 use Rattle.am_reports.specs.LaterStages.{IsOutcomesRefusal}

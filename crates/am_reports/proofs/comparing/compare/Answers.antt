@@ -7,15 +7,15 @@ use Rattle.am_files.proofs.FirstFaults.{first_of_more}
 use Rattle.am_files.proofs.Promises.{refused, written}
 use Rattle.am_lint.specs.Findings.{alphabet_of}
 use Rattle.am_reports.specs.AllOutcomes.{AreAllOutcomes}
-use Rattle.am_reports.specs.Configurations.{Pair, space_of}
-use Rattle.am_reports.specs.CompareInputs.{CompareInputs, compare_input_stages, AcceptsCompare}
-use Rattle.am_reports.specs.CompareInputs.{compare_places}
-use Rattle.am_reports.specs.LaterStages.{outcome_stages, IsOutcomesRefusal}
+use Rattle.am_every_alert.specs.Deciding.{space_of}
+use Rattle.am_reports.specs.Configurations.{Pair}
+use Rattle.am_universe_command.specs.Universes.{later_stages}
+use Rattle.am_reports.specs.CompareInputs.{CompareInputs, compare_input_stages}
+use Rattle.am_reports.specs.LaterStages.{IsOutcomesRefusal}
 use Rattle.am_reports.specs.Made.{AreDeclaredWhole}
-use Rattle.am_reports.specs.Comparing.{compare_promise}
+use Rattle.am_reports.specs.Comparing.{compare_promise, RefusesComparison}
 use Rattle.am_reports.proofs.ChangeLemmas.{compared}
-use Rattle.am_reports.proofs.InputStages.{first_behind_compare_inputs}
-use Rattle.am_reports.proofs.StageLemmas.{outcomes_first}
+use Rattle.am_reports.proofs.LaterFaults.{comparison_refused}
 use Rattle.am_reports.proofs.WrittenBeside.{told_beside, writes_beside}
 use Rattle.am_reports.proofs.comparing.compare.Goals as goal
 
@@ -23,12 +23,12 @@ pub returns-in_err-read : goal.returns-in_err-read
 returns-in_err-read g c =
     let fault = c.in_err-read.field-0.0 in
     let inputs = c.args.inputs.now in
-    let later = outcome_stages (AcceptsCompare inputs) compare_places (alphabet_of inputs.ascii) in
     record {
       kept = refused (compare_promise inputs) fault c.from_residual.result refl
           c.from_residual.ensures.1
-          (λ remembered. first_of_more (compare_input_stages inputs) later fault.place
-          (refusal_of fault) (c.in_err-read.ensures.first remembered));
+          (λ remembered. first_of_more (compare_input_stages inputs)
+          (later_stages (RefusesComparison inputs)) fault.place (refusal_of fault)
+          (c.in_err-read.ensures.first remembered));
     }
 
 pub returns-in_err-outcomes : goal.returns-in_err-outcomes
@@ -38,18 +38,14 @@ returns-in_err-outcomes g c =
     let s = c.in_ok-read.read.space in
     let old = config_view c.in_ok-read.read.old in
     let new = config_view c.in_ok-read.read.new in
-    let says = AcceptsCompare inputs in
-    let a = alphabet_of inputs.ascii in
-    let accepts = c.in_ok-read.ensures.accepts in
     record {
       kept = refused (compare_promise inputs) fault c.from_residual-in_err-outcomes.result refl
           c.from_residual-in_err-outcomes.ensures.1
-          (λ remembered. first_behind_compare_inputs inputs s old new
-          (outcome_stages says compare_places a) fault.place (refusal_of fault) accepts
-          (outcomes_first says a s (Pair old new) fault.place (refusal_of fault) accepts
+          (λ remembered. comparison_refused inputs s old new fault.place (refusal_of fault)
+          c.in_ok-read.ensures.accepts
           (subst (λ (i : CompareInputs).
           IsOutcomesRefusal (alphabet_of i.ascii) s (Pair old new) fault.place (refusal_of fault))
-          c.inputs.view_is (c.in_err-outcomes.ensures.refused remembered))));
+          c.inputs.view_is (c.in_err-outcomes.ensures.refused remembered)));
     }
 
 pub changes_text-requires : goal.changes_text-requires

@@ -6,8 +6,9 @@ use Rattle.am_json.specs.Reading.{refusal_of}
 use Rattle.am_files.proofs.FirstFaults.{first_of_more}
 use Rattle.am_files.proofs.Promises.{refused, written}
 use Rattle.am_reports.specs.LintInputs.{lint_input_stages}
-use Rattle.am_reports.specs.Linting.{lint_promise, later_stages}
-use Rattle.am_reports.proofs.LintStages.{first_behind_lint_inputs}
+use Rattle.am_universe_command.specs.Universes.{later_stages}
+use Rattle.am_reports.specs.Linting.{lint_promise, RefusesLint}
+use Rattle.am_reports.proofs.LaterFaults.{lint_refused}
 use Rattle.am_reports.proofs.WrittenBeside.{told_beside, writes_beside}
 use Rattle.am_reports.proofs.linting.lint.Goals as goal
 
@@ -18,8 +19,8 @@ returns-in_err-read g c =
     record {
       kept = refused (lint_promise inputs) fault c.from_residual.result refl
           c.from_residual.ensures.1
-          (λ remembered. first_of_more (lint_input_stages inputs) (later_stages inputs)
-          fault.place (refusal_of fault) (c.in_err-read.ensures.first remembered));
+          (λ remembered. first_of_more (lint_input_stages inputs)
+          (later_stages (RefusesLint inputs)) fault.place (refusal_of fault) (c.in_err-read.ensures.first remembered));
     }
 
 pub returns-in_err-lint : goal.returns-in_err-lint
@@ -27,13 +28,11 @@ returns-in_err-lint g c =
     let fault = c.in_err-lint.field-0.0 in
     let inputs = c.args.inputs.now in
     let read = c.in_ok-read.read in
-    let accepts = c.in_ok-read.ensures.accepts in
     record {
       kept = refused (lint_promise inputs) fault c.from_residual-in_err-lint.result refl
           c.from_residual-in_err-lint.ensures.1
-          (λ remembered. first_behind_lint_inputs inputs read.space read.world fault.place
-          (refusal_of fault) accepts (later_stages inputs)
-          (c.in_err-lint.ensures.first accepts remembered));
+          (λ remembered. lint_refused inputs read.space read.world fault.place (refusal_of fault)
+          c.in_ok-read.ensures.accepts (rw c.is_ascii-ascii.ensures at (c.in_err-lint.ensures.refused remembered)));
     }
 
 pub returns : goal.returns
@@ -41,7 +40,6 @@ returns g c =
     let inputs = c.args.inputs.now in
     let read = c.in_ok-read.read in
     let lint = c.in_ok-lint.lint in
-    let accepts = c.in_ok-read.ensures.accepts in
     let found = nat_lt 0 lint.findings in
     record {
       kept = written (lint_promise inputs) found (string_bytes lint.text)
@@ -49,10 +47,10 @@ returns g c =
           (record {
             space = read.space;
             world = read.world;
-            accepts = accepts;
+            accepts = c.in_ok-read.ensures.accepts;
             findings = lint.findings;
             is_found = refl;
-            linted = c.in_ok-lint.ensures.reports accepts;
+            linted = rw (c.is_ascii-ascii.ensures, c.has_alerts-given.ensures) at c.in_ok-lint.ensures.reports;
           })
           (told_beside c.put_str.result found)
           (writes_beside c.put_str.result found

@@ -6,26 +6,26 @@ use Rattle.am_files.proofs.FirstFaults.{first_of_more}
 use Rattle.am_files.proofs.Promises.{refused, written, nothing_told}
 use Rattle.am_lint.specs.Findings.{alphabet_of}
 use Rattle.am_reports.specs.AllOutcomes.{AreAllOutcomes}
-use Rattle.am_reports.specs.Configurations.{One, space_of}
-use Rattle.am_reports.specs.ReportInputs.{ReportInputs, report_input_stages, AcceptsReport}
-use Rattle.am_reports.specs.ReportInputs.{report_places}
-use Rattle.am_reports.specs.LaterStages.{outcome_stages, IsOutcomesRefusal}
+use Rattle.am_every_alert.specs.Deciding.{space_of}
+use Rattle.am_reports.specs.Configurations.{One}
+use Rattle.am_universe_command.specs.Universes.{later_stages}
+use Rattle.am_reports.specs.ReportInputs.{ReportInputs, report_input_stages}
+use Rattle.am_reports.specs.LaterStages.{IsOutcomesRefusal}
 use Rattle.am_reports.specs.Made.{AreDeclaredWhole}
-use Rattle.am_reports.specs.OutcomesReport.{outcomes_promise}
-use Rattle.am_reports.proofs.InputStages.{first_behind_report_inputs}
-use Rattle.am_reports.proofs.StageLemmas.{outcomes_first}
+use Rattle.am_reports.specs.OutcomesReport.{outcomes_promise, RefusesOutcomes}
+use Rattle.am_reports.proofs.LaterFaults.{outcomes_refused}
 use Rattle.am_reports.proofs.outcomes_report.outcomes.Goals as goal
 
 pub returns-in_err-read : goal.returns-in_err-read
 returns-in_err-read g c =
     let fault = c.in_err-read.field-0.0 in
     let inputs = c.args.inputs.now in
-    let later = outcome_stages (AcceptsReport inputs) report_places (alphabet_of inputs.ascii) in
     record {
       kept = refused (outcomes_promise inputs) fault c.from_residual.result refl
           c.from_residual.ensures.1
-          (λ remembered. first_of_more (report_input_stages inputs) later fault.place
-          (refusal_of fault) (c.in_err-read.ensures.first remembered));
+          (λ remembered. first_of_more (report_input_stages inputs)
+          (later_stages (RefusesOutcomes inputs)) fault.place (refusal_of fault)
+          (c.in_err-read.ensures.first remembered));
     }
 
 pub returns-in_err-outcomes : goal.returns-in_err-outcomes
@@ -34,18 +34,14 @@ returns-in_err-outcomes g c =
     let inputs = c.args.inputs.now in
     let s = c.in_ok-read.read.space in
     let config = config_view c.in_ok-read.read.config in
-    let says = AcceptsReport inputs in
-    let a = alphabet_of inputs.ascii in
-    let accepts = c.in_ok-read.ensures.accepts in
     record {
       kept = refused (outcomes_promise inputs) fault c.from_residual-in_err-outcomes.result refl
           c.from_residual-in_err-outcomes.ensures.1
-          (λ remembered. first_behind_report_inputs inputs s config
-          (outcome_stages says report_places a) fault.place (refusal_of fault) accepts
-          (outcomes_first says a s (One config) fault.place (refusal_of fault) accepts
+          (λ remembered. outcomes_refused inputs s config fault.place (refusal_of fault)
+          c.in_ok-read.ensures.accepts
           (subst (λ (i : ReportInputs).
           IsOutcomesRefusal (alphabet_of i.ascii) s (One config) fault.place (refusal_of fault))
-          c.inputs.view_is (c.in_err-outcomes.ensures.refused remembered))));
+          c.inputs.view_is (c.in_err-outcomes.ensures.refused remembered)));
     }
 
 pub outcomes_text-requires : goal.outcomes_text-requires

@@ -1,0 +1,120 @@
+-- The first fault after those of the inputs.
+use Rattle.std.proofs.Common.{◌≡◌, ℕ, List, Bool, true, false, inl, inr, refl, sym, subst}
+use Rattle.std.specs.Prelude.{if◌then◌else◌}
+use Rattle.am_universe.specs.declared.place.Place.{Place}
+use Rattle.am_universe.specs.declared.place.Place.TheVariants as places
+use Rattle.am_universe.proofs.ListLemmas.{IsIn}
+use Rattle.am_labels.specs.Matcher.{Condition}
+use Rattle.am_labels.specs.Space.{Space}
+use Rattle.am_json.specs.Pointer.{Refusal}
+use Rattle.am_config.specs.ConfigFile.{Configuration}
+use Rattle.am_eval.specs.World.{World}
+use Rattle.am_files.specs.Faults.{IsFirstFaultOfCall}
+use Rattle.am_files.proofs.FirstFaults.{first_behind_world}
+use Rattle.am_classes.specs.declared.alphabet.Alphabet.{Alphabet}
+use Rattle.am_classes.specs.declared.alphabet.Alphabet.TheVariants.{Ascii}
+use Rattle.am_complete.specs.declared.origin.Origin.{Origin}
+use Rattle.am_complete.specs.declared.origin.Origin.TheVariants as origin_is
+use Rattle.am_universe_command.specs.Universes.{matcher_places, later_stages}
+use Rattle.am_universe_command.proofs.UniverseStages.{origin_in, refused_later}
+use Rattle.am_lint.specs.Findings.{alphabet_of}
+use Rattle.am_reports.specs.Configurations.{Configurations, One, Pair, asks_of, first_place}
+use Rattle.am_reports.specs.ReportInputs.{ReportInputs, AcceptsReportInputs}
+use Rattle.am_reports.specs.CompareInputs.{CompareInputs, AcceptsCompareInputs}
+use Rattle.am_reports.specs.LintInputs.{LintInputs, AcceptsLintInputs}
+use Rattle.am_reports.specs.Made.{IsMadeRefusal, IsDeclaredRefusal}
+use Rattle.am_reports.specs.LaterStages.{IsOutcomesRefusal}
+use Rattle.am_reports.specs.OutcomesReport.{outcomes_promise, RefusesOutcomes}
+use Rattle.am_reports.specs.Comparing.{compare_promise, RefusesComparison}
+use Rattle.am_reports.specs.Linting.{lint_promise, RefusesLint, IsLintRefusal}
+
+-- ---- The places.
+
+old_or_new : (b : Bool) → IsIn matcher_places (if b then places.Old else places.New)
+old_or_new true = inr (inr (inl refl))
+old_or_new false = inr (inr (inr (inl refl)))
+
+first_in : (k : Configurations) (name : List ℕ) (o : Origin)
+    → IsIn matcher_places (first_place k name o)
+first_in (One c) name o = origin_in o
+first_in (Pair old new) name (origin_is.Route path) = old_or_new (asks_of old name)
+first_in (Pair old new) name (origin_is.Rule position) = origin_in (origin_is.Rule position)
+first_in (Pair old new) name (origin_is.Silence position) = origin_in (origin_is.Silence position)
+first_in (Pair old new) name (origin_is.Question position) =
+    origin_in (origin_is.Question position)
+first_in (Pair old new) name (origin_is.Impossible position) =
+    origin_in (origin_is.Impossible position)
+
+made_in : (a : Alphabet) (lists : List (List Condition)) (k : Configurations) (place : Place)
+    (r : Refusal) → IsMadeRefusal a lists k place r → IsIn matcher_places place
+made_in a lists k place r (inl full) = inl (sym full.0)
+made_in a lists k place r (inr unproved) =
+    subst (IsIn matcher_places) (sym unproved.2)
+    (first_in k unproved.0.name unproved.0.first)
+
+declared_in : (a : Alphabet) (s : Space) (k : Configurations) (place : Place) (r : Refusal)
+    → IsDeclaredRefusal a s k place r → IsIn matcher_places place
+declared_in a s k place r found = elim found.refused [
+  | inl lacks ↦ inl (sym lacks.1.0)
+  | inr undecided ↦
+      subst (IsIn matcher_places) (sym undecided.4.0)
+      (first_in k undecided.0.name undecided.0.first)
+]
+
+outcomes_in : (a : Alphabet) (s : Space) (k : Configurations) (place : Place) (r : Refusal)
+    → IsOutcomesRefusal a s k place r → IsIn matcher_places place
+outcomes_in a s k place r (inl declared) = declared_in a s k place r declared
+outcomes_in a s k place r (inr (whole, inl made)) = made_in a s.impossible k place r made
+outcomes_in a s k place r (inr (whole, inr many)) = inl (sym many.0)
+
+lint_in : (ascii : Bool) (s : Space) (w : World) (place : Place) (r : Refusal)
+    → IsLintRefusal ascii s w place r → IsIn matcher_places place
+lint_in ascii s w place r (inl declared) =
+    declared_in (alphabet_of ascii) s (One w.config) place r declared
+lint_in ascii s w place r (inr (whole, inl (inl every))) =
+    made_in (alphabet_of ascii) s.impossible (One w.config) place r every
+lint_in ascii s w place r (inr (whole, inl (inr ordinary))) =
+    made_in Ascii s.impossible (One w.config) place r ordinary
+lint_in ascii s w place r (inr (whole, inr (inl rule))) = inr (inl (sym rule.2))
+lint_in ascii s w place r (inr (whole, inr (inr silence))) =
+    inr (inr (inr (inr (inl (sym silence.2)))))
+
+-- ---- The first faults.
+
+pub outcomes_refused : (inputs : ReportInputs) (s : Space) (c : Configuration) (place : Place)
+    (r : Refusal) → AcceptsReportInputs inputs s c
+    → IsOutcomesRefusal (alphabet_of inputs.ascii) s (One c) place r
+    → IsFirstFaultOfCall (outcomes_promise inputs).stages place r
+outcomes_refused inputs s c place r accepts refused =
+    inr (
+      (s, accepts.says_universe),
+      inr (
+        (c, accepts.says_config),
+        refused_later (RefusesOutcomes inputs) place r (s, c, accepts, refused)
+            (outcomes_in (alphabet_of inputs.ascii) s (One c) place r refused),
+      ),
+    )
+
+pub comparison_refused : (inputs : CompareInputs) (s : Space) (old new : Configuration)
+    (place : Place) (r : Refusal) → AcceptsCompareInputs inputs s old new
+    → IsOutcomesRefusal (alphabet_of inputs.ascii) s (Pair old new) place r
+    → IsFirstFaultOfCall (compare_promise inputs).stages place r
+comparison_refused inputs s old new place r accepts refused =
+    let later = refused_later (RefusesComparison inputs) place r (s, old, new, accepts, refused)
+    (outcomes_in (alphabet_of inputs.ascii) s (Pair old new) place r refused) in
+    inr (
+      (s, accepts.says_universe),
+      inr ((old, accepts.says_old), inr ((new, accepts.says_new), later)),
+    )
+
+pub lint_refused : (inputs : LintInputs) (s : Space) (w : World) (place : Place) (r : Refusal)
+    → AcceptsLintInputs inputs s w → IsLintRefusal inputs.ascii s w place r
+    → IsFirstFaultOfCall (lint_promise inputs).stages place r
+lint_refused inputs s w place r accepts refused =
+    inr (
+      (s, accepts.says_universe),
+      first_behind_world inputs.files w (later_stages (RefusesLint inputs)) place r
+          accepts.accepts_world
+          (refused_later (RefusesLint inputs) place r (s, w, accepts, refused)
+          (lint_in inputs.ascii s w place r refused)),
+    )
