@@ -1,219 +1,162 @@
 -- The labels that are gathered from matchers are those that the matchers ask about.
-use Rattle.std.proofs.Common.{◌≡◌, ◌≢◌, ℕ, Bool, true, false, cond, List, [], ◌∷◌, ◌++◌, map, ◌||◌, ◌⊎◌}
-use Rattle.std.proofs.Common.{fold, Contains, refl, sym, ap, ◌∙◌, subst, inl, inr, append_assoc}
-use Rattle.std.specs.List.{AllByRecursion, IsDistinct, list_any, filter}
+use Rattle.std.proofs.Common.{◌≡◌, ◌≢◌, ℕ, Bool, true, List, [], ◌∷◌, ◌++◌, map, fold, Contains, refl}
+use Rattle.std.proofs.Common.{◌||◌, sym, ap, ◌∙◌, subst, inl, inr, append_assoc}
+use Rattle.std.specs.List.{IsDistinct, list_any, filter}
 use Rattle.std.specs.Cmp.Lexicographic.{bytes_decides}
-use Rattle.std.proofs.lemmas.Bool.{both_ways, cases_Bool, false_from_ne_true}
+use Rattle.std.proofs.lemmas.Bool.{both_ways, cases_Bool}
 use Rattle.std.proofs.lemmas.List.{map-append, append-nil}
 use Rattle.am_universe.specs.Text.{same_text}
 use Rattle.am_universe.proofs.ListLemmas.{IsIn, IsIn-left, IsIn-right, IsIn-map, IsIn-unmap}
 use Rattle.am_universe.proofs.ListLemmas.{Contains-from_IsIn, AllByRecursion-each}
-use Rattle.am_universe.proofs.ListLemmas.{AllByRecursion-at}
-use Rattle.am_universe.proofs.DistinctLists.{all_push, distinct_none, distinct_push}
+use Rattle.am_universe.proofs.DistinctLists.{distinct_none, distinct_push}
 use Rattle.am_labels.specs.Matcher.{Condition}
 use Rattle.am_labels.proofs.Passing.{any_in, in_any, passes_from_kept, kept_from_passes}
+use Rattle.am_config.specs.ConfigFile.{Configuration}
+use Rattle.am_eval.specs.World.{World}
+use Rattle.am_eval.specs.Question.{Question}
 use Rattle.am_complete.specs.declared.origin.Origin.{Origin}
-use Rattle.am_complete.specs.Complete.{about, HaveSameMatchers}
+use Rattle.am_complete.specs.Complete.{about, HaveSameMatchers, impossible_conditions}
 use Rattle.am_complete.specs.AskedLabel.{AskedLabel, asked_names, and_asked, label_of, with_asked}
 use Rattle.am_complete.specs.AskedLabel.{asks_same, with_matcher, asked_labels, IsAskedOf}
 use Rattle.am_complete.specs.FoundState.{begins}
 use Rattle.am_complete.proofs.Alike.{about_is, is_about}
 use Rattle.am_complete.proofs.GatheringLemmas.{with_matcher_name}
 use Rattle.am_complete.proofs.Pushed.{in_pushed}
-use Rattle.am_complete.proofs.SameMatchers.{equal_is, same_by, in_there, in_back}
-use Rattle.am_asked.specs.Placed.{is_named}
-use Rattle.am_asked.proofs.PlacedConditions.{conditions_of, SameNamed}
+use Rattle.am_complete.proofs.SameMatchers.{equal_is, same_by}
+use Rattle.am_asked.specs.Asked.{route_conditions, world_conditions, questions_conditions}
+use Rattle.am_asked.specs.Placed.{is_named, placed_in_routes, placed_in_world}
+use Rattle.am_asked.specs.Placed.{placed_in_questions, placed_in_lists}
+use Rattle.am_asked.proofs.PlacedConditions.{conditions_of, Places, both_placed, of_routes}
+use Rattle.am_asked.proofs.PlacedConditions.{of_questions, of_impossible, of_world}
 
--- a label has the same matchers as those on its name
-abbrev HasThoseOn : List Condition → AskedLabel → Type 0
-HasThoseOn ms l = HaveSameMatchers l.matchers (about l.name ms)
+-- a label has exactly those of some matchers that are on it
+record HasThoseOn (ms : List Condition) (l : AskedLabel) : Type 0 where
+  there : (x : Condition) → IsIn l.matchers x → IsIn ms x × (x.name ≡ l.name)
+  back : (x : Condition) → IsIn ms x → x.name ≡ l.name → IsIn l.matchers x
 
 -- no two labels have the same name, each label has the matchers on it, and no label is missing
 record Gathers (labels : List AskedLabel) (ms : List Condition) : Type 0 where
   distinct : IsDistinct same_text (asked_names labels)
-  matchers : AllByRecursion (HasThoseOn ms) labels
-  every : AllByRecursion (λ m. IsIn (asked_names labels) m.name) ms
-
--- a text without a first byte is empty, and a text that is not empty has a first byte
-no_text : (text : List ℕ) → begins text ≡ false → text ≡ []
-no_text [] h = refl
-no_text (c ∷ cs) h = absurd (cc)
-
-some_text : (text : List ℕ) → text ≢ [] → begins text ≡ true
-some_text [] h = absurd (h refl)
-some_text (c ∷ cs) h = refl
+  matchers : (l : AskedLabel) → IsIn labels l → HasThoseOn ms l
+  every : (x : Condition) → IsIn ms x → IsIn (asked_names labels) x.name
 
 -- ---- One matcher more.
 
--- the matchers on a name, among some matchers and one more
-on_front : (name : List ℕ) (ms : List Condition) (m x : Condition) → IsIn (about name ms) x
-    → IsIn (about name (ms ++ m ∷ [])) x
-on_front name ms m x i =
-    let r = about_is name ms x i in
-    is_about name (ms ++ m ∷ []) x (IsIn-left ms (m ∷ []) x r.0) r.1
-
-on_last : (name : List ℕ) (ms : List Condition) (m x : Condition) → m.name ≡ name → m ≡ x
-    → IsIn (about name (ms ++ m ∷ [])) x
-on_last name ms m x named is =
-    subst (IsIn (about name (ms ++ m ∷ []))) is
-    (is_about name (ms ++ m ∷ []) m (IsIn-right ms (m ∷ []) m (inl refl)) named)
-
-on_either : (name : List ℕ) (ms : List Condition) (m x : Condition)
-    → IsIn (about name (ms ++ m ∷ [])) x
-    → IsIn (about name ms) x ⊎ ((m ≡ x) × (m.name ≡ name))
-on_either name ms m x i =
-    let r = about_is name (ms ++ m ∷ []) x i in
-    elim (in_pushed ms m x r.0) [
-      | inl before ↦ inl (is_about name ms x before r.1)
-      | inr is ↦ inr (is, ap (λ n. n.name) is ∙ r.1)
-    ]
-
 -- a label with another name keeps the same matchers
-stays : (m : Condition) (ms : List Condition) (l : AskedLabel) → same_text l.name m.name ≡ false
+stays : (m : Condition) (ms : List Condition) (l : AskedLabel) → m.name ≢ l.name
     → HasThoseOn ms l → HasThoseOn (ms ++ m ∷ []) l
-stays m ms l other h =
-    same_by l.matchers (about l.name (ms ++ m ∷ []))
-    (λ x i. on_front l.name ms m x (in_there l.matchers (about l.name ms) x h i))
-    (λ x i. elim (on_either l.name ms m x i) [
-      | inl before ↦ in_back l.matchers (about l.name ms) x h before
-      | inr last ↦
-          absurd (both_ways (same_text l.name m.name) other
-          ((bytes_decides l.name m.name).1 (sym last.1)))
-    ])
+stays m ms l other h = record {
+  there = λ x i. (IsIn-left ms (m ∷ []) x (h.there x i).0, (h.there x i).1);
+  back = λ x i on. elim (in_pushed ms m x i) [
+    | inl before ↦ h.back x before on
+    | inr last ↦ absurd (other (ap (λ n. n.name) last ∙ on))
+  ];
+}
 
 -- the label with its name has the matcher too, once
 gains_it : (m : Condition) (ms : List Condition) (l : AskedLabel) → m.name ≡ l.name
-    → HasThoseOn ms l
-    → HaveSameMatchers (with_matcher m l).matchers (about l.name (ms ++ m ∷ []))
-gains_it m ms l named h =
-    let on = about l.name ms in
-    elim (cases_Bool (list_any (asks_same m) l.matchers)) [
-      | inl some ↦
-          let found = any_in (asks_same m) l.matchers some in
-          let there = about_is l.name ms found.0 (in_there l.matchers on found.0 h found.1) in
-          let is = equal_is m found.0 (named ∙ sym there.1) found.2 in
-          rw some (same_by l.matchers (about l.name (ms ++ m ∷ []))
-          (λ x i. on_front l.name ms m x (in_there l.matchers on x h i))
-          (λ x i. elim (on_either l.name ms m x i) [
-            | inl before ↦ in_back l.matchers on x h before
-            | inr last ↦ subst (IsIn l.matchers) (sym is ∙ last.0) found.1
-          ]))
-      | inr none ↦
-          rw none (same_by (l.matchers ++ m ∷ []) (about l.name (ms ++ m ∷ []))
-          (λ x i. elim (in_pushed l.matchers m x i) [
-            | inl before ↦ on_front l.name ms m x (in_there l.matchers on x h before)
-            | inr last ↦ on_last l.name ms m x named last
-          ])
-          (λ x i. elim (on_either l.name ms m x i) [
-            | inl before ↦ IsIn-left l.matchers (m ∷ []) x (in_back l.matchers on x h before)
-            | inr last ↦ IsIn-right l.matchers (m ∷ []) x (inl last.0)
-          ]))
-    ]
-
-name_stays : (m : Condition) (l : AskedLabel) → (and_asked m l).name ≡ l.name
-name_stays m l = elim (cases_Bool (same_text l.name m.name)) [
-  | inl same ↦ rw same (with_matcher_name m l)
-  | inr other ↦ rw other refl
+    → HasThoseOn ms l → HasThoseOn (ms ++ m ∷ []) (with_matcher m l)
+gains_it m ms l named h = elim (cases_Bool (list_any (asks_same m) l.matchers)) [
+  | inl some ↦
+      let found = any_in (asks_same m) l.matchers some in
+      let is = equal_is m found.0 (named ∙ sym (h.there found.0 found.1).1) found.2 in
+      rw some (record {
+        there = λ x i. (IsIn-left ms (m ∷ []) x (h.there x i).0, (h.there x i).1);
+        back = λ x i on. elim (in_pushed ms m x i) [
+          | inl before ↦ h.back x before on
+          | inr last ↦ subst (IsIn l.matchers) (sym is ∙ last) found.1
+        ];
+      })
+  | inr none ↦
+      rw none (record {
+        there = λ x i. elim (in_pushed l.matchers m x i) [
+          | inl before ↦ (IsIn-left ms (m ∷ []) x (h.there x before).0, (h.there x before).1)
+          | inr last ↦ (IsIn-right ms (m ∷ []) x (inl last), ap (λ n. n.name) (sym last) ∙ named)
+        ];
+        back = λ x i on. elim (in_pushed ms m x i) [
+          | inl before ↦ IsIn-left l.matchers (m ∷ []) x (h.back x before on)
+          | inr last ↦ IsIn-right l.matchers (m ∷ []) x (inl last)
+        ];
+      })
 ]
-
-names_stay : (m : Condition) (labels : List AskedLabel)
-    → asked_names (map (and_asked m) labels) ≡ asked_names labels
-names_stay m [] = refl
-names_stay m (l ∷ labels) = λ i. name_stays m l i ∷ names_stay m labels i
 
 gains : (m : Condition) (ms : List Condition) (l : AskedLabel) → HasThoseOn ms l
     → HasThoseOn (ms ++ m ∷ []) (and_asked m l)
 gains m ms l h =
-    subst (λ name. HaveSameMatchers (and_asked m l).matchers (about name (ms ++ m ∷ [])))
-    (sym (name_stays m l)) (elim (cases_Bool (same_text l.name m.name)) [
-      | inl same ↦ rw same (gains_it m ms l (sym ((bytes_decides l.name m.name).0 same)) h)
-      | inr other ↦ rw other (stays m ms l other h)
-    ])
+    let names = bytes_decides l.name m.name in
+    elim (cases_Bool (same_text l.name m.name)) [
+      | inl same ↦ rw same (gains_it m ms l (sym (names.0 same)) h)
+      | inr other ↦ rw other (stays m ms l (λ named. both_ways _ other (names.1 (sym named))) h)
+    ]
 
-all_gain : (m : Condition) (ms : List Condition) (labels : List AskedLabel)
-    → AllByRecursion (HasThoseOn ms) labels
-    → AllByRecursion (HasThoseOn (ms ++ m ∷ [])) (map (and_asked m) labels)
-all_gain m ms [] h = tt
-all_gain m ms (l ∷ labels) h = (gains m ms l h.0, all_gain m ms labels h.1)
-
-any_named : (name : List ℕ) (labels : List AskedLabel)
-    → list_any (λ n. same_text n name) (asked_names labels)
-    ≡ list_any (λ l. same_text l.name name) labels
-any_named name [] = refl
-any_named name (l ∷ labels) =
-    ap (λ b. same_text l.name name || b) (any_named name labels)
-
--- if no label has a name, the name of each label differs from it, and no matcher is on it
-other : (labels : List AskedLabel) (name : List ℕ)
-    → list_any (λ l. same_text l.name name) labels ≡ false → (l : AskedLabel) → IsIn labels l
-    → same_text l.name name ≡ false
-other labels name none l i =
-    false_from_ne_true (same_text l.name name) (λ same.
-    both_ways _ none (in_any (λ x. same_text x.name name) labels l i same))
-
-none_about : (labels : List AskedLabel) (ms : List Condition) (name : List ℕ)
-    → AllByRecursion (λ m. IsIn (asked_names labels) m.name) ms
-    → list_any (λ l. same_text l.name name) labels ≡ false → about name ms ≡ []
-none_about labels [] name every none = refl
-none_about labels (m ∷ ms) name every none =
-    let found = IsIn-unmap (λ l. l.name) labels m.name every.0 in
-    let differs : same_text m.name name ≡ false =
-    subst (λ n. same_text n name ≡ false) found.2 (other labels name none found.0 found.1) in
-    rw differs (none_about labels ms name every.1 none)
-
--- the first matcher on a name is the only one of its label
-first_on : (m : Condition) (ms : List Condition) → about m.name ms ≡ []
-    → HaveSameMatchers (m ∷ []) (about m.name (ms ++ m ∷ []))
-first_on m ms none =
-    same_by (m ∷ []) (about m.name (ms ++ m ∷ []))
-    (λ x i. elim i [ inl is ↦ on_last m.name ms m x refl is | inr never ↦ absurd never ])
-    (λ x i. elim (on_either m.name ms m x i) [
-      | inl before ↦
-          let never : IsIn [] x = subst (λ (xs : List Condition). IsIn xs x) none before in
-          absurd never
-      | inr last ↦ inl last.0
-    ])
+names_stay : (m : Condition) (labels : List AskedLabel)
+    → asked_names (map (and_asked m) labels) ≡ asked_names labels
+names_stay m [] = refl
+names_stay m (l ∷ labels) = elim (cases_Bool (same_text l.name m.name)) [
+  | inl same ↦ rw same (λ i. with_matcher_name m l i ∷ names_stay m labels i)
+  | inr other ↦ rw other (λ i. l.name ∷ names_stay m labels i)
+]
 
 step : (labels : List AskedLabel) (ms : List Condition) (origin : Origin) (m : Condition)
     → Gathers labels ms → Gathers (with_asked labels (origin, m)) (ms ++ m ∷ [])
 step labels ms origin m h =
     let test : AskedLabel → Bool = λ l. same_text l.name m.name in
-    let new = labels ++ label_of (origin, m) ∷ [] in
+    let ns = asked_names labels in
     elim (cases_Bool (list_any test labels)) [
       | inl some ↦
           let found = any_in test labels some in
-          let is = (bytes_decides found.0.name m.name).0 found.2 in
-          let here : IsIn (asked_names labels) m.name =
-          subst (IsIn (asked_names labels)) is
+          let here : IsIn ns m.name =
+          subst (IsIn ns) ((bytes_decides found.0.name m.name).0 found.2)
           (IsIn-map (λ l. l.name) labels found.0 found.1) in
           rw some (record {
             distinct = subst (IsDistinct same_text) (sym (names_stay m labels)) h.distinct;
-            matchers = all_gain m ms labels h.matchers;
-            every = subst (λ (names : List (List ℕ)).
-                AllByRecursion (λ x. IsIn names x.name) (ms ++ m ∷ [])) (sym (names_stay m labels))
-                (all_push (λ x. IsIn (asked_names labels) x.name) ms m h.every here);
+            matchers = λ l i.
+                let k = IsIn-unmap (and_asked m) labels l i in
+                subst (HasThoseOn (ms ++ m ∷ [])) k.2 (gains m ms k.0 (h.matchers k.0 k.1));
+            every = λ x i. subst (λ (ks : List (List ℕ)). IsIn ks x.name)
+                (sym (names_stay m labels)) (elim (in_pushed ms m x i) [
+                  | inl before ↦ h.every x before
+                  | inr last ↦ subst (λ (y : Condition). IsIn ns y.name) last here
+                ]);
           })
       | inr none ↦
-          let names : asked_names labels ++ m.name ∷ [] ≡ asked_names new =
-          sym (map-append (λ l. l.name) labels (label_of (origin, m) ∷ [])) in
+          let new = label_of (origin, m) in
+          let names = map-append (λ l. l.name) labels (new ∷ []) in
+          let other : (l : AskedLabel) → IsIn labels l → m.name ≢ l.name = λ l i named.
+          both_ways _ none (in_any test labels l i ((bytes_decides l.name m.name).1 (sym named))) in
+          let first : HasThoseOn (ms ++ m ∷ []) new = record {
+            there = λ x i. elim i [
+              | inl is ↦ (IsIn-right ms (m ∷ []) x (inl is), ap (λ n. n.name) (sym is))
+              | inr never ↦ absurd never
+            ];
+            back = λ x i on. elim (in_pushed ms m x i) [
+              | inl before ↦
+                  let k = IsIn-unmap (λ l. l.name) labels x.name (h.every x before) in
+                  absurd (other k.0 k.1 (sym on ∙ sym k.2))
+              | inr last ↦ inl last
+            ];
+          } in
           rw none (record {
-            distinct = subst (IsDistinct same_text) names
-                (distinct_push same_text (asked_names labels) m.name h.distinct
-                (any_named m.name labels ∙ none));
-            matchers = all_push (HasThoseOn (ms ++ m ∷ [])) labels (label_of (origin, m))
-                (AllByRecursion-each (HasThoseOn (ms ++ m ∷ [])) labels (λ l i.
-                stays m ms l (other labels m.name none l i)
-                (AllByRecursion-at (HasThoseOn ms) labels l h.matchers i)))
-                (first_on m ms (none_about labels ms m.name h.every none));
-            every = subst (λ (ns : List (List ℕ)).
-                AllByRecursion (λ x. IsIn ns x.name) (ms ++ m ∷ [])) names
-                (all_push (λ x. IsIn (asked_names labels ++ m.name ∷ []) x.name) ms m
-                (AllByRecursion-each (λ x. IsIn (asked_names labels ++ m.name ∷ []) x.name) ms (λ x i.
-                IsIn-left (asked_names labels) (m.name ∷ []) x.name
-                (AllByRecursion-at (λ y. IsIn (asked_names labels) y.name) ms x h.every i)))
-                (IsIn-right (asked_names labels) (m.name ∷ []) m.name (inl refl)));
+            distinct = subst (IsDistinct same_text) (sym names)
+                (distinct_push same_text ns m.name h.distinct (any_named m.name labels ∙ none));
+            matchers = λ l i. elim (in_pushed labels new l i) [
+              | inl before ↦ stays m ms l (other l before) (h.matchers l before)
+              | inr last ↦ subst (HasThoseOn (ms ++ m ∷ [])) last first
+            ];
+            every = λ x i. subst (λ (ks : List (List ℕ)). IsIn ks x.name) (sym names)
+                (elim (in_pushed ms m x i) [
+                  | inl before ↦ IsIn-left ns (m.name ∷ []) x.name (h.every x before)
+                  | inr last ↦ IsIn-right ns (m.name ∷ []) x.name (inl (ap (λ n. n.name) last))
+                ]);
           })
     ]
+  where
+    any_named : (name : List ℕ) (labels : List AskedLabel)
+        → list_any (λ n. same_text n name) (asked_names labels)
+        ≡ list_any (λ l. same_text l.name name) labels
+    any_named name [] = refl
+    any_named name (l ∷ labels) =
+        ap (λ b. same_text l.name name || b) (any_named name labels)
 
 -- ---- All of them.
 
@@ -225,40 +168,83 @@ steps (p ∷ placed) labels ms h =
     (append_assoc ms (p.1 ∷ []) (conditions_of placed))
     (steps placed (with_asked labels p) (ms ++ p.1 ∷ []) (step labels ms p.0 p.1 h))
 
-about_named : (name : List ℕ) (ms : List Condition) → name ≢ []
-    → about name (filter is_named ms) ≡ about name ms
-about_named name [] some = refl
-about_named name (m ∷ ms) some =
-    let later = about_named name ms some in
-    elim (cases_Bool (is_named m)) [
-      | inl named ↦ rw named (ap (λ rest. cond (same_text m.name name) (m ∷ rest) rest) later)
-      | inr unnamed ↦
-          let apart = false_from_ne_true (same_text m.name name) (λ same.
-          some (sym ((bytes_decides m.name name).0 same) ∙ no_text m.name unnamed)) in
-          rw (unnamed, apart) later
-    ]
+-- a text that is not empty has a first byte
+some_text : (text : List ℕ) → text ≢ [] → begins text ≡ true
+some_text [] h = absurd (h refl)
+some_text (c ∷ cs) h = refl
 
--- labels that are gathered from some matchers are those that other matchers ask about, if both are
--- the same except for matchers without a name
-pub asked_from_gathered : (placed : List (Origin × Condition)) (ms : List Condition)
-    → SameNamed (conditions_of placed) ms → IsAskedOf (asked_labels placed) ms
-asked_from_gathered placed ms same =
+-- a matcher with a name is in both of two lists that differ in matchers without a name alone
+in_other : (xs ys : List Condition) → filter is_named xs ≡ filter is_named ys → (x : Condition)
+    → IsIn xs x → x.name ≢ [] → IsIn ys x
+in_other xs ys same x i some =
+    let kept = kept_from_passes is_named xs x i (some_text x.name some) in
+    (passes_from_kept is_named ys x (subst (λ (zs : List Condition). IsIn zs x) same kept)).0
+
+-- the labels that are gathered from placed matchers are those that these matchers ask about
+pub asked_of : {placed : List (Origin × Condition)} {ms : List Condition} → Places placed ms
+    → IsAskedOf (asked_labels placed) ms
+asked_of {placed} {ms} places =
     let labels = asked_labels placed in
     let cs = conditions_of placed in
-    let none : Gathers [] [] =
-    record { distinct = distinct_none same_text; matchers = tt; every = tt } in
+    let none : Gathers [] [] = record {
+      distinct = distinct_none same_text;
+      matchers = λ l never. absurd never;
+      every = λ x never. absurd never;
+    } in
     let all : Gathers labels cs = steps placed [] [] none in
     record {
       distinct = all.distinct;
-      matchers = AllByRecursion-each (λ l. l.name ≢ [] → HasThoseOn ms l) labels (λ l i some.
-          subst (HaveSameMatchers l.matchers)
-          (sym (about_named l.name cs some) ∙ ap (about l.name) same ∙ about_named l.name ms some)
-          (AllByRecursion-at (HasThoseOn cs) labels l all.matchers i));
+      matchers = AllByRecursion-each
+          (λ l. l.name ≢ [] → HaveSameMatchers l.matchers (about l.name ms)) labels (λ l i some.
+          let has = all.matchers l i in
+          same_by l.matchers (about l.name ms)
+          (λ x j.
+          let found = has.there x j in
+          is_about l.name ms x
+          (in_other cs ms places.same x found.0 (λ none. some (sym found.1 ∙ none))) found.1)
+          (λ x j.
+          let found = about_is l.name ms x j in
+          has.back x
+          (in_other ms cs (sym places.same) x found.0 (λ none. some (sym found.1 ∙ none))) found.1));
       every = AllByRecursion-each (λ m. m.name ≢ [] → Contains (asked_names labels) m.name) ms
-          (λ m i some.
-          let kept = kept_from_passes is_named ms m i (some_text m.name some) in
-          let there = passes_from_kept is_named cs m
-          (subst (λ (xs : List Condition). IsIn xs m) (sym same) kept) in
-          Contains-from_IsIn (asked_names labels) m.name
-          (AllByRecursion-at (λ x. IsIn (asked_names labels) x.name) cs m all.every there.0));
+          (λ m i some. Contains-from_IsIn (asked_names labels) m.name
+          (all.every m (in_other ms cs (sym places.same) m i some)));
     }
+
+pub asked_from_gathered : (placed : List (Origin × Condition)) (ms : List Condition)
+    → filter is_named (conditions_of placed) ≡ filter is_named ms
+    → IsAskedOf (asked_labels placed) ms
+asked_from_gathered placed ms same =
+    asked_of {placed = placed} {ms = ms} (record { same = same })
+
+-- ---- The labels of a call.
+
+pub routes_asked : (c : Configuration) (questions : List Question) (lists : List (List Condition))
+    (labels : List AskedLabel)
+    → labels ≡ asked_labels
+    (placed_in_routes c ++ (placed_in_questions questions ++ placed_in_lists lists))
+    → IsAskedOf labels
+    (route_conditions c.root ++ (questions_conditions questions ++ impossible_conditions lists))
+routes_asked c questions lists labels is =
+    rw is (asked_of (both_placed (of_routes [] c.root)
+    (both_placed (of_questions questions) (of_impossible lists))))
+
+pub both_asked : (old new : Configuration) (lists : List (List Condition))
+    (labels : List AskedLabel)
+    → labels ≡ asked_labels
+    (placed_in_routes old ++ (placed_in_routes new ++ placed_in_lists lists))
+    → IsAskedOf labels
+    (route_conditions old.root ++ (route_conditions new.root ++ impossible_conditions lists))
+both_asked old new lists labels is =
+    rw is (asked_of (both_placed (of_routes [] old.root)
+    (both_placed (of_routes [] new.root) (of_impossible lists))))
+
+pub world_asked : (w : World) (questions : List Question) (lists : List (List Condition))
+    (labels : List AskedLabel)
+    → labels ≡ asked_labels
+    (placed_in_world w ++ (placed_in_questions questions ++ placed_in_lists lists))
+    → IsAskedOf labels
+    (world_conditions w ++ (questions_conditions questions ++ impossible_conditions lists))
+world_asked w questions lists labels is =
+    rw is (asked_of (both_placed (of_world w)
+    (both_placed (of_questions questions) (of_impossible lists))))

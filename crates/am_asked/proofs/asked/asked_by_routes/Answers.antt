@@ -1,13 +1,10 @@
-use Rattle.std.proofs.Common.{◌≡◌, [], ◌++◌, sym, subst, refl, List, map, fold}
+use Rattle.std.proofs.Common.{[], ◌++◌, refl, map, fold}
 use Rattle.std.proofs.lemmas.List.Sums.{fold-append}
 use Rattle.am_config.specs.ConfigView.{config_view}
 use Rattle.am_eval.specs.QuestionView.{question_view}
-use Rattle.am_asked.specs.Asked.{route_conditions, questions_conditions}
-use Rattle.am_complete.specs.Complete.{impossible_conditions}
-use Rattle.am_complete.specs.AskedLabel.{AskedLabel, asked_labels, IsAskedOf, with_asked}
+use Rattle.am_complete.specs.AskedLabel.{with_asked}
 use Rattle.am_asked.specs.Placed.{placed_in_routes, placed_in_questions, placed_in_lists}
-use Rattle.am_asked.proofs.PlacedConditions.{of_routes}
-use Rattle.am_asked.proofs.AskedLemmas.{asked_from_gathered}
+use Rattle.am_asked.proofs.AskedLemmas.{routes_asked}
 use Rattle.am_asked.proofs.asked.asked_by_routes.Goals as goal
 
 pub returns-clause-asked : goal.returns-clause-asked
@@ -15,14 +12,9 @@ returns-clause-asked c =
     let config = config_view c.args.config.now in
     let questions = map question_view c.args.questions.now in
     let lists = c.args.impossible.now in
-    let conditions =
-    route_conditions config.root ++ (questions_conditions questions ++ impossible_conditions lists)
-    in
     let routes = placed_in_routes config in
     let asked = placed_in_questions questions in
-    let placed = routes ++ (asked ++ placed_in_lists lists) in
-    let is : c.into_labels.result.items ≡ asked_labels placed =
-    rw (
+    routes_asked config questions lists c.into_labels.result.items (rw (
       c.into_labels.ensures,
       c.in_ok-visit_lists.ensures.visit,
       c.in_ok-add_questions.ensures,
@@ -30,6 +22,4 @@ returns-clause-asked c =
       c.empty-gathering.ensures,
       fold-append with_asked [] routes (asked ++ placed_in_lists lists),
       fold-append with_asked (fold with_asked [] routes) asked (placed_in_lists lists),
-    ) refl in
-    subst (λ (labels : List AskedLabel). IsAskedOf labels conditions) (sym is)
-    (asked_from_gathered placed conditions (of_routes config questions lists))
+    ) refl)

@@ -1,15 +1,12 @@
-use Rattle.std.proofs.Common.{◌≡◌, [], ◌++◌, ap, sym, ◌∙◌, subst, refl, fold, List, map}
+use Rattle.std.proofs.Common.{◌≡◌, [], ◌++◌, ap, ◌∙◌, refl, fold, map}
 use Rattle.std.proofs.lemmas.List.Sums.{fold-append}
 use Rattle.am_config.specs.ConfigFile.{Configuration}
 use Rattle.am_eval.specs.QuestionView.{question_view}
-use Rattle.am_asked.specs.Asked.{world_conditions, questions_conditions}
-use Rattle.am_complete.specs.Complete.{impossible_conditions}
-use Rattle.am_complete.specs.AskedLabel.{AskedLabel, asked_labels, IsAskedOf, with_asked}
+use Rattle.am_complete.specs.AskedLabel.{with_asked}
 use Rattle.am_asked.specs.Placed.{placed_in_routes, placed_in_rules, placed_in_equal}
 use Rattle.am_asked.specs.Placed.{placed_in_silences, placed_in_lists, placed_in_world}
 use Rattle.am_asked.specs.Placed.{placed_in_questions}
-use Rattle.am_asked.proofs.PlacedConditions.{of_world}
-use Rattle.am_asked.proofs.AskedLemmas.{asked_from_gathered}
+use Rattle.am_asked.proofs.AskedLemmas.{world_asked}
 use Rattle.am_asked.proofs.asked.asked_in_world.Goals as goal
 
 pub returns-clause-asked : goal.returns-clause-asked
@@ -17,18 +14,14 @@ returns-clause-asked c =
     let w = c.args.world.now in
     let lists = c.args.impossible.now in
     let questions = map question_view c.args.questions.now in
-    let conditions =
-    world_conditions w ++ (questions_conditions questions ++ impossible_conditions lists) in
     let asked = placed_in_questions questions in
-    let placed = placed_in_world w ++ (asked ++ placed_in_lists lists) in
     let routes = placed_in_routes w.config in
     let rules = placed_in_rules w.config.rules in
     let equal = placed_in_equal w in
     let silences = placed_in_silences w.silences in
     let sides : c.rules.result.now ≡ w.config.rules =
     c.rules.ensures.rules ∙ ap (λ (k : Configuration). k.rules) c.config-2.ensures.config in
-    let is : c.into_labels.result.items ≡ asked_labels placed =
-    rw (
+    world_asked w questions lists c.into_labels.result.items (rw (
       c.into_labels.ensures,
       c.in_ok-visit_lists.ensures.visit,
       c.in_ok-add_questions.ensures,
@@ -46,6 +39,4 @@ returns-clause-asked c =
       fold-append with_asked [] routes (rules ++ (equal ++ silences)),
       fold-append with_asked (fold with_asked [] routes) rules (equal ++ silences),
       fold-append with_asked (fold with_asked (fold with_asked [] routes) rules) equal silences,
-    ) refl in
-    subst (λ (labels : List AskedLabel). IsAskedOf labels conditions) (sym is)
-    (asked_from_gathered placed conditions (of_world w questions lists))
+    ) refl)
