@@ -16,8 +16,9 @@ use Rattle.am_reports.specs.LintSections.{SaysOfRules, SaysOfSilences, values_se
 use Rattle.am_reports.specs.LintSections.{IsRulesRefusal, IsSilencesRefusal}
 
 -- What is said is refused at this place for a label that the universe file declares; or no such
--- label lacks a value, and it is refused for the routes, a rule or a silence. If there is a universe
--- file, its impossible lists count for rules and silences, but the labels that it declares do not.
+-- label lacks a value, and it is refused for the routes, a rule or a silence. If there is a
+-- universe file, its impossible lists count for rules and silences, but the labels that it declares
+-- do not.
 abbrev pub IsLintRefusal : Bool → Space → World → Place → Refusal → Type 0
 IsLintRefusal ascii s w place r =
     let a = alphabet_of ascii in

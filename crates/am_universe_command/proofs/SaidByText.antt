@@ -183,14 +183,3 @@ pub texts_kept : (u : List Label) (texts : List (List ℕ)) → IsUtf8 (universe
     → FileHasImpossibleTexts (universe_text u texts) texts
 texts_kept u texts utf8 short =
     (short, universe_data u texts, json_of_text u texts utf8, texts_said u texts)
-
--- no texts are those of no lists
-pub no_texts : AreTextsOfLists [] []
-no_texts = record { few = omega arith; each = tt }
-
--- a text that is equal to that of a universe and of texts of lists
-pub text_says : (u : List Label) (texts : List (List ℕ)) (lists : List (List Condition))
-    (text : List ℕ) → text ≡ universe_text u texts → IsUniverse u → AreTextsOfLists texts lists
-    → IsUtf8 text → length text ≤ MAX_FILE_BYTES → FileSaysUniverse text (space_of u lists)
-text_says u texts lists text is universe spell utf8 short =
-    rw is (universe_said u texts lists universe spell (rw is at utf8) (rw is at short))

@@ -1,13 +1,10 @@
 -- The stage of the first fault of making a universe, or of checking one.
-use Rattle.std.proofs.Common.{◌≡◌, ◌∷◌, List, [], inl, inr, refl, sym, subst, string_bytes, map}
+use Rattle.std.proofs.Common.{◌∷◌, List, [], inl, inr, refl, sym, subst, map}
 use Rattle.std.specs.Prelude.{⊤}
-use Rattle.am_universe.specs.declared.fault.Fault.{Fault}
-use Rattle.am_universe.specs.declared.kind.Kind.{Kind}
 use Rattle.am_universe.specs.declared.place.Place.{Place}
 use Rattle.am_universe.proofs.ListLemmas.{IsIn}
 use Rattle.am_labels.specs.Space.{Space}
-use Rattle.am_json.specs.Pointer.{Refusal, refusal_here}
-use Rattle.am_json.specs.Reading.{refusal_of}
+use Rattle.am_json.specs.Pointer.{Refusal}
 use Rattle.am_files.specs.Faults.{IsFirstFaultOfCall}
 use Rattle.am_files.specs.Files.{config_of}
 use Rattle.am_eval.specs.Question.{Question}
@@ -20,11 +17,6 @@ use Rattle.am_universe_command.specs.UniverseInputs.{UniverseInputs, AcceptsUniv
 use Rattle.am_universe_command.specs.UniverseInputs.{questions_stage}
 use Rattle.am_universe_command.specs.Universes.{origin_place, matcher_places, later_stages}
 use Rattle.am_universe_command.specs.Universes.{IsMakingRefusal, RefusesMaking, universe_promise}
-
--- the refusal of a fault with the empty pointer
-pub refused_here : (fault : Fault) (kind : Kind) → fault.kind ≡ kind
-    → string_bytes fault.pointer ≡ [] → refusal_of fault ≡ refusal_here kind
-refused_here fault kind same whole = λ i. record { kind = same i; pointer = whole i }
 
 -- the first matcher on a label stands in an input
 pub origin_in : (o : Origin) → IsIn matcher_places (origin_place o)

@@ -63,9 +63,9 @@ deciding_labels routes w questions impossible =
 -- ---- A universe that is made.
 
 -- A universe is made for matchers, from the labels of a space. With the impossible lists of the
--- space it is complete for the matchers, unless it may lack values. It keeps the labels and values of
--- the space, and adds only what is needed. If the texts of the space are over the alphabet, so are
--- its own.
+-- space it is complete for the matchers, unless it may lack values. It keeps the labels and values
+-- of the space, and adds only what is needed. If the texts of the space are over the alphabet, so
+-- are its own.
 -- Source: own choice.
 -- Example: from a space without labels, for `team="db"`, it has `team` with absence and `db`.
 pub record IsMadeBeside (a : Alphabet) (may_lack : Bool) (s : Space) (ms : List Condition)

@@ -6,31 +6,30 @@ ghost use Rattle.am_complete.specs.AskedLabel.{IsAskedOf};
 ghost use Rattle.am_asked.specs.Placed.{placed_in_equal};
 ghost use Rattle.am_universe_command.specs.Universes.{deciding_conditions, deciding_labels};
 
+use crate::read_inputs::ReadInputs;
 use am_asked::{EqualMatcher, asked_by_routes, asked_in_world};
 use am_complete::AskedLabel;
-use am_eval::{Question, World};
-use am_labels::Matchers;
 use std::alloc::{AllocError, Global};
 
 /// The labels that matchers ask about: those of the routes alone, or all that decide in a world;
 /// then those of questions; and then those of impossible lists. Fails only if memory runs out.
 pub(crate) fn labels_asked<'m>(
     alloc: Global,
-    world: &'m World,
+    read: &'m ReadInputs,
     equal: &'m [EqualMatcher],
-    questions: &'m [Question],
-    impossible: &'m [Matchers],
     routes: bool,
 ) -> Result<Vec<AskedLabel<'m>>, AllocError>
-    requires { equal.now ≡ placed_in_equal world.now }
+    requires { equal.now ≡ placed_in_equal read.now.world }
     ensures asked { IfOk result (λ labels. IsAskedOf labels.items (deciding_conditions routes
-        world.now (map question_view questions.now) impossible.now)) }
+        read.now.world (map question_view read.now.questions.items) read.now.space.impossible)) }
     ensures labels { IfOk result (λ labels. labels.items ≡ deciding_labels routes
-        world.now (map question_view questions.now) impossible.now) }
+        read.now.world (map question_view read.now.questions.items) read.now.space.impossible) }
 {
+    let questions = read.questions.as_slice();
+    let lists = read.space.impossible();
     if routes {
-        asked_by_routes(alloc, world.config(), questions, impossible)
+        asked_by_routes(alloc, read.world.config(), questions, lists)
     } else {
-        asked_in_world(alloc, world, equal, questions, impossible)
+        asked_in_world(alloc, &read.world, equal, questions, lists)
     }
 }

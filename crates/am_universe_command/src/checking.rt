@@ -63,9 +63,7 @@ fn checked_text(
 {
     let (space, world) = (&read.space, &read.world);
     let equal = equal_matchers_of(alloc, world)?;
-    let questions = read.questions.as_slice();
-    let lists = space.impossible();
-    let asked = labels_asked(alloc, world, equal.as_slice(), questions, lists, routes)?;
+    let asked = labels_asked(alloc, read, equal.as_slice(), routes)?;
     let alerts = alerts_if_any(world, has_alerts);
     let states = label_states(alloc, alphabet, space, asked.as_slice(), alerts)?;
     let all_impossible = first_possible(alloc, space)?.is_none();

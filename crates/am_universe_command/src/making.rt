@@ -109,14 +109,7 @@ fn made_universe(alloc: Global, read: &ReadInputs, form: UniverseForm) -> Result
     let Ok(equal) = equal_matchers_of(alloc, world) else {
         return Err(Fault::memory(alloc));
     };
-    let Ok(asked) = labels_asked(
-        alloc,
-        world,
-        equal.as_slice(),
-        read.questions.as_slice(),
-        read.space.impossible(),
-        form.routes,
-    ) else {
+    let Ok(asked) = labels_asked(alloc, read, equal.as_slice(), form.routes) else {
         return Err(Fault::memory(alloc));
     };
     let labels = asked.as_slice();

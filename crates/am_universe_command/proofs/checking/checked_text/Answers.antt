@@ -1,10 +1,10 @@
 -- What the text says is what was found.
-use Rattle.std.proofs.Common.{◌≡◌, ap, map, ◌∙◌}
+use Rattle.std.proofs.Common.{ap, map, ◌∙◌}
 use Rattle.am_universe.specs.Universe.{sizes}
 use Rattle.am_eval.specs.QuestionView.{question_view}
 use Rattle.am_complete.specs.AskedLabel.{IsAskedOf}
 use Rattle.am_universe_command.specs.CheckText.{check_text}
-use Rattle.am_universe_command.specs.Universes.{deciding_conditions, deciding_labels}
+use Rattle.am_universe_command.specs.Universes.{deciding_conditions}
 use Rattle.am_universe_command.proofs.AskedFacts.{lists_decide}
 use Rattle.am_universe_command.proofs.CheckFacts.{none_told}
 use Rattle.am_universe_command.proofs.checking.checked_text.Goals as goal
@@ -14,12 +14,7 @@ use Rattle.am_universe_command.proofs.checking.checked_text.Goals.{After-as_slic
 asked_as : (c : After-as_slice-2) → IsAskedOf c.as_slice-2.result.now
     (deciding_conditions c.args.routes c.args.read.now.world
     (map question_view c.args.read.now.questions.items) c.args.read.now.space.impossible)
-asked_as c =
-    rw (
-      c.as_slice-2.ensures.value,
-      ← c.impossible-lists.ensures.lists,
-      ← c.as_slice-questions.ensures.value,
-    ) c.in_ok-asked.ensures.asked
+asked_as c = rw (c.as_slice-2.ensures.value) c.in_ok-asked.ensures.asked
 
 pub label_states-requires : goal.label_states-requires
 label_states-requires c =
@@ -43,12 +38,7 @@ returns c =
     let empty = c.in_ok-first_possible.ensures.none in
     let ms = deciding_conditions routes w questions s.impossible in
     let of = asked_as (goal.at.returns c).After-as_slice-2 in
-    let labels : c.as_slice-2.result.now ≡ deciding_labels routes w questions s.impossible =
-    rw (
-      c.as_slice-2.ensures.value,
-      ← c.impossible-lists.ensures.lists,
-      ← c.as_slice-questions.ensures.value,
-    ) c.in_ok-asked.ensures.labels in
+    let labels = c.as_slice-2.ensures.value ∙ c.in_ok-asked.ensures.labels in
     let none = none_told c.in_ok-first_possible.field-0 all_impossible
     c.is_none-all_impossible.ensures in
     record {

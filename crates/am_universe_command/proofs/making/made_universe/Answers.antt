@@ -1,5 +1,5 @@
 -- What is made for the labels that are asked about, and the faults.
-use Rattle.std.proofs.Common.{◌≡◌, ◌≢◌, inl, inr, map}
+use Rattle.std.proofs.Common.{◌≡◌, ◌≢◌, inl, inr, map, ◌∙◌}
 use Rattle.am_eval.specs.QuestionView.{question_view}
 use Rattle.am_json.specs.Reading.{refusal_of}
 use Rattle.am_universe.specs.declared.kind.Kind.TheVariants as kinds
@@ -15,22 +15,12 @@ use Rattle.am_universe_command.proofs.making.made_universe.Goals.{After-as_slice
 is_asked : (c : After-as_slice-labels) → IsAskedOf c.as_slice-labels.result.now
     (deciding_conditions c.args.form.routes c.args.read.now.world
     (map question_view c.args.read.now.questions.items) c.args.read.now.space.impossible)
-is_asked c =
-    rw (
-      c.as_slice-labels.ensures.value,
-      ← c.impossible.ensures.lists,
-      ← c.as_slice-2.ensures.value,
-    ) c.in-Ok-labels_asked.ensures.asked
+is_asked c = rw (c.as_slice-labels.ensures.value) c.in-Ok-labels_asked.ensures.asked
 
 are_asked : (c : After-as_slice-labels) → c.as_slice-labels.result.now
     ≡ deciding_labels c.args.form.routes c.args.read.now.world
     (map question_view c.args.read.now.questions.items) c.args.read.now.space.impossible
-are_asked c =
-    rw (
-      c.as_slice-labels.ensures.value,
-      ← c.impossible.ensures.lists,
-      ← c.as_slice-2.ensures.value,
-    ) c.in-Ok-labels_asked.ensures.labels
+are_asked c = c.as_slice-labels.ensures.value ∙ c.in-Ok-labels_asked.ensures.labels
 
 pub universe_for-requires : goal.universe_for-requires
 universe_for-requires c =
