@@ -17,7 +17,7 @@ use Rattle.am_first_sets.specs.PossibleChoices.{AreFound}
 use Rattle.am_first_sets.proofs.SolverLemmas.{some_choice}
 use Rattle.am_first_sets.specs.Meeting.{all_match, meets_cubes}
 use Rattle.am_first_sets.specs.Solving.{avoids, marked}
-use Rattle.am_first_sets.specs.Reason.{AreSameLiterals, AreFewer, AreNamedBefore, all_named}
+use Rattle.am_first_sets.specs.Reason.{AreSameLiterals, AreFewer, AreNamedBefore}
 use Rattle.am_first_sets.specs.Reason.{renamed, without, kept, IsReason}
 
 -- each named literal from one position on and before another is needed: without it something is met
@@ -25,32 +25,6 @@ abbrev pub AreNeededBefore : (List Candidate → Type 0) → ℕ → ℕ → Lis
 AreNeededBefore Met from n ks =
     (i : ℕ) (k : Candidate) → slice_get ks i ≡ Some k → from ≤ i → i < n → IsTrue k.named
     → Met (without i ks)
-
--- ---- The same literals.
-
-pub same_through : (ks ls ms : List Candidate) → AreSameLiterals ks ls → AreSameLiterals ls ms
-    → AreSameLiterals ks ms
-same_through [] [] [] a b = tt
-same_through (k ∷ ks) (l ∷ ls) (m ∷ ms) a b =
-    ((a.0.0 ∙ b.0.0, a.0.1 ∙ b.0.1, a.0.2 ∙ b.0.2), same_through ks ls ms a.1 b.1)
-same_through [] [] ms a b = absurd b
-same_through (k ∷ ks) (l ∷ ls) ms a b = absurd b
-same_through ks ls ms a b = absurd a
-
-pub same_named : (ks : List Candidate) → AreSameLiterals ks (all_named ks)
-same_named [] = tt
-same_named (k ∷ ks) = ((refl, refl, refl), same_named ks)
-
--- all literals are named, so those that are named are met only where all are true
-pub named_before : (n : ℕ) (ks : List Candidate) → AreNamedBefore n (all_named ks)
-named_before n [] i k at lt = cc
-named_before n (k ∷ ks) zero l at lt =
-    let is : record k { named = true } ≡ l = cc in ap (λ x. x.named) (sym is)
-named_before n (k ∷ ks) (suc i) l at lt = named_before (suc i + 1) ks i l at (omega arith)
-
-pub all_met : (c : List ℕ) (ks : List Candidate) → meets c (all_named ks) ≡ hold_all c ks
-all_met c [] = refl
-all_met c (k ∷ ks) = ap (λ b. holds_at c k && b) (all_met c ks)
 
 -- ---- One literal that is named, or is not.
 
@@ -72,17 +46,6 @@ pub renamed_long : (i : ℕ) (name : Bool) (ks : List Candidate)
 renamed_long i name [] = refl
 renamed_long zero name (k ∷ ks) = refl
 renamed_long (suc i) name (k ∷ ks) = ap suc (renamed_long i name ks)
-
--- one more of the first literals is named
-pub named_next : (i : ℕ) (old ks : List Candidate) → i < length old
-    → ks ≡ all_named (take i old) ++ drop i old
-    → renamed i true ks ≡ all_named (take (suc i) old) ++ drop (suc i) old
-named_next i [] ks lt is = absurd (omega (arith, lt))
-named_next zero (k ∷ old) ks lt is = ap (renamed 0 true) is
-named_next (suc i) (k ∷ old) ks lt is =
-    ap (renamed (suc i) true) is
-    ∙ ap (λ rest. record k { named = true } ∷ rest)
-    (named_next i old (all_named (take i old) ++ drop i old) (omega (arith, lt)) refl)
 
 -- if a literal loses its name and gets it back, nothing changes
 pub restored : (i : ℕ) (ks : List Candidate) (k : Candidate) → slice_get ks i ≡ Some k

@@ -20,15 +20,12 @@ hold_all c ks = list_all (holds_at c) ks
 abbrev pub meets : List ℕ → List Candidate → Bool
 meets c ks = list_all (λ k. not k.named || holds_at c k) ks
 
--- Some choice meets the named literals; no choice does; some choice meets all literals.
+-- Some choice meets the named literals; no choice does.
 abbrev pub IsMet : (List ℕ → Type 0) → List Candidate → Type 0
 IsMet Is ks = (c : List ℕ) × Is c × (meets c ks ≡ true)
 
 abbrev pub IsUnmet : (List ℕ → Type 0) → List Candidate → Type 0
 IsUnmet Is ks = (c : List ℕ) → Is c → meets c ks ≡ false
-
-abbrev pub IsAnyMet : (List ℕ → Type 0) → List Candidate → Type 0
-IsAnyMet Is ks = (c : List ℕ) × Is c × (hold_all c ks ≡ true)
 
 -- The cubes of the named literals: of those that ask for a match, and of those that ask for no
 -- match.

@@ -22,11 +22,6 @@ abbrev pub AreNamedBefore : ℕ → List Candidate → Type 0
 AreNamedBefore n ks =
     (i : ℕ) (k : Candidate) → slice_get ks i ≡ Some k → i < n → IsTrue k.named
 
--- The same literals, all of them named.
-abbrev pub all_named : List Candidate → List Candidate
-all_named [] = []
-all_named (k ∷ ks) = record k { named = true } ∷ all_named ks
-
 -- The same literals, except that the one at a position is named, or is not. `without` takes its
 -- name off.
 abbrev pub renamed : ℕ → Bool → List Candidate → List Candidate

@@ -4,10 +4,10 @@
 //! choices it takes those that an unwanted cube matches, and splits the box where it has to.
 //!
 //! A [`Candidate`] is a literal, a cube that a label set has to match or must not match. If no
-//! label set meets all of some literals, [`find_reason`] names enough of them that no label set
-//! meets those either. Beside those that the caller fixes, it names only what is needed. [`Pairs`]
-//! is for the same questions about two label sets that share the values of some labels: a pair of
-//! choices is one choice over twice as many labels.
+//! label set meets all of some literals, [`leave_out`] leaves enough of them named that no label
+//! set meets those either. Beside those that the caller fixes, it names only what is needed.
+//! [`Pairs`] is for the same questions about two label sets that share the values of some labels: a
+//! pair of choices is one choice over twice as many labels.
 #![tactic(auto)]
 
 // The search for a choice that no cube of some matches, and how much it may look at.
@@ -34,7 +34,7 @@ pub use meeting::{first_meeting, some_meeting};
 // The search for the literals that are to blame.
 mod reason;
 
-pub use reason::{find_reason, leave_out};
+pub use reason::leave_out;
 
 // Pairs of label sets that share values.
 mod pairs;

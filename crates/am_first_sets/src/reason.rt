@@ -4,51 +4,22 @@
 //! literal after literal is left out as long as a search still finds no choice. It then keeps only
 //! what that search used. So most literals need no search of their own.
 
-ghost use Rattle.std.specs.Prelude.{◌≡◌, ◌<◌, ◌≤◌, ℕ, List, true, length, slice_get, Some, None};
+ghost use Rattle.std.specs.Prelude.{◌≡◌, ◌<◌, ◌≤◌, ℕ, List, length, slice_get, Some, None};
 ghost use Rattle.std.specs.Prelude.{IfOk, OnOk, IsTrue, IsFalse, get_or, false};
 ghost use Rattle.am_first_sets.specs.declared.candidate.Candidate.{Candidate};
-ghost use Rattle.am_first_sets.specs.Literals.{IsMet, IsUnmet, IsAnyMet};
+ghost use Rattle.am_first_sets.specs.Literals.{IsMet, IsUnmet};
 ghost use Rattle.am_first_sets.specs.PossibleChoices.{IsPossible};
 ghost use Rattle.am_first_sets.specs.Reason.{AreSameLiterals, AreFewer, AreNamedBefore};
-ghost use Rattle.am_first_sets.specs.Reason.{all_named, renamed, without, kept, IsReason};
+ghost use Rattle.am_first_sets.specs.Reason.{renamed, without, kept, IsReason};
 
 use crate::candidate::Candidate;
 use crate::meeting::refute_meeting;
 use crate::possible_choices::PossibleChoices;
 use std::alloc::{AllocError, Global};
 
-/// Finds which literals are to blame if no possible choice meets all of them, and names those.
-///
-/// There must be no possible choice that meets all. The first `fixed` are named, and of the others
-/// enough that no possible choice meets those that are named. Each of these others is needed:
-/// without it, some possible choice meets the rest. Literals that ask about few labels rather stay,
-/// because such a reason is easier to read. Fails only if memory runs out; then any of the literals
-/// may be named.
-pub fn find_reason(
-    alloc: Global,
-    possible: &PossibleChoices,
-    candidates: &mut [Candidate<'_>],
-    fixed: usize,
-) -> Result<(), AllocError>
-    requires none { IsAnyMet (IsPossible possible.now) candidates.old → ⊥ }
-    ensures same { AreSameLiterals candidates.old candidates.new }
-    ensures reason { OnOk result (IsReason (IsPossible possible.now) fixed candidates.new) }
-{
-    name_all(candidates);
-    leave_out(alloc, possible, candidates, fixed)
-}
-
-/// Names all literals.
-fn name_all(candidates: &mut [Candidate<'_>])
-    ensures { candidates.new ≡ all_named candidates.old }
-{
-    for i in 0..candidates.len() {
-        set_named(candidates, i, true);
-    }
-}
-
-/// Takes the names off literals that are not needed, from a position on, one after the other. Those
-/// that ask about few labels come last, so these rather stay.
+/// Takes the names off literals that are not needed, from a position on: first off those that a
+/// search does not use, and then off one after the other. Those that ask about few labels come
+/// last, so these rather stay.
 ///
 /// There must be no possible choice that meets the named literals, and those before the position
 /// must be named. Without any one of those that are left named behind it, some possible choice

@@ -10,6 +10,7 @@ use Rattle.std.proofs.lemmas.List.Folds.{list_all-append}
 use Rattle.std.proofs.lemmas.Option.{slice_get_within, same_Some}
 use Rattle.am_universe.proofs.ListLemmas.{IsIn, IsIn-map, IsIn-unmap, AllByRecursion-at}
 use Rattle.am_universe.proofs.ListLemmas.{AllByRecursion-each}
+use Rattle.am_universe.proofs.Members.{in_at}
 use Rattle.am_universe.specs.LabelSet.{label_set_of, LabelMap}
 use Rattle.am_labels.specs.Matcher.{all_hold}
 use Rattle.am_labels.specs.Space.{Space, IsChoiceOf, all_choices}
@@ -20,7 +21,8 @@ use Rattle.am_eval.proofs.ListTests.{all_exactly}
 use Rattle.am_first_sets.proofs.CubeTruth.{matches_where as cube_says}
 use Rattle.am_first_sets.proofs.FirstPossible.{found_of_space, found_passes, none_passes}
 use Rattle.am_first_sets.specs.declared.candidate.Candidate.{Candidate}
-use Rattle.am_first_sets.specs.Literals.{holds_at, hold_all, meets, IsAnyMet}
+use Rattle.am_first_sets.specs.Reason.{AreNamedBefore}
+use Rattle.am_first_sets.specs.Literals.{holds_at, hold_all, meets, IsUnmet}
 use Rattle.am_judged_lists.specs.Cube.{matches}
 use Rattle.am_lint.specs.declared.literals.Part.{Part}
 use Rattle.am_lint.specs.declared.table.TableRoute.{TableRoute}
@@ -182,15 +184,17 @@ module _ (s : Space) (routes : List TableRoute) (ks : List Candidate) (Is : Labe
         (front.say choice possible).0 (sym (meets_all choice ks front.named) ∙ met),
       )
 
+  pub none_met : found ≡ None → IsUnmet (IsChoiceOf s) ks
+  none_met none d possible = none_passes s (λ d. meets d ks) (sym none ∙ first) d possible
+
   pub none_seen : found ≡ None → NoneIs (IsSetOf s) Is
   none_seen none set occurs is =
       both_ways (meets occurs.0 ks)
-      (none_passes s (λ d. meets d ks) (sym none ∙ first) occurs.0 occurs.1)
+      (none_met none occurs.0 occurs.1)
       (meets_all occurs.0 ks front.named
       ∙ (front.say occurs.0 occurs.1).1 (subst Is occurs.2 is))
 
-pub none_met : (s : Space) (routes : List TableRoute) (ks : List Candidate)
-    (Is : LabelMap → Type 0) → AreFront s routes ks Is → NoneIs (IsSetOf s) Is
-    → IsAnyMet (IsChoiceOf s) ks → ⊥
-none_met s routes ks Is front none met =
-    none (label_set_of s.labels met.0) (met.0, met.1, refl) ((front.say met.0 met.1).0 met.2)
+pub all_named : (s : Space) (routes : List TableRoute) (ks : List Candidate)
+    (Is : LabelMap → Type 0) (n : ℕ) → AreFront s routes ks Is → AreNamedBefore n ks
+all_named s routes ks Is n front i k at lt =
+    AllByRecursion-at (λ (l : Candidate). IsTrue l.named) ks k front.named (in_at ks i k at)

@@ -8,14 +8,14 @@
 //! literals.
 //!
 //! If label sets enter the route and none ends there, its children are to blame. If none enters it,
-//! the siblings are, or the way itself if no label set matches that. `find_reason` names which of
+//! the siblings are, or the way itself if no label set matches that. `leave_out` names which of
 //! them.
 
 ghost use Rattle.std.specs.Prelude.{◌≡◌, ◌≤◌, List, length, drop, IfOk};
 ghost use Rattle.am_labels.specs.Space.{IsChoiceOf};
 ghost use Rattle.am_first_sets.specs.declared.candidate.Candidate.{Candidate};
-ghost use Rattle.am_first_sets.specs.Literals.{IsAnyMet};
-ghost use Rattle.am_first_sets.specs.Reason.{AreSameLiterals, IsReason};
+ghost use Rattle.am_first_sets.specs.Literals.{IsUnmet};
+ghost use Rattle.am_first_sets.specs.Reason.{AreSameLiterals, AreNamedBefore, IsReason};
 ghost use Rattle.am_lint.specs.Table.{KnowsRoutes, table_space, table_config, IsRoute};
 ghost use Rattle.am_lint.specs.Literals.{named_paths, AreTagged};
 ghost use Rattle.am_every_alert.specs.Deciding.{IsSetOf};
@@ -24,7 +24,7 @@ ghost use Rattle.am_lint.specs.Standing.{IsStanding};
 use crate::literals::literals_of;
 use crate::table::Table;
 use am_config::Path;
-use am_first_sets::{Candidate, find_reason, first_meeting};
+use am_first_sets::{Candidate, first_meeting, leave_out};
 use am_universe::Choice;
 use std::alloc::{AllocError, Global};
 
@@ -93,14 +93,16 @@ pub(crate) fn standing_of(
 }
 
 /// Finds why no label set meets all literals, and returns the paths of the routes that are to
-/// blame. There must be no such label set. The first `fixed` literals count as given.
+/// blame. All literals must be named, and there must be no such label set. The first `fixed`
+/// literals count as given.
 fn named_by_reason(
     alloc: Global,
     table: &Table<'_>,
     literals: &mut [Candidate<'_>],
     fixed: usize,
 ) -> Result<Vec<Path>, AllocError>
-    requires none { IsAnyMet (IsChoiceOf (table_space table.now)) literals.old → ⊥ }
+    requires named { AreNamedBefore (length literals.old) literals.old }
+    requires none { IsUnmet (IsChoiceOf (table_space table.now)) literals.old }
     requires tagged { AreTagged table.now.routes.items literals.old }
     requires within { fixed ≤ length literals.old }
     ensures reason { IfOk result (λ routes. (ks : List Candidate)
@@ -108,7 +110,7 @@ fn named_by_reason(
         × IsReason (IsChoiceOf (table_space table.now)) fixed ks
         × (routes.items ≡ named_paths table.now.routes.items (drop fixed ks))) }
 {
-    find_reason(alloc, table.possible.choices(), literals, fixed)?;
+    leave_out(alloc, table.possible.choices(), literals, fixed)?;
     named_routes(alloc, table, &literals[fixed..])
 }
 

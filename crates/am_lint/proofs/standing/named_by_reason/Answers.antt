@@ -16,34 +16,37 @@ use Rattle.am_lint.proofs.standing.named_by_reason.Goals as goal
 left : (n : ℕ) (ks : List Candidate) → take (length ks - n) (drop n ks) ≡ drop n ks
 left n ks = take_all (length ks - n) (drop n ks) (omega (arith, length-drop n ks))
 
-pub find_reason-requires : goal.find_reason-requires
-find_reason-requires c = record {
-  none = λ met. c.requires.none (met.0, (c.choices.ensures met.0).0 met.1, met.2);
-}
+pub leave_out-requires-clause-first : goal.leave_out-requires-clause-first
+leave_out-requires-clause-first c = λ i k at lt.
+    c.requires.named i k at (omega (arith, lt, c.requires.within))
+
+pub leave_out-requires-clause-enough : goal.leave_out-requires-clause-enough
+leave_out-requires-clause-enough c = λ d possible.
+    c.requires.none d ((c.choices.ensures d).0 possible)
 
 pub named_routes-requires : goal.named_routes-requires
 named_routes-requires c =
     let routes = c.args.table.now.routes.items in
-    let ks = c.find_reason.new.candidates in
+    let ks = c.leave_out.new.candidates in
     let n = c.args.fixed in
     let IsTagged = λ (k : Candidate). k.tag < length routes in
     subst (AllByRecursion IsTagged) (sym (left n ks))
     (all_behind IsTagged ks n
-    (tagged_alike routes c.args.literals.now ks c.find_reason.ensures.same c.requires.tagged))
+    (tagged_alike routes c.args.literals.now ks c.leave_out.ensures.same c.requires.tagged))
 
 pub returns : goal.returns
 returns c =
     let routes = c.args.table.now.routes.items in
     let old = c.args.literals.now in
-    let ks = c.find_reason.new.candidates in
+    let ks = c.leave_out.new.candidates in
     let n = c.args.fixed in
     record {
       reason = if_ok_more c.named_routes.result _ _ (λ found is. (
         ks,
-        c.find_reason.ensures.same,
+        c.leave_out.ensures.same,
         reason_alike (IsPossible c.choices.result.now)
             (IsChoiceOf (table_space c.args.table.now)) n ks c.choices.ensures
-            c.in_ok-find_reason.ensures.reason,
+            c.in_ok-leave_out.ensures.reason,
         is ∙ ap (named_paths routes) (left n ks),
       )) c.named_routes.ensures;
     }

@@ -1,7 +1,7 @@
 -- The first of three searches that finds a label set says how the route stands.
 use Rattle.am_universe.specs.LabelSet.{label_set_of}
 use Rattle.am_lint.specs.Table.{table_space, table_config}
-use Rattle.am_lint.proofs.LiteralTruth.{seen, none_seen, none_met}
+use Rattle.am_lint.proofs.LiteralTruth.{seen, none_seen, none_met, all_named}
 use Rattle.am_lint.proofs.StandingSteps.{AreKnown, known_of}
 use Rattle.am_lint.proofs.standing.standing_of.Goals as goal
 use Rattle.am_lint.proofs.standing.standing_of.Goals.{After-as_mut_slice-all}
@@ -24,9 +24,12 @@ returns-in-Some c = record {
 
 pub named_by_reason-requires-clause-none : goal.named_by_reason-requires-clause-none
 named_by_reason-requires-clause-none c =
-    let at = goal.at.named_by_reason-requires-clause-none c in
-    let all = (known at.After-as_mut_slice-all).ending in
-    none_met _ _ _ _ all (none_seen _ _ _ _ all _ c.in_ok-choice.ensures.first c.in_default.is)
+    none_met _ _ _ _ (known (goal.at.named_by_reason-requires-clause-none c).After-as_mut_slice-all).ending _
+    c.in_ok-choice.ensures.first c.in_default.is
+
+pub named_by_reason-requires-clause-named : goal.named_by_reason-requires-clause-named
+named_by_reason-requires-clause-named c =
+    all_named _ _ _ _ _ (known (goal.at.named_by_reason-requires-clause-named c).After-as_mut_slice-all).ending
 
 pub named_by_reason-requires-clause-tagged : goal.named_by_reason-requires-clause-tagged
 named_by_reason-requires-clause-tagged c =
@@ -43,12 +46,14 @@ returns-in-Some-2 c =
       );
     }
 
-pub named_by_reason-requires-in-Some-3-clause-none :
-    goal.named_by_reason-requires-in-Some-3-clause-none
+pub named_by_reason-requires-in-Some-3-clause-none : goal.named_by_reason-requires-in-Some-3-clause-none
 named_by_reason-requires-in-Some-3-clause-none c =
-    let at = goal.at.named_by_reason-requires-in-Some-3-clause-none c in
-    let first = (known at.After-as_mut_slice-all).entering in
-    none_met _ _ _ _ first (none_seen _ _ _ _ first _ c.in_ok-entry.ensures.first c.in_default-2.is)
+    none_met _ _ _ _ (known (goal.at.named_by_reason-requires-in-Some-3-clause-none c).After-as_mut_slice-all).entering _
+    c.in_ok-entry.ensures.first c.in_default-2.is
+
+pub named_by_reason-requires-in-Some-3-clause-named : goal.named_by_reason-requires-in-Some-3-clause-named
+named_by_reason-requires-in-Some-3-clause-named c =
+    all_named _ _ _ _ _ (known (goal.at.named_by_reason-requires-in-Some-3-clause-named c).After-as_mut_slice-all).entering
 
 pub named_by_reason-requires-in-Some-3-clause-tagged :
     goal.named_by_reason-requires-in-Some-3-clause-tagged
@@ -71,10 +76,12 @@ returns-in-Some-3 c =
 
 pub named_by_reason-requires-in-None-clause-none : goal.named_by_reason-requires-in-None-clause-none
 named_by_reason-requires-in-None-clause-none c =
-    let at = goal.at.named_by_reason-requires-in-None-clause-none c in
-    let on_way = (known at.After-as_mut_slice-all).matching in
-    none_met _ _ _ _ on_way
-    (none_seen _ _ _ _ on_way _ c.in_ok-first_meeting.ensures.first c.in-None.is)
+    none_met _ _ _ _ (known (goal.at.named_by_reason-requires-in-None-clause-none c).After-as_mut_slice-all).matching _
+    c.in_ok-first_meeting.ensures.first c.in-None.is
+
+pub named_by_reason-requires-in-None-clause-named : goal.named_by_reason-requires-in-None-clause-named
+named_by_reason-requires-in-None-clause-named c =
+    all_named _ _ _ _ _ (known (goal.at.named_by_reason-requires-in-None-clause-named c).After-as_mut_slice-all).matching
 
 pub named_by_reason-requires-in-None-clause-tagged :
     goal.named_by_reason-requires-in-None-clause-tagged
