@@ -1,12 +1,10 @@
 -- What is owed for a request, and how the result of a command keeps it.
-use Rattle.std.proofs.Common.{◌≡◌, ℕ, List, Bool, false, Option, Result, Ok, Err, MatchResult}
+use Rattle.std.proofs.Common.{◌≡◌, ℕ, List, Bool, false, Result, Ok, Err, MatchResult}
 use Rattle.std.proofs.Common.{refl, sym, subst}
 use Rattle.std.specs.Prelude.{nat_lt}
 use Rattle.am_universe.specs.declared.fault.Fault.{Fault}
 use Rattle.am_command_line.specs.declared.command_line.Request.{Request}
-use Rattle.am_questions.specs.Inputs.{Inputs}
 use Rattle.am_files.specs.Promise.{Promise, IsKept}
-use Rattle.am_commands.specs.AskOutcome.{ask_promise}
 use Rattle.am_notes.specs.declared.call.Call.{Call}
 use Rattle.am_program.specs.Requests.{finds_nothing, finds, owed}
 
@@ -71,12 +69,3 @@ module _ {S : Type 0} {taken : S → List ℕ} {failures : S → ℕ} {old new :
   so_many_found promise result other is kept =
       answered_as promise (finds promise).May (nat_lt 0) (λ count text may. (count, refl, may))
       result other is kept
-
-  -- What is owed for a page is owed under an equal limit and an equal budget.
-  pub owed_under : {result : Result Bool Fault} (inputs : Inputs)
-      {limit limit' steps steps' : Option ℕ} → limit ≡ limit' → steps ≡ steps'
-      → IsKept (finds_nothing (ask_promise inputs limit steps)) taken failures old new result
-      → IsKept (finds_nothing (ask_promise inputs limit' steps')) taken failures old new result
-  owed_under inputs {limit} {limit'} {steps} same_limit same_steps kept =
-      owed_as (λ s. finds_nothing (ask_promise inputs limit' s)) same_steps
-      (owed_as (λ l. finds_nothing (ask_promise inputs l steps)) same_limit kept)

@@ -1,78 +1,52 @@
 -- What a command owes is what is owed for its request.
-use Rattle.std.proofs.Common.{◌≡◌, map}
-use Rattle.std.specs.Prelude.{option_copied, Some}
-use Rattle.am_questions.specs.Inputs.{Inputs}
+use Rattle.std.proofs.Common.{ℕ, List, map, Bor}
+use Rattle.std.specs.Prelude.{option_copied, option_map, Option, Some}
+use Rattle.am_classes.specs.declared.alphabet.Alphabet.{Alphabet}
+use Rattle.am_command_line.specs.StepsView.{step_count}
 use Rattle.am_commands.specs.Explanation.{explain_promise}
-use Rattle.am_files.specs.Files.{config_of}
 use Rattle.am_commands.specs.AskOutcome.{ask_promise}
 use Rattle.am_commands.specs.Reports.{dead_promise, receivers_promise}
 use Rattle.am_alerts.specs.Alerts.{alerts_promise}
-use Rattle.am_universe_command.specs.declared.universe_form.UniverseForm.{UniverseForm}
-use Rattle.am_universe_command.specs.UniverseInputs.{UniverseInputs}
 use Rattle.am_universe_command.specs.Universes.{universe_promise, check_promise}
-use Rattle.am_classes.specs.declared.alphabet.Alphabet.{Alphabet}
 use Rattle.am_reports.specs.ReportInputs.{ReportInputs}
-use Rattle.am_reports.specs.LintInputs.{LintInputs}
-use Rattle.am_reports.specs.CompareInputs.{CompareInputs}
 use Rattle.am_reports.specs.Linting.{lint_promise}
 use Rattle.am_reports.specs.Comparing.{compare_promise}
 use Rattle.am_reports.specs.OutcomesReport.{outcomes_promise}
-use Rattle.am_program.specs.Requests.{kept_universe, finds_nothing, finds}
-use Rattle.am_program.proofs.Owed.{owed_as, owed_for, owed_under, nothing_found, so_many_found}
+use Rattle.am_program.specs.Requests.{finds_nothing, finds, alphabet_of}
+use Rattle.am_program.proofs.Owed.{owed_as, owed_for, nothing_found, so_many_found}
 use Rattle.am_program.proofs.calling.make_call.Goals as goal
+
+abbrev texts_of : List (Bor (List ℕ)) → List (List ℕ)
+texts_of words = map (λ word. word.now) words
 
 pub returns-in-Lint : goal.returns-in-Lint
 returns-in-Lint g c =
     let call = c.args.call.now in
-    let asked = c.in-Lint in
-    let inputs : LintInputs = record {
-      universe = kept_universe asked.universe call.universe.now;
+    let promise = λ (universe : Option (List ℕ)). lint_promise (record {
+      universe = universe;
       files = call.files;
-      ascii = asked.ascii;
-    } in
-    let given : LintInputs = record {
-      universe = option_copied c.kept_universe.result;
-      files = call.files;
-      ascii = asked.ascii;
-    } in
-    let same : given ≡ inputs = λ j. record {
-      universe = c.kept_universe.ensures j;
-      files = call.files;
-      ascii = asked.ascii;
-    } in
+      ascii = c.in-Lint.ascii;
+    }) in
     record {
-      kept = owed_for call asked.is
-          (owed_as lint_promise {x = given} {other = inputs} same c.lint.ensures.kept);
+      kept = owed_for call c.in-Lint.is
+          (owed_as promise c.kept_universe.ensures c.lint.ensures.kept);
     }
 
 pub returns-in-Compare : goal.returns-in-Compare
 returns-in-Compare g c =
     let call = c.args.call.now in
-    let asked = c.in-Compare in
-    let inputs : CompareInputs = record {
-      universe = kept_universe asked.universe call.universe.now;
+    let promise = λ (universe : Option (List ℕ)). compare_promise (record {
+      universe = universe;
       old = call.old.now;
       new = call.new.now;
-      ascii = asked.ascii;
-    } in
-    let given : CompareInputs = record {
-      universe = option_copied c.kept_universe-in-Compare.result;
-      old = call.old.now;
-      new = call.new.now;
-      ascii = asked.ascii;
-    } in
-    let same : given ≡ inputs = λ j. record {
-      universe = c.kept_universe-in-Compare.ensures j;
-      old = call.old.now;
-      new = call.new.now;
-      ascii = asked.ascii;
-    } in
+      ascii = c.in-Compare.ascii;
+    }) in
+    let given = c.kept_universe-in-Compare in
     record {
-      kept = owed_for call asked.is
-          (owed_as (λ (i : CompareInputs). finds (compare_promise i)) same
-          (so_many_found (compare_promise given) c.compare.result
-          c.something_found.result c.something_found.ensures
-          c.compare.ensures.kept));
+      kept = owed_for call c.in-Compare.is
+          (owed_as (λ universe. finds (promise universe)) given.ensures
+          (so_many_found (promise (option_copied given.result)) c.compare.result
+          c.something_found.result c.something_found.ensures c.compare.ensures.kept));
     }
 
 pub returns-in-Outcomes : goal.returns-in-Outcomes
@@ -90,17 +64,21 @@ returns-in-Outcomes g c =
 pub returns-in-Ask : goal.returns-in-Ask
 returns-in-Ask g c =
     let call = c.args.call.now in
-    let inputs : Inputs = record {
+    let promise = ask_promise (record {
       universe = call.universe.now;
       files = call.files;
       question = c.in-Ask.question.now;
       after = option_copied c.in-Ask.after;
-    } in
+    }) in
     record {
       kept = owed_for call c.in-Ask.is
-          (owed_under inputs c.limit_of.ensures.limit c.steps_of.ensures.steps
-          (nothing_found (ask_promise inputs c.limit_of.result c.steps_of.result) c.ask.result
-          c.nothing_found-in-Ask.result c.nothing_found-in-Ask.ensures c.ask.ensures.kept));
+          (owed_as
+          (λ limit. finds_nothing (promise limit (option_map step_count c.in-Ask.steps)))
+          c.limit_of.ensures.limit
+          (owed_as (λ steps. finds_nothing (promise c.limit_of.result steps))
+          c.steps_of.ensures.steps
+          (nothing_found (promise c.limit_of.result c.steps_of.result) c.ask.result
+          c.nothing_found-in-Ask.result c.nothing_found-in-Ask.ensures c.ask.ensures.kept)));
     }
 
 pub returns-in-Dead : goal.returns-in-Dead
@@ -154,61 +132,42 @@ pub returns-in-Universe : goal.returns-in-Universe
 returns-in-Universe g c =
     let call = c.args.call.now in
     let asked = c.in-Universe in
-    let inputs : UniverseInputs = record {
-      universe = kept_universe asked.from call.universe.now;
-      files = call.files;
-      questions = map (λ question. question.now) asked.questions.items;
-    } in
-    let given : UniverseInputs = record {
-      universe = option_copied c.kept_universe-in-Universe.result;
-      files = call.files;
-      questions = map (λ question. question.now) c.as_slice-in-Universe.result.now;
-    } in
-    let same : given ≡ inputs = λ j. record {
-      universe = c.kept_universe-in-Universe.ensures j;
-      files = call.files;
-      questions = map (λ question. question.now) (c.as_slice-in-Universe.ensures.value j);
-    } in
-    let form : UniverseForm =
-    record { routes = asked.routes; alphabet = c.alphabet_of.result; «open» = asked.open } in
+    let promise = λ (universe : Option (List ℕ)) (questions : List (Bor (List ℕ))) (alphabet : Alphabet).
+    universe_promise
+    (record { universe = universe; files = call.files; questions = texts_of questions })
+    (record { routes = asked.routes; alphabet = alphabet; «open» = asked.open }) in
+    let given = c.kept_universe-in-Universe in
+    let words = c.as_slice-in-Universe in
     record {
       kept = owed_for call asked.is
-          (owed_as (λ (a : Alphabet). finds_nothing (universe_promise inputs
-          (record { routes = asked.routes; alphabet = a; «open» = asked.open })))
-          c.alphabet_of.ensures
-          (owed_as (λ (i : UniverseInputs). finds_nothing (universe_promise i form)) same
-          (nothing_found (universe_promise given form) c.universe.result
-          c.nothing_found-in-Universe.result c.nothing_found-in-Universe.ensures
-          c.universe.ensures.kept)));
+          (owed_as (λ universe. finds_nothing
+          (promise universe asked.questions.items (alphabet_of asked.ascii))) given.ensures
+          (owed_as (λ questions. finds_nothing
+          (promise (option_copied given.result) questions (alphabet_of asked.ascii)))
+          words.ensures.value
+          (owed_as (λ alphabet. finds_nothing
+          (promise (option_copied given.result) words.result.now alphabet)) c.alphabet_of.ensures
+          (nothing_found
+          (promise (option_copied given.result) words.result.now c.alphabet_of.result)
+          c.universe.result c.nothing_found-in-Universe.result
+          c.nothing_found-in-Universe.ensures c.universe.ensures.kept))));
     }
 
 pub returns-in-CheckUniverse : goal.returns-in-CheckUniverse
 returns-in-CheckUniverse g c =
     let call = c.args.call.now in
     let asked = c.in-CheckUniverse in
-    let alphabet = c.alphabet_of-in-CheckUniverse.result in
-    let inputs : UniverseInputs = record {
-      universe = Some call.universe.now;
-      files = call.files;
-      questions = map (λ question. question.now) asked.questions.items;
-    } in
-    let given : UniverseInputs = record {
-      universe = Some call.universe.now;
-      files = call.files;
-      questions = map (λ question. question.now) c.as_slice-in-CheckUniverse.result.now;
-    } in
-    let same : given ≡ inputs = λ j. record {
-      universe = Some call.universe.now;
-      files = call.files;
-      questions = map (λ question. question.now) (c.as_slice-in-CheckUniverse.ensures.value j);
-    } in
+    let promise = λ (questions : List (Bor (List ℕ))) (alphabet : Alphabet). check_promise alphabet
+    (record { universe = Some call.universe.now; files = call.files; questions = texts_of questions })
+    asked.routes in
+    let words = c.as_slice-in-CheckUniverse in
+    let alphabet = c.alphabet_of-in-CheckUniverse in
     record {
       kept = owed_for call asked.is
-          (owed_as (λ (a : Alphabet). finds_nothing (check_promise a inputs asked.routes))
-          c.alphabet_of-in-CheckUniverse.ensures
-          (owed_as (λ (i : UniverseInputs).
-          finds_nothing (check_promise alphabet i asked.routes)) same
-          (nothing_found (check_promise alphabet given asked.routes) c.check_universe.result
+          (owed_as (λ questions. finds_nothing (promise questions (alphabet_of asked.ascii)))
+          words.ensures.value
+          (owed_as (λ alphabet. finds_nothing (promise words.result.now alphabet)) alphabet.ensures
+          (nothing_found (promise words.result.now alphabet.result) c.check_universe.result
           c.nothing_found-in-CheckUniverse.result c.nothing_found-in-CheckUniverse.ensures
           c.check_universe.ensures.kept)));
     }
