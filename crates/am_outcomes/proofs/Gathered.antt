@@ -1,13 +1,21 @@
 -- The outcomes of the choices of a space, from the first choice of each way.
-use Rattle.std.proofs.Common.{◌≡◌, ◌⊎◌, ℕ, ◌+◌, ◌<◌, Bool, true, false, cond, ◌&&◌, ◌||◌, List}
-use Rattle.std.proofs.Common.{[], ◌∷◌, ◌++◌, map, fold, length, take, get_or, nat_eq, refl}
-use Rattle.std.proofs.Common.{ap, sym, ◌∙◌, subst, inl, inr, arith}
+use Rattle.std.proofs.Common.{◌≡◌, ◌⊎◌, ℕ, zero, suc, ◌+◌, ◌<◌, Bool, true, false, cond, ◌&&◌}
+use Rattle.std.proofs.Common.{◌||◌, List, [], ◌∷◌, ◌++◌, map, fold, length, take, get_or, nat_eq}
+use Rattle.std.proofs.Common.{refl, ap, sym, ◌∙◌, subst, inl, inr, arith}
+use Rattle.std.specs.Prelude.{⊤}
 use Rattle.std.specs.Global.{Vec}
-use Rattle.std.specs.List.{list_any}
-use Rattle.std.specs.Cmp.{IsEquivalence}
-use Rattle.std.specs.Cmp.Lexicographic.{lists_equiv, nat_list_eq_equiv, pointwise}
+use Rattle.std.specs.List.{list_any, AllPairs}
+use Rattle.std.specs.List.Sorted.{IsSortedBy}
+use Rattle.std.specs.Cmp.{IsEquivalence, IsStrictWeakOrder}
+use Rattle.std.specs.Cmp.Lexicographic.{lists_equiv, nat_list_eq_equiv, pointwise, slice_cmp}
+use Rattle.std.specs.FinMap.{nat_cmp-IsAntisymmetric, slice_cmp-IsAntisymmetric}
+use Rattle.std.specs.Ordering.{nat_cmp, is_lt, ordering_reverse}
+use Rattle.std.specs.declared.cmp.Ordering.{Ordering}
+use Rattle.std.specs.declared.cmp.Ordering.TheVariants.{Less, Equal, Greater}
 use Rattle.std.proofs.lemmas.Bool.{cases_Bool, or_right}
+use Rattle.std.proofs.lemmas.Cmp.{nat_list_cmp_total}
 use Rattle.std.proofs.lemmas.List.{map-append, take_more}
+use Rattle.std.proofs.lemmas.List.Sorted.{ranks_by, sorted_far}
 use Rattle.std.proofs.lemmas.List.Sums.{fold-append}
 use Rattle.std.proofs.lemmas.List.Folds.{list_any-append}
 use Rattle.std.proofs.lemmas.Grind.{common_steps}
@@ -18,10 +26,10 @@ use Rattle.am_labels.specs.Space.{Space, all_choices}
 use Rattle.am_labels.proofs.SpaceLaws.{space_choices, space_choices_sorted}
 use Rattle.am_config.specs.ConfigFile.{Configuration}
 use Rattle.am_search.specs.Start.{comes_before}
-use Rattle.am_search.proofs.ChoiceOrder.{Ascends, above_first, ascends_rest, not_itself, before_trans}
+use Rattle.am_search.proofs.ChoiceOrder.{Ascends, above_first, ascends_rest, not_itself, not_back}
 use Rattle.am_outcomes.specs.Outcomes.{same_fate, with_first, with_fate, fate, outcomes_of}
 use Rattle.am_outcomes.specs.FatesView.{fates_view, entry_view}
-use Rattle.am_outcomes.specs.FirstsOfWays.{AreFirstsOfWays, Ascend}
+use Rattle.am_outcomes.specs.FirstsOfWays.{AreFirstsOfWays}
 use Rattle.am_outcomes.proofs.WayFates.{same_fates}
 
 -- ---- The first of each key.
@@ -89,6 +97,54 @@ pub there_already : (entries : List Entry) (one : Entry)
     → entries ≡ with_first same_fates_kept entries one
 there_already entries one there = sym (ap (λ b. cond b entries (entries ++ one ∷ [])) there)
 
+-- ---- Choices in order.
+
+-- no choice comes before one that stands in front of it
+abbrev InOrder : List (List ℕ) → Type 0
+InOrder [] = ⊤
+InOrder (x ∷ xs) = ((y : List ℕ) → IsIn xs y → comes_before y x ≡ false) × InOrder xs
+
+order_of_ascending : (xs : List (List ℕ)) → Ascends xs → InOrder xs
+order_of_ascending [] up = tt
+order_of_ascending (x ∷ xs) up = (
+  λ y there. not_back x y (above_first x xs y up there),
+  order_of_ascending xs (ascends_rest x xs up),
+)
+
+total : IsStrictWeakOrder comes_before
+total = ranks_by nat_list_cmp_total (λ c. c)
+
+order_of_sorted : (xs : List (List ℕ)) → IsSortedBy comes_before xs → InOrder xs
+order_of_sorted xs up =
+    by xs (λ i j d below inside. sorted_far comes_before total xs up i j d (omega (arith, below)) inside)
+  where
+    by : (xs : List (List ℕ)) → AllPairs (λ x y. comes_before y x ≡ false) xs → InOrder xs
+    by [] apart = tt
+    by (x ∷ xs) apart = (
+      λ y there.
+          let r = Contains-from_IsIn xs y there in
+          subst (λ (z : List ℕ). comes_before z x ≡ false) r.2
+          (apart zero (suc r.0) y (omega arith) (omega (arith, r.1))),
+      by xs (λ i j d below inside.
+          apart (suc i) (suc j) d (omega (arith, below)) (omega (arith, inside))),
+    )
+
+not_before_trans : (x y z : List ℕ) → comes_before x y ≡ false → comes_before y z ≡ false
+    → comes_before x z ≡ false
+not_before_trans x y z = total.chain x y z
+
+-- of two different choices one comes before the other
+same_choice : (x y : List ℕ) → comes_before x y ≡ false → comes_before y x ≡ false → x ≡ y
+same_choice x y before behind = by (slice_cmp nat_cmp x y) refl
+  where
+    by : (o : Ordering) → slice_cmp nat_cmp x y ≡ o → x ≡ y
+    by Less e = let apart : true ≡ false = sym (ap is_lt e) ∙ before in absurd cc
+    by Equal e = slice_cmp-IsAntisymmetric nat_cmp-IsAntisymmetric x y e
+    by Greater e =
+        let back : comes_before y x ≡ true =
+        ap is_lt (nat_list_cmp_total.antisymm y x ∙ ap ordering_reverse e) in
+        let apart : true ≡ false = sym back ∙ behind in absurd cc
+
 -- ---- Only the first choices of ways are looked at.
 
 module _ (s : Space) (cs : List Configuration) where
@@ -108,86 +164,87 @@ module _ (s : Space) (cs : List Configuration) where
       (is_there same_fate found (fate_at x) ≡ true)
       ⊎ ((y : List ℕ) × IsIn ys y × (fate_at y ≡ fate_at x) × (comes_before x y ≡ false))
 
+  abbrev AreKnown : Found → List (List ℕ) → List (List ℕ) → Type 0
+  AreKnown found ys xs = (x : List ℕ) → IsIn xs x → IsKnown found ys x
+
   there_anyway : (found : Found) (x : List ℕ) → is_there same_fate found (fate_at x) ≡ true
       → with_first same_fate found (with_fate s cs x) ≡ found
   there_anyway found x there =
       ap (λ b. cond b found (found ++ with_fate s cs x ∷ [])) there
 
-  never_before_itself : (x : List ℕ) → comes_before x x ≡ true → ⊥
-  never_before_itself x e = let apart : true ≡ false = sym e ∙ not_itself x in cc
+  -- whoever is known by a choice whose fate is found is known without it
+  known_without : (found : Found) (y : List ℕ) (ys : List (List ℕ)) (x : List ℕ)
+      → is_there same_fate found (fate_at y) ≡ true → IsKnown found (y ∷ ys) x
+      → IsKnown found ys x
+  known_without found y ys x there (inl already) = inl already
+  known_without found y ys x there (inr (z, inl first, same, before)) =
+      inl (subst (λ k. is_there same_fate found k ≡ true) (ap fate_at first ∙ same) there)
+  known_without found y ys x there (inr (z, inr later, same, before)) =
+      inr (z, later, same, before)
 
-  -- all of `xs` add the same as those of them that are in `ys`
-  same_outcomes : (xs ys : List (List ℕ)) (found : Found) → Ascends xs → Ascends ys
-      → ((y : List ℕ) → IsIn ys y → IsIn xs y) → ((x : List ℕ) → IsIn xs x → IsKnown found ys x)
+  known_more : (found : Found) (one : List ℕ) (ys : List (List ℕ)) (x : List ℕ)
+      → IsKnown found ys x → IsKnown (with_first same_fate found (with_fate s cs one)) ys x
+  known_more found one ys x (inl there) =
+      inl (there_or_not same_fate (is_there same_fate found (fate_at one)) found
+      (with_fate s cs one) (fate_at x) there)
+  known_more found one ys x (inr by) = inr by
+
+  -- the first of some choices in order does not come after another that knows one of them
+  not_after_first : (x y z : List ℕ) (ys : List (List ℕ)) → IsIn (y ∷ ys) z
+      → InOrder (y ∷ ys) → comes_before x z ≡ false → comes_before x y ≡ false
+  not_after_first x y z ys (inl first) up before =
+      subst (λ (w : List ℕ). comes_before x w ≡ false) (sym first) before
+  not_after_first x y z ys (inr later) up before = not_before_trans x z y before (up.0 z later)
+
+  -- two lists of choices in order, each of which knows the other, add the same
+  same_outcomes : (xs ys : List (List ℕ)) (found : Found) → InOrder xs → InOrder ys
+      → AreKnown found ys xs → AreKnown found xs ys
       → outcomes_after found xs ≡ outcomes_after found ys
-  same_outcomes [] [] found up ups among known = refl
-  same_outcomes [] (y ∷ ys) found up ups among known = absurd (among y (inl refl))
-  same_outcomes (x ∷ xs) [] found up ups among known = elim (known x (inl refl)) [
+  same_outcomes [] [] found up ups known knowns = refl
+  same_outcomes (x ∷ xs) [] found up ups known knowns = elim (known x (inl refl)) [
     | inl there ↦
         ap (λ f. outcomes_after f xs) (there_anyway found x there)
-        ∙ same_outcomes xs [] found (ascends_rest x xs up) ups (λ y i. absurd i) (λ z i. known z (inr i))
-    | inr (y, i, same, before) ↦ absurd i
+        ∙ same_outcomes xs [] found up.1 ups (λ z i. known z (inr i)) (λ z i. absurd i)
+    | inr by ↦ absurd by.1
   ]
-  same_outcomes (x ∷ xs) (y ∷ ys) found up ups among known = elim (among y (inl refl)) [
-    | inl same ↦
-        let more = with_first same_fate found (with_fate s cs x) in
-        same_outcomes xs ys more (ascends_rest x xs up) (ascends_rest y ys ups)
-        (λ z i. elim (among z (inr i)) [
-          | inl again ↦
-              absurd (never_before_itself x
-              (subst (λ (w : List ℕ). comes_before x w ≡ true) (sym again)
-              (subst (λ (w : List ℕ). comes_before w z ≡ true) (sym same)
-              (above_first y ys z ups i))))
-          | inr later ↦ later
-        ])
-        (λ z i. elim (known z (inr i)) [
+  same_outcomes [] (y ∷ ys) found up ups known knowns = elim (knowns y (inl refl)) [
+    | inl there ↦
+        same_outcomes [] ys found up ups.1 (λ z i. absurd i) (λ z i. knowns z (inr i))
+        ∙ sym (ap (λ f. outcomes_after f ys) (there_anyway found y there))
+    | inr by ↦ absurd by.1
+  ]
+  same_outcomes (x ∷ xs) (y ∷ ys) found up ups known knowns = elim (known x (inl refl)) [
+    | inl there ↦
+        ap (λ f. outcomes_after f xs) (there_anyway found x there)
+        ∙ same_outcomes xs (y ∷ ys) found up.1 ups (λ z i. known z (inr i))
+        (λ z i. known_without found x xs z there (knowns z i))
+    | inr by ↦
+        elim (knowns y (inl refl)) [
           | inl there ↦
-              inl (there_or_not same_fate (is_there same_fate found (fate_at x)) found
-              (with_fate s cs x) (fate_at z) there)
-          | inr (w, inl first, alike, not_before) ↦
-              inl (subst (λ k. is_there same_fate more k ≡ true)
-              (ap fate_at (same ∙ first) ∙ alike)
-              (now_there same_fate same_fate_laws.refl found (with_fate s cs x)))
-          | inr (w, inr later, alike, not_before) ↦ inr (w, later, alike, not_before)
-        ])
-        ∙ ap (λ z. outcomes_after (with_first same_fate found (with_fate s cs z)) ys) same
-    | inr later ↦
-        let before = above_first x xs y up later in
-        elim (known x (inl refl)) [
-          | inl there ↦
-              ap (λ f. outcomes_after f xs) (there_anyway found x there)
-              ∙ same_outcomes xs (y ∷ ys) found (ascends_rest x xs up) ups
-              (λ z i. elim (among z i) [
-                | inl itself ↦ absurd (never_before_itself x (from_there x z y ys ups i before itself))
-                | inr there ↦ there
-              ])
-              (λ z i. known z (inr i))
-          | inr (w, i, alike, not_before) ↦
-              let comes : comes_before x w ≡ true = behind_first x w y ys ups i before in
-              let apart : true ≡ false = sym comes ∙ not_before in absurd cc
+              same_outcomes (x ∷ xs) ys found up ups.1
+              (λ z i. known_without found y ys z there (known z i)) (λ z i. knowns z (inr i))
+              ∙ sym (ap (λ f. outcomes_after f ys) (there_anyway found y there))
+          | inr back ↦
+              let equal : x ≡ y =
+              same_choice x y (not_after_first x y by.0 ys by.1 ups by.3)
+              (not_after_first y x back.0 xs back.1 up back.3) in
+              let more = with_first same_fate found (with_fate s cs x) in
+              let there = now_there same_fate same_fate_laws.refl found (with_fate s cs x) in
+              same_outcomes xs ys more up.1 ups.1
+              (λ z i. known_without more y ys z
+              (subst (λ w. is_there same_fate more (fate_at w) ≡ true) equal there)
+              (known_more found x (y ∷ ys) z (known z (inr i))))
+              (λ z i. known_without more x xs z there
+              (known_more found x (x ∷ xs) z (knowns z (inr i))))
+              ∙ ap (λ w. outcomes_after (with_first same_fate found (with_fate s cs w)) ys) equal
         ]
   ]
-    where
-      behind_first : (x w y : List ℕ) (ys : List (List ℕ)) → Ascends (y ∷ ys) → IsIn (y ∷ ys) w
-          → comes_before x y ≡ true → comes_before x w ≡ true
-      behind_first x w y ys ups (inl same) before =
-          subst (λ (z : List ℕ). comes_before x z ≡ true) same before
-      behind_first x w y ys ups (inr i) before =
-          before_trans x y w before (above_first y ys w ups i)
 
-      from_there : (x z y : List ℕ) (ys : List (List ℕ)) → Ascends (y ∷ ys) → IsIn (y ∷ ys) z
-          → comes_before x y ≡ true → x ≡ z → comes_before x x ≡ true
-      from_there x z y ys ups i before itself =
-          subst (λ (w : List ℕ). comes_before x w ≡ true) (sym itself)
-          (behind_first x z y ys ups i before)
-
-  pub outcomes_are : (firsts : List (List ℕ)) → AreFirstsOfWays s cs firsts → Ascend firsts
-      → outcomes_after [] firsts ≡ outcomes_of s cs
+  pub outcomes_are : (firsts : List (List ℕ)) → AreFirstsOfWays s cs firsts
+      → IsSortedBy comes_before firsts → outcomes_after [] firsts ≡ outcomes_of s cs
   outcomes_are firsts are up =
-      sym (same_outcomes (all_choices s) firsts [] (space_choices_sorted s) up
-      (λ y i.
-      IsIn-from_Contains (all_choices s) y
-      ((space_choices s y).1 (are.each y (Contains-from_IsIn firsts y i)).choice))
+      sym (same_outcomes (all_choices s) firsts []
+      (order_of_ascending (all_choices s) (space_choices_sorted s)) (order_of_sorted firsts up)
       (λ x i.
       let choice = (space_choices s x).0 (Contains-from_IsIn (all_choices s) x i) in
       let r = are.all x choice in
@@ -196,6 +253,13 @@ module _ (s : Space) (cs : List Configuration) where
         IsIn-from_Contains firsts r.0 r.1,
         same_fates (label_set_of s.labels r.0) (label_set_of s.labels x) cs r.2,
         (are.each r.0 r.1).before x choice (sym r.2),
+      ))
+      (λ y i.
+      let choice = (are.each y (Contains-from_IsIn firsts y i)).choice in inr (
+        y,
+        IsIn-from_Contains (all_choices s) y ((space_choices s y).1 choice),
+        refl,
+        not_itself y,
       )))
 
   -- ---- One more choice.

@@ -2,22 +2,19 @@
 use Rattle.std.proofs.Common.{◌≡◌, ℕ, zero, suc, ◌+◌, ◌<◌, ◌≤◌, Bool, true, false, List, []}
 use Rattle.std.proofs.Common.{◌∷◌, ◌++◌, length, Contains, Some, None, refl, ap, sym, ◌∙◌}
 use Rattle.std.proofs.Common.{get_or, append-nil, Bor, Option, ◌-◌, subst, subst₂, inl, inr, arith}
-use Rattle.std.specs.Bool.{Decides}
+use Rattle.std.specs.Bool.{Decides, beq}
 use Rattle.std.specs.List.{AllByRecursion, count_by, find, sum_by}
-use Rattle.std.specs.List.Sorted.{IsStrictlySortedBy, IsSortedBy, IsPermutation, IsSortedByClosure}
+use Rattle.std.specs.List.Sorted.{IsSortedBy, IsPermutation, IsSortedByClosure}
 use Rattle.std.specs.Fn.{Called}
 use denote.Param.Members.{Mut}
 use Rattle.std.specs.Cmp.{booleans_Decides}
-use Rattle.std.specs.Cmp.Lexicographic.{pointwise_decides, slice_cmp}
-use Rattle.std.specs.Ordering.{nat_cmp, is_lt, ordering_reverse}
-use Rattle.std.specs.FinMap.{nat_cmp-IsAntisymmetric, slice_cmp-IsAntisymmetric}
+use Rattle.std.specs.Cmp.Lexicographic.{pointwise, pointwise_decides, slice_cmp}
+use Rattle.std.specs.Ordering.{nat_cmp, is_lt}
 use Rattle.std.specs.declared.cmp.Ordering.{Ordering}
-use Rattle.std.specs.declared.cmp.Ordering.TheVariants.{Less, Equal, Greater}
 use Rattle.std.proofs.lemmas.Bool.{cases_Bool}
 use Rattle.std.proofs.lemmas.Bool.Decides.{same_from_decides}
 use Rattle.std.proofs.lemmas.Cmp.{nat_list_cmp_total}
 use Rattle.std.proofs.lemmas.List.Sorted.{Contains-permutation, IsPermutation-sym, ranks_by}
-use Rattle.std.proofs.lemmas.List.Sorted.{sum_by-IsPermutation}
 use Rattle.std.proofs.lemmas.Fn.{always_returns_same}
 use Rattle.std.proofs.lemmas.Grind.{common_steps}
 use Rattle.std.proofs.lemmas.Option.{slice_get_read}
@@ -32,13 +29,12 @@ use Rattle.am_judged_lists.specs.Boxes.{IsInBox}
 use Rattle.am_judged_lists.specs.Cube.{MaskedLabels}
 use Rattle.am_search.specs.Start.{comes_before}
 use Rattle.am_search.proofs.ChoiceOrder.{Ascends, above_first, ascends_rest, not_itself, not_back}
-use Rattle.am_search.proofs.ChoiceOrder.{before_trans}
 use Rattle.am_first_sets.specs.Meeting.{meets_cubes}
-use Rattle.am_first_sets.proofs.FirstPossible.{is_found}
+use Rattle.am_first_sets.proofs.FirstPossible.{is_found, none_passes}
 use Rattle.am_outcomes.specs.declared.limits.TheConstants.{MAX_WAYS}
 use Rattle.am_outcomes.specs.declared.route_steps.RouteStep.{RouteStep}
 use Rattle.am_outcomes.specs.declared.walks.Walk.{Walk}
-use Rattle.am_outcomes.specs.FirstsOfWays.{IsFirstOfWay, AreFirstsOfWays, AreApart, Ascend, same_way}
+use Rattle.am_outcomes.specs.FirstsOfWays.{IsFirstOfWay, AreFirstsOfWays}
 use Rattle.am_outcomes.specs.RouteSteps.{AreSteps, GoesFrom}
 use Rattle.am_outcomes.specs.Walks.{is_on, IsWalk, AreBranches, AddsBranches}
 use Rattle.am_outcomes.specs.Ways.{way_of, HaveDistinctWays, HaveManyWays}
@@ -78,13 +74,6 @@ some_counted test (y ∷ xs) x (inr i) e =
     grind (arith, common_steps, counted_front, some_counted test xs x i e)
 
 -- ---- The first that passes a test.
-
-none_passes : {X : Type 0} (test : X → Bool) (xs : List X) (x : X) → find test xs ≡ None
-    → IsIn xs x → test x ≡ false
-none_passes test [] x e i = absurd i
-none_passes test (y ∷ xs) x e (inl same) = grind (arith, common_steps, cases_Bool)
-none_passes test (y ∷ xs) x e (inr i) =
-    grind (arith, common_steps, cases_Bool, none_passes test xs x)
 
 none_before : (test : List ℕ → Bool) (xs : List (List ℕ)) (x c : List ℕ) → Ascends xs
     → find test xs ≡ Some x → IsIn xs c → test c ≡ true → comes_before c x ≡ false
@@ -164,8 +153,11 @@ lighter walks walk branches nearer few =
 -- ---- Choices with the same way.
 
 module _ (s : Space) (cs : List Configuration) where
+  abbrev same_way : List ℕ → List ℕ → Bool
+  same_way c x = pointwise beq (way_of s cs x) (way_of s cs c)
+
   same_decided : (c x : List ℕ)
-      → Decides (same_way s cs c x) (way_of s cs x ≡ way_of s cs c)
+      → Decides (same_way c x) (way_of s cs x ≡ way_of s cs c)
   same_decided c x = pointwise_decides booleans_Decides (way_of s cs x) (way_of s cs c)
 
 -- ---- Walks and what they have found.
@@ -245,9 +237,8 @@ module _ (s : Space) (cs : List Configuration) (steps : List RouteStep) where
     once = λ c choice.
         let before = counted_both (is_on c) walks (walk ∷ []) in
         let one = count_one (is_on c) walk in
-        let off : one_if (is_on c walk) ≡ 0 = ap one_if (none_passes (λ d. is_on d walk)
-        (all_choices s) c (sym none)
-        (IsIn-from_Contains (all_choices s) c ((space_choices s c).1 choice))) in
+        let off : one_if (is_on c walk) ≡ 0 =
+        ap one_if (none_passes s (λ d. is_on d walk) none c choice) in
         let was = so_far.once c choice in
         omega (arith, before, one, off, was);
   }
@@ -369,11 +360,6 @@ module _ (s : Space) (cs : List Configuration) (steps : List RouteStep) where
         (r.0, Contains-from_IsIn firsts r.0 r.1, (same_decided s cs c r.0).0 r.2);
   }
 
-  pub are_apart : (walks : List Walk) (firsts : List (List ℕ)) → AreWalked walks firsts
-      → AreApart s cs firsts
-  are_apart walks firsts so_far c choice =
-      let once = so_far.once c choice in omega (arith, once)
-
   -- ---- Too many ways.
 
   distinct : (firsts : List (List ℕ))
@@ -401,7 +387,8 @@ module _ (s : Space) (cs : List Configuration) (steps : List RouteStep) where
       record {
         choices = firsts;
         each = AllByRecursion-each (IsChoiceOf s) firsts choice;
-        apart = distinct firsts (λ c i. are_apart walks firsts so_far c (choice c i));
+        apart = distinct firsts (λ c i.
+            let once = so_far.once c (choice c i) in omega (arith, once));
         many = many;
       }
 
@@ -415,72 +402,6 @@ module _ (s : Space) (cs : List Configuration) where
     all = λ c choice.
         let r = are.all c choice in (r.0, Contains-permutation xs ys r.0 same r.1, r.2);
   }
-
-  apart_too : (xs ys : List (List ℕ)) → IsPermutation xs ys → AreApart s cs xs → AreApart s cs ys
-  apart_too xs ys same apart c choice =
-      let most = apart c choice in
-      let equal = sum_by-IsPermutation (λ x. one_if (same_way s cs c x)) xs ys same in
-      omega (arith, most, equal)
-
-  less_is : (o : Ordering) → is_lt o ≡ true → o ≡ Less
-  less_is Less e = refl
-  less_is o e = absurd cc
-
-  -- of two different choices, one that does not come after the other comes before it
-  before_if : (x y : List ℕ) → (x ≡ y → ⊥) → comes_before y x ≡ false → comes_before x y ≡ true
-  before_if x y differ not_after = by (slice_cmp nat_cmp x y) refl
-    where
-      by : (o : Ordering) → slice_cmp nat_cmp x y ≡ o → comes_before x y ≡ true
-      by Less e = ap is_lt e
-      by Equal e = absurd (differ (slice_cmp-IsAntisymmetric nat_cmp-IsAntisymmetric x y e))
-      by Greater e =
-          let back : comes_before y x ≡ true =
-          ap is_lt (nat_list_cmp_total.antisymm y x ∙ ap ordering_reverse e) in
-          let apart : true ≡ false = sym back ∙ not_after in absurd cc
-
-  pub sorted_strictly : (firsts : List (List ℕ)) → ((c : List ℕ) → IsIn firsts c → IsChoiceOf s c)
-      → AreApart s cs firsts
-      → ((k : ℕ) → k + 1 < length firsts
-      → comes_before (get_or firsts (k + 1) []) (get_or firsts k []) ≡ false)
-      → Ascend firsts
-  unfolding IsStrictlySortedBy
-  sorted_strictly [] choice apart up = tt
-  sorted_strictly (x ∷ []) choice apart up = (tt, tt)
-  sorted_strictly (x ∷ (y ∷ firsts)) choice apart up =
-      let later : Ascend (y ∷ firsts) = sorted_strictly (y ∷ firsts) (λ c i. choice c (inr i))
-      (λ c is.
-      let front = counted_front (same_way s cs c) x (y ∷ firsts) in
-      let most = apart c is in omega (arith, front, most))
-      (λ k lt.
-      let same : suc k + 1 ≡ suc (k + 1) = omega arith in
-      subst (λ (n : ℕ). comes_before (get_or (x ∷ (y ∷ firsts)) n []) (get_or (y ∷ firsts) k [])
-      ≡ false) same (up (suc k) (omega (arith, lt)))) in
-      let differ : x ≡ y → ⊥ = λ same.
-      let front = counted_front (same_way s cs x) x (y ∷ firsts) in
-      let next = counted_front (same_way s cs x) y firsts in
-      let itself : one_if (same_way s cs x x) ≡ 1 = ap one_if ((same_decided s cs x x).1 refl) in
-      let again : one_if (same_way s cs x y) ≡ 1 =
-      ap one_if ((same_decided s cs x y).1 (ap (way_of s cs) (sym same))) in
-      let most = apart x (choice x (inl refl)) in
-      omega (arith, front, next, itself, again, most) in
-      let first : comes_before x y ≡ true = before_if x y differ (up 0 (omega arith)) in (
-        AllByRecursion-each (λ z. slice_cmp nat_cmp x z ≡ Less) (y ∷ firsts) (λ z i. elim i [
-          | inl same ↦
-              less_is (slice_cmp nat_cmp x z)
-              (subst (λ (w : List ℕ). comes_before x w ≡ true) same first)
-          | inr there ↦
-              less_is (slice_cmp nat_cmp x z)
-              (before_trans x y z first (above_first y firsts z later there))
-        ]),
-        later,
-      )
-
-  pub sorted_up : (xs ys : List (List ℕ)) → IsPermutation xs ys → AreFirstsOfWays s cs xs
-      → AreApart s cs xs → IsSortedBy comes_before ys → Ascend ys
-  sorted_up xs ys same are apart up =
-      sorted_strictly ys
-      (λ c i. ((permuted xs ys same are).each c (Contains-from_IsIn ys c i)).choice)
-      (apart_too xs ys same apart) (λ k lt. up k [] (omega arith) lt)
 
 -- a closure that compares two choices sorts them in declared order
 pub sorted_by_closure : {F : Type 0} {g : Mut F (Bor (List ℕ) × (Bor (List ℕ) × Unit {0})) Ordering}

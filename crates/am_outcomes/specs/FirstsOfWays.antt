@@ -1,10 +1,5 @@
 -- The first choice of each way.
-use Rattle.std.specs.Prelude.{◌≡◌, ◌≤◌, ℕ, List, Contains, Bool, false}
-use Rattle.std.specs.List.{count_by}
-use Rattle.std.specs.List.Sorted.{IsStrictlySortedBy}
-use Rattle.std.specs.Ordering.{nat_cmp}
-use Rattle.std.specs.Bool.{beq}
-use Rattle.std.specs.Cmp.Lexicographic.{pointwise, slice_cmp}
+use Rattle.std.specs.Prelude.{◌≡◌, ℕ, List, Contains, false}
 use Rattle.am_labels.specs.Space.{Space, IsChoiceOf}
 use Rattle.am_config.specs.ConfigFile.{Configuration}
 use Rattle.am_search.specs.Start.{comes_before}
@@ -23,15 +18,3 @@ pub record AreFirstsOfWays (s : Space) (cs : List Configuration) (firsts : List 
   pub each : (first : List ℕ) → Contains firsts first → IsFirstOfWay s cs first
   pub all : (c : List ℕ) → IsChoiceOf s c
       → (first : List ℕ) × Contains firsts first × (way_of s cs first ≡ way_of s cs c)
-
--- How many of some choices have the way of a choice. It is at most one for each choice if no two of
--- them have the same way.
-abbrev pub same_way : Space → List Configuration → List ℕ → List ℕ → Bool
-same_way s cs c first = pointwise beq (way_of s cs first) (way_of s cs c)
-
-abbrev pub AreApart : Space → List Configuration → List (List ℕ) → Type 0
-AreApart s cs firsts = (c : List ℕ) → IsChoiceOf s c → count_by (same_way s cs c) firsts ≤ 1
-
--- The choices ascend in declared order, and none is there twice.
-abbrev pub Ascend : List (List ℕ) → Type 0
-Ascend = IsStrictlySortedBy (slice_cmp nat_cmp)

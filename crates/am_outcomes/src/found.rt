@@ -6,12 +6,14 @@
 //! is the first in declared order.
 
 ghost use Rattle.std.specs.Prelude.{◌≡◌, ◌<◌, [], Some, length, slice_get, IfOk, IfSome, IfNone};
+ghost use Rattle.std.specs.List.Sorted.{IsSortedBy};
+ghost use Rattle.am_search.specs.Start.{comes_before};
 ghost use Rattle.am_outcomes.specs.Outcomes.{outcomes_of};
 ghost use Rattle.am_outcomes.specs.Ways.{HaveManyWays};
 ghost use Rattle.am_outcomes.specs.FatesView.{fates_view};
 ghost use Rattle.am_outcomes.specs.Knows.{configs_view};
 ghost use Rattle.am_outcomes.specs.JudgedView.{judged_space, judged_configs};
-ghost use Rattle.am_outcomes.specs.FirstsOfWays.{AreFirstsOfWays, Ascend};
+ghost use Rattle.am_outcomes.specs.FirstsOfWays.{AreFirstsOfWays};
 
 use crate::judged::Judged;
 use crate::ways::firsts_of_ways;
@@ -90,7 +92,7 @@ fn outcomes_in(
 ) -> Result<Outcomes, AllocError>
     requires firsts { AreFirstsOfWays (judged_space judged.now) (judged_configs judged.now)
         choices.now }
-    requires ascend { Ascend choices.now }
+    requires sorted { IsSortedBy comes_before choices.now }
     ensures { IfOk result (λ outcomes. outcomes ≡ outcomes_of (judged_space judged.now)
         (judged_configs judged.now)) }
 {

@@ -7,8 +7,10 @@
 //! step, and no other choice has: they are those that go one way. The first of them is kept.
 
 ghost use Rattle.std.specs.Prelude.{◌≡◌, IfOk, IfSome, IfNone};
+ghost use Rattle.std.specs.List.Sorted.{IsSortedBy};
+ghost use Rattle.am_search.specs.Start.{comes_before};
 ghost use Rattle.am_outcomes.specs.JudgedView.{judged_space, judged_configs};
-ghost use Rattle.am_outcomes.specs.FirstsOfWays.{AreFirstsOfWays, AreApart, Ascend};
+ghost use Rattle.am_outcomes.specs.FirstsOfWays.{AreFirstsOfWays};
 ghost use Rattle.am_outcomes.specs.Ways.{HaveManyWays};
 
 use crate::judged::Judged;
@@ -30,7 +32,8 @@ pub(crate) fn firsts_of_ways(
     requires { universe.now ≡ (judged_space judged.now).labels }
     ensures firsts { IfOk result (λ found. IfSome found (λ firsts.
         AreFirstsOfWays (judged_space judged.now) (judged_configs judged.now) firsts.items)) }
-    ensures ascend { IfOk result (λ found. IfSome found (λ firsts. Ascend firsts.items)) }
+    ensures sorted { IfOk result (λ found. IfSome found (λ firsts.
+        IsSortedBy comes_before firsts.items)) }
     ensures many { IfOk result (λ found. IfNone found
         (HaveManyWays (judged_space judged.now) (judged_configs judged.now))) }
 {
@@ -50,8 +53,6 @@ fn unsorted_firsts(
     requires { universe.now ≡ (judged_space judged.now).labels }
     ensures firsts { IfOk result (λ found. IfSome found (λ firsts.
         AreFirstsOfWays (judged_space judged.now) (judged_configs judged.now) firsts.items)) }
-    ensures apart { IfOk result (λ found. IfSome found (λ firsts.
-        AreApart (judged_space judged.now) (judged_configs judged.now) firsts.items)) }
     ensures many { IfOk result (λ found. IfNone found
         (HaveManyWays (judged_space judged.now) (judged_configs judged.now))) }
 {

@@ -37,4 +37,4 @@ returns c =
     ∙ ap (outcomes_after s cs [])
     (take_all c.loop-choice.choice-index c.args.choices.now
     (omega (arith, c.loop-choice-test.false)))
-    ∙ outcomes_are s cs c.args.choices.now c.requires.firsts c.requires.ascend
+    ∙ outcomes_are s cs c.args.choices.now c.requires.firsts c.requires.sorted
