@@ -1,9 +1,6 @@
-pub mod RouteReceivers
 pub mod FirstsLemmas
 pub mod FirstSteps
 pub mod WayFates
-pub mod JudgedSteps
-pub mod ReceiverSteps
 pub mod StepLemmas
 pub mod WalkLemmas
 pub mod WaysFound

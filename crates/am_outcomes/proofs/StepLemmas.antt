@@ -1,29 +1,23 @@
 -- The steps of routes, one route more.
 use Rattle.std.proofs.Common.{◌≡◌, ◌⊎◌, ℕ, zero, suc, ◌+◌, ◌<◌, ◌≤◌, Bool, true, false, cond}
-use Rattle.std.proofs.Common.{List, [], ◌∷◌, ◌++◌, length, drop, get_or, slice_get, Some}
-use Rattle.std.proofs.Common.{append_assoc, append-nil, refl, ap, sym, ◌∙◌, subst, subst₂, inl, inr, arith}
+use Rattle.std.proofs.Common.{◌-◌, List, [], ◌∷◌, ◌++◌, length, map, drop, get_or, slice_get, Some}
+use Rattle.std.proofs.Common.{append_assoc, append-nil, refl, ap, sym, subst, inl, inr, arith}
 use Rattle.std.specs.Prelude.{not, ◌&&◌}
-use Rattle.std.proofs.lemmas.List.{length_push}
+use Rattle.std.proofs.lemmas.List.{length_push, drop_more}
 use Rattle.std.proofs.lemmas.Option.{same_Some}
 use Rattle.am_universe.specs.Universe.{Label, sizes}
 use Rattle.am_universe.specs.Choice.{IsWhole}
 use Rattle.am_universe.specs.LabelSet.{label_set_of}
 use Rattle.am_labels.specs.Matcher.{all_hold}
-use Rattle.am_config.specs.ConfigFile.{Configuration, RouteTree, Routes, route}
-use Rattle.am_config.specs.ConfigFile.{continues_of, children_of}
-use Rattle.am_judged_lists.specs.Cube.{verdict_at}
-use Rattle.am_judged_lists.proofs.VerdictLemmas.{list_says}
+use Rattle.am_config.specs.ConfigFile.{Configuration, RouteTree, Routes, route, routes_of}
+use Rattle.am_config.specs.ConfigFile.{continues_of, children_of, matchers_of}
+use Rattle.am_config.specs.ConfigFile.{route_count, routes_count}
+use Rattle.am_judged_lists.specs.Cube.{matches, IsCubeOf}
+use Rattle.am_first_sets.proofs.CubeTruth.{matches_where}
 use Rattle.am_eval.specs.Routing.{is_last}
-use Rattle.am_first_sets.specs.declared.route_cubes.RouteCubes.{RouteCubes}
-use Rattle.am_first_sets.specs.declared.route_cubes.RouteCubes.TheViews.{out-RouteCubes}
-use Rattle.am_first_sets.specs.RouteCubes.{AreCubesOf, AreCubesOfEach}
 use Rattle.am_outcomes.specs.declared.route_steps.RouteStep.{RouteStep}
-use Rattle.am_outcomes.specs.Knows.{KnowsConfigs}
-use Rattle.am_outcomes.specs.RouteSteps.{AreSteps, GoesFrom, step_after, verdict_if}
+use Rattle.am_outcomes.specs.RouteSteps.{AreSteps, GoesFrom, GoesThrough, GoesPast, step_after}
 use Rattle.am_outcomes.specs.Ways.{way_at, child_way, way}
-use Rattle.am_outcomes.proofs.ReceiverSteps.{next_of, none_left, own_children}
-use Rattle.am_outcomes.proofs.ReceiverSteps.{own_continues}
-use Rattle.am_outcomes.proofs.JudgedSteps.{next_config, no_config_left}
 
 -- ---- The item at a position of a longer list.
 
@@ -48,9 +42,20 @@ got_before (z ∷ xs) y (suc k) x e = elim (got_before xs y k x e) [
   | inr last ↦ inr (ap suc last.0, last.1)
 ]
 
+-- what is left of a list behind an item, with the item
+pub next_from_behind : {X Y : Type 0} (view : X → Y) (xs : List X) (i : ℕ) (x : X) → i < length xs
+    → x ≡ get_or xs (length xs - 1 - i) x
+    → map view (drop (length xs - (i + 1)) xs) ≡ view x ∷ map view (drop (length xs - i) xs)
+next_from_behind view xs i x within is =
+    let k = length xs - 1 - i in
+    let here : length xs - (i + 1) ≡ k = omega arith in
+    let more : length xs - i ≡ k + 1 = omega (arith, within) in
+    let first : k < length xs = omega (arith, within) in
+    rw (here, more, drop_more xs k x first, ← is) refl
+
 -- ---- More steps.
 
-pub goes_longer : (steps more : List RouteStep) (next : ℕ) (c : List ℕ) (w : List Bool)
+goes_longer : (steps more : List RouteStep) (next : ℕ) (c : List ℕ) (w : List Bool)
     → GoesFrom steps next c w → GoesFrom (steps ++ more) next c w
 goes_longer steps more next c [] goes = goes
 goes_longer steps more next c (b ∷ w) (k, step, is, at, says, goes) = (
@@ -71,10 +76,58 @@ steps_pushed steps one are matched unmatched k step at = elim (got_before steps 
       (omega (arith, matched, last.0), omega (arith, unmatched, last.0))
 ]
 
--- ---- The step of a route.
+pub no_steps : AreSteps []
+no_steps k step at = absurd cc
 
+-- ---- Configuration by configuration, the last one first.
+
+either_way : (s w : List Bool) (last : Bool) → s ++ cond last w w ≡ s ++ w
+either_way s w true = refl
+either_way s w false = refl
+
+pub through_more : (u : List Label) (steps new : List RouteStep) (first after : ℕ)
+    (config : Configuration) (later : List Configuration) → GoesThrough u later steps first
+    → GoesPast u config.root steps first first new after
+    → GoesThrough u (config ∷ later) new after
+through_more u steps new first after config later so_far one c whole =
+    let s = label_set_of u c in
+    let w = way s later in
+    subst (GoesFrom new after c) (either_way (way_at s config.root) w (is_last s config.root))
+    (one c whole w w (so_far c whole) (so_far c whole))
+
+-- ---- Child by child, the last one first.
+
+pub count_down : (t : RouteTree) → routes_count (children_of t) < route_count t
+count_down (route settings children) = omega arith
+
+-- from a step on, a choice goes its way through some children, and then what is behind
+abbrev pub GoesBelow :
+    List Label → List RouteTree → List RouteStep → ℕ → List RouteStep → ℕ → Type 0
+GoesBelow u ts old behind steps first =
+    (c : List ℕ) → IsWhole (sizes u) c → (rest : List Bool) → GoesFrom old behind c rest
+    → GoesFrom steps first c (child_way (label_set_of u c) (routes_of ts) ++ rest)
+
+child_goes : (s below rest : List Bool) (last : Bool)
+    → s ++ cond last rest (below ++ rest) ≡ (s ++ cond last [] below) ++ rest
+child_goes s below rest true = ap (λ l. l ++ rest) (sym (append-nil s))
+child_goes s below rest false = sym (append_assoc s below rest)
+
+pub below_more : (u : List Label) (t : RouteTree) (ts : List RouteTree)
+    (old steps more new : List RouteStep) (behind first after : ℕ) → steps ≡ old ++ more
+    → GoesBelow u ts old behind steps first → GoesPast u t steps first behind new after
+    → GoesBelow u (t ∷ ts) old behind new after
+below_more u t ts old steps more new behind first after longer so_far one c whole rest goes =
+    let s = label_set_of u c in
+    let there : GoesFrom steps behind c rest = rw longer (goes_longer old more behind c rest goes) in
+    subst (GoesFrom new after c)
+    (child_goes (way_at s t) (child_way s (routes_of ts)) rest (is_last s t))
+    (one c whole (child_way s (routes_of ts) ++ rest) rest (so_far c whole rest goes) there)
+
+-- ---- A route with all its children.
+
+-- from the step of a route on, behind those of its children
 by_step : (steps : List RouteStep) (one : RouteStep) (c : List ℕ) (m continues : Bool)
-    (below later last : List Bool) → verdict_at one.cube.now c ≡ verdict_if m
+    (below later last : List Bool) → matches one.cube c ≡ m
     → GoesFrom steps one.matched c (below ++ cond continues later last)
     → GoesFrom steps one.unmatched c later
     → GoesFrom (steps ++ one ∷ []) (length (steps ++ one ∷ [])) c
@@ -93,131 +146,26 @@ by_step steps one c m continues below later last says goes past =
     rest true false g = longer one.matched (below ++ last) g
     rest false continues g = longer one.unmatched later past
 
--- from the step of a route on, behind those of its children
-pub route_goes : (u : List Label) (t : RouteTree) (c : List ℕ) (r : RouteCubes)
-    (steps : List RouteStep) (one : RouteStep) (later last : List Bool) → IsWhole (sizes u) c
-    → AreCubesOf u c t r → one.cube.now ≡ (out-RouteCubes r).cube
-    → GoesFrom steps one.matched c (child_way (label_set_of u c) (children_of t)
-    ++ cond (continues_of t) later last)
-    → GoesFrom steps one.unmatched c later
-    → GoesFrom (steps ++ one ∷ []) (length (steps ++ one ∷ [])) c
-    (way_at (label_set_of u c) t ++ cond (is_last (label_set_of u c) t) last later)
-route_goes u (route settings children) c r steps one later last whole are is goes past =
-    by_step steps one c (all_hold (label_set_of u c) settings.matchers) settings.continues
-    (child_way (label_set_of u c) children) later last
-    (ap (λ cube. verdict_at cube c) is ∙ are.0 ∙ list_says u settings.matchers c whole) goes past
-
--- ---- Child by child, the last one first.
-
--- from a step on, a choice goes its way through the children from one on, and then what is behind
-abbrev pub GoesBelow : List RouteStep → ℕ → List RouteStep → ℕ → List RouteCubes → ℕ → Type 0
-GoesBelow old behind steps first children k =
-    (u : List Label) (ts : Routes) (c : List ℕ) → IsWhole (sizes u) c
-    → AreCubesOfEach u c ts (drop k children) → (rest : List Bool) → GoesFrom old behind c rest
-    → GoesFrom steps first c (child_way (label_set_of u c) ts ++ rest)
-
-child_goes : (s : List Bool) (below rest : List Bool) (last : Bool)
-    → s ++ cond last rest (below ++ rest) ≡ (s ++ cond last [] below) ++ rest
-child_goes s below rest true =
-    ap (λ l. l ++ rest) (sym (append-nil s))
-child_goes s below rest false = sym (append_assoc s below rest)
-
-pub below_more : (old steps more new : List RouteStep) (behind first after : ℕ)
-    (children : List RouteCubes) (k : ℕ) (child : RouteCubes) → k < length children
-    → child ≡ get_or children k child → steps ≡ old ++ more
-    → GoesBelow old behind steps first children (k + 1)
-    → ((u : List Label) (t : RouteTree) (c : List ℕ) → IsWhole (sizes u) c → AreCubesOf u c t child
-    → (later last : List Bool) → GoesFrom steps first c later → GoesFrom steps behind c last
-    → GoesFrom new after c
-    (way_at (label_set_of u c) t ++ cond (is_last (label_set_of u c) t) last later))
-    → GoesBelow old behind new after children k
-below_more old steps more new behind first after children k child within is longer so_far one
-    u ts c whole are rest goes =
-    let next = next_of u c ts children k child within is are in
-    let s = label_set_of u c in
-    let there : GoesFrom steps behind c rest =
-    subst (λ (l : List RouteStep). GoesFrom l behind c rest) (sym longer)
-    (goes_longer old more behind c rest goes) in
-    let later = so_far u next.later c whole next.left rest goes in
-    let gone = one u next.tree c whole next.cubes (child_way s next.later ++ rest) rest later there in
-    subst (λ (w : List Bool). GoesFrom new after c w)
-    (child_goes (way_at s next.tree) (child_way s next.later) rest (is_last s next.tree)
-    ∙ ap (λ ds. child_way s ds ++ rest) (sym next.is)) gone
-
-pub none_below : (old : List RouteStep) (behind : ℕ) (children : List RouteCubes) (k : ℕ)
-    → length children ≤ k → GoesBelow old behind old behind children k
-none_below old behind children k past u ts c whole are rest goes =
-    subst (λ (ds : Routes). GoesFrom old behind c (child_way (label_set_of u c) ds ++ rest))
-    (sym (none_left u c ts children k past are)) goes
-
--- ---- Configuration by configuration, the last one first.
-
-abbrev pub GoesThrough : List RouteStep → ℕ → List RouteCubes → ℕ → Type 0
-GoesThrough steps first configs k =
-    (u : List Label) (cs : List Configuration) → KnowsConfigs u cs (drop k configs)
-    → (c : List ℕ) → IsWhole (sizes u) c → GoesFrom steps first c (way (label_set_of u c) cs)
-
-either_way : (s w : List Bool) (last : Bool) → s ++ cond last w w ≡ s ++ w
-either_way s w true = refl
-either_way s w false = refl
-
-pub through_more : (steps new : List RouteStep) (first after : ℕ) (configs : List RouteCubes)
-    (k : ℕ) (r : RouteCubes) → k < length configs → r ≡ get_or configs k r
-    → GoesThrough steps first configs (k + 1)
-    → ((u : List Label) (t : RouteTree) (c : List ℕ) → IsWhole (sizes u) c → AreCubesOf u c t r
-    → (later last : List Bool) → GoesFrom steps first c later → GoesFrom steps first c last
-    → GoesFrom new after c
-    (way_at (label_set_of u c) t ++ cond (is_last (label_set_of u c) t) last later))
-    → GoesThrough new after configs k
-through_more steps new first after configs k r within is so_far one u cs know c whole =
-    let next = next_config u cs configs k r within is know in
-    let s = label_set_of u c in
-    let w = way s next.later in
-    let later = so_far u next.later next.left c whole in
-    let root = next.config.root in
-    subst (λ (l : List Bool). GoesFrom new after c l)
-    (either_way (way_at s root) w (is_last s root) ∙ ap (way s) (sym next.is))
-    (one u root c whole (next.cubes c whole) w w later later)
-
-pub none_through : (configs : List RouteCubes) (k : ℕ) → length configs ≤ k
-    → GoesThrough [] 0 configs k
-none_through configs k past u cs know c whole =
-    subst (λ (ds : List Configuration). GoesFrom [] 0 c (way (label_set_of u c) ds))
-    (sym (no_config_left u cs configs k past know)) refl
-
-pub no_steps : AreSteps []
-no_steps k step at = absurd cc
-
--- ---- A route with all its children.
+by_continue : (continues : Bool) (old : List RouteStep) (next end : ℕ) (c : List ℕ)
+    (later last : List Bool) → GoesFrom old next c later → GoesFrom old end c last
+    → GoesFrom old (cond continues next end) c (cond continues later last)
+by_continue true old next end c later last goes_next goes_end = goes_next
+by_continue false old next end c later last goes_next goes_end = goes_end
 
 -- the step of a route is added behind those of its children
-pub pushed_goes : (u : List Label) (t : RouteTree) (c : List ℕ) (r : RouteCubes)
-    (old steps more new : List RouteStep) (one : RouteStep) (behind next end after : ℕ)
-    (later last : List Bool) → IsWhole (sizes u) c → AreCubesOf u c t r
-    → one.cube.now ≡ (out-RouteCubes r).cube → one.unmatched ≡ next → steps ≡ old ++ more
-    → new ≡ steps ++ one ∷ [] → after ≡ length new
-    → behind ≡ cond (out-RouteCubes r).continues next end
-    → GoesBelow old behind steps one.matched (out-RouteCubes r).routes.items 0
-    → GoesFrom old next c later → GoesFrom old end c last
-    → GoesFrom new after c
-    (way_at (label_set_of u c) t ++ cond (is_last (label_set_of u c) t) last later)
-pushed_goes u t c r old steps more new one behind next end after later last whole are cube to longer
-    adds is_after is_behind below goes_next goes_end =
+pub route_pushed : (u : List Label) (t : RouteTree) (ts : List RouteTree)
+    (old steps more : List RouteStep) (one : RouteStep) (behind next end : ℕ)
+    → IsCubeOf u (matchers_of t) one.cube → routes_of ts ≡ children_of t → one.unmatched ≡ next
+    → steps ≡ old ++ more → behind ≡ cond (continues_of t) next end
+    → GoesBelow u ts old behind steps one.matched
+    → GoesPast u t old next end (steps ++ one ∷ []) (length (steps ++ one ∷ []))
+route_pushed u (route settings children) ts old steps more one behind next end cube are to longer
+    is_behind below c whole later last goes_next goes_end =
     let s = label_set_of u c in
-    let there : GoesFrom steps one.unmatched c later =
-    subst₂ (λ (l : List RouteStep) (n : ℕ). GoesFrom l n c later) (sym longer) (sym to)
-    (goes_longer old more next c later goes_next) in
-    let past : GoesFrom old behind c (cond (continues_of t) later last) =
-    subst₂ (λ (n : ℕ) (b : Bool). GoesFrom old n c (cond b later last)) (sym is_behind)
-    (own_continues u c t r are)
-    (by_continue (out-RouteCubes r).continues) in
-    let gone = route_goes u t c r steps one later last whole are cube
-    (below u (children_of t) c whole (own_children u c t r are) (cond (continues_of t) later last)
-    past) there in
-    subst₂ (λ (l : List RouteStep) (n : ℕ). GoesFrom l n c
-    (way_at s t ++ cond (is_last s t) last later)) (sym adds)
-    (sym (is_after ∙ ap length adds)) gone
-  where
-    by_continue : (b : Bool) → GoesFrom old (cond b next end) c (cond b later last)
-    by_continue true = goes_next
-    by_continue false = goes_end
+    by_step steps one c (all_hold s settings.matchers) settings.continues (child_way s children)
+    later last (matches_where u c whole settings.matchers one.cube (cube c whole.0))
+    (subst (λ (ds : Routes). GoesFrom steps one.matched c
+    (child_way s ds ++ cond settings.continues later last)) are
+    (below c whole (cond settings.continues later last)
+    (rw is_behind (by_continue settings.continues old next end c later last goes_next goes_end))))
+    (rw (to, longer) (goes_longer old more next c later goes_next))

@@ -1,6 +1,14 @@
--- How fates are kept in memory.
+-- How fates and configurations are kept in memory.
 use Rattle.std.specs.Prelude.{ℕ, List, map}
+use Rattle.std.specs.Borrow.{Bor}
 use Rattle.std.specs.Global.{Vec}
+use Rattle.am_config.specs.ConfigFile.{Configuration}
+use Rattle.am_config.specs.ConfigView.{config_view}
+use Rattle.am_config.specs.declared.config.Config.{Config}
+
+-- Some configurations.
+abbrev pub configs_view : List (Bor Config) → List Configuration
+configs_view configs = map (λ c. config_view c.now) configs
 
 -- The receivers under each configuration.
 abbrev pub fates_view : List (Vec ℕ) → List (List ℕ)

@@ -1,10 +1,7 @@
 pub mod Outcomes
 pub mod Ways
-pub mod Knows
-pub mod JudgedView
 pub mod RouteSteps
 pub mod Walks
 pub mod FirstsOfWays
 pub mod OutcomeText
 pub mod FatesView
-pub mod Receivers

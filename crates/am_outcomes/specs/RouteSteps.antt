@@ -1,10 +1,14 @@
 -- The routes of some configurations as steps, one behind the other.
-use Rattle.std.specs.Prelude.{◌≡◌, ◌≤◌, ◌+◌, ℕ, List, [], ◌∷◌, Bool, slice_get, Some}
+use Rattle.std.specs.Prelude.{◌≡◌, ◌≤◌, ◌+◌, ◌++◌, ℕ, List, [], ◌∷◌, Bool, slice_get, Some}
 use Rattle.std.specs.Prelude.{if◌then◌else◌}
-use Rattle.am_search.specs.declared.verdict.Verdict.{Verdict}
-use Rattle.am_search.specs.declared.verdict.Verdict.TheVariants.{Yes, No}
-use Rattle.am_judged_lists.specs.Cube.{verdict_at}
+use Rattle.am_universe.specs.Universe.{Label, sizes}
+use Rattle.am_universe.specs.Choice.{IsWhole}
+use Rattle.am_universe.specs.LabelSet.{label_set_of}
+use Rattle.am_config.specs.ConfigFile.{Configuration, RouteTree}
+use Rattle.am_eval.specs.Routing.{is_last}
+use Rattle.am_judged_lists.specs.Cube.{matches}
 use Rattle.am_outcomes.specs.declared.route_steps.RouteStep.{RouteStep}
+use Rattle.am_outcomes.specs.Ways.{way_at, way}
 
 -- A step is named by its position plus one; 0 is the end. The steps that may come after a step
 -- stand before it, or are the end.
@@ -15,11 +19,7 @@ AreSteps steps =
 
 -- The step after a step, for a choice that matches its route or does not.
 abbrev pub step_after : RouteStep → Bool → ℕ
-step_after step matches = if matches then step.matched else step.unmatched
-
--- What the cube of a route says at a whole choice that matches the route or does not.
-abbrev pub verdict_if : Bool → Verdict
-verdict_if matches = if matches then Yes else No
+step_after step matched = if matched then step.matched else step.unmatched
 
 -- From a step on, a choice goes this way: its cubes say so, from each step to the next, and at the
 -- end nothing is left of the way.
@@ -29,7 +29,22 @@ verdict_if matches = if matches then Yes else No
 -- One that only the cube of step 2 matches goes the way true and false.
 abbrev pub GoesFrom : List RouteStep → ℕ → List ℕ → List Bool → Type 0
 GoesFrom steps next choice [] = next ≡ 0
-GoesFrom steps next choice (matches ∷ way) =
+GoesFrom steps next choice (matched ∷ way) =
     (k : ℕ) × (step : RouteStep) × (next ≡ k + 1) × (slice_get steps k ≡ Some step)
-    × (verdict_at step.cube.now choice ≡ verdict_if matches)
-    × GoesFrom steps (step_after step matches) choice way
+    × (matches step.cube choice ≡ matched) × GoesFrom steps (step_after step matched) choice way
+
+-- From a step on, each whole choice goes its way through some configurations.
+abbrev pub GoesThrough : List Label → List Configuration → List RouteStep → ℕ → Type 0
+GoesThrough u cs steps first =
+    (c : List ℕ) → IsWhole (sizes u) c → GoesFrom steps first c (way (label_set_of u c) cs)
+
+-- More steps are those of a route and of all routes below it. From the first of them on, each whole
+-- choice goes its way there, and then what it goes from `end` on if the route is the last that is
+-- tried, and from `next` on if it is not.
+abbrev pub GoesPast :
+    List Label → RouteTree → List RouteStep → ℕ → ℕ → List RouteStep → ℕ → Type 0
+GoesPast u t old next end new first =
+    (c : List ℕ) → IsWhole (sizes u) c → (later last : List Bool) → GoesFrom old next c later
+    → GoesFrom old end c last
+    → GoesFrom new first c (way_at (label_set_of u c) t
+    ++ (if is_last (label_set_of u c) t then last else later))

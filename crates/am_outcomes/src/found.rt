@@ -8,18 +8,16 @@
 ghost use Rattle.std.specs.Prelude.{◌≡◌, ◌<◌, [], Some, length, slice_get, IfOk, IfSome, IfNone};
 ghost use Rattle.std.specs.List.Sorted.{IsSortedBy};
 ghost use Rattle.am_search.specs.Start.{comes_before};
-ghost use Rattle.am_outcomes.specs.Outcomes.{outcomes_of};
-ghost use Rattle.am_outcomes.specs.Ways.{HaveManyWays};
-ghost use Rattle.am_outcomes.specs.FatesView.{fates_view};
-ghost use Rattle.am_outcomes.specs.Knows.{configs_view};
-ghost use Rattle.am_outcomes.specs.JudgedView.{judged_space, judged_configs};
+ghost use Rattle.am_outcomes.specs.FatesView.{configs_view, fates_view};
 ghost use Rattle.am_outcomes.specs.FirstsOfWays.{AreFirstsOfWays};
+ghost use Rattle.am_outcomes.specs.Outcomes.{fate, outcomes_of};
+ghost use Rattle.am_outcomes.specs.Ways.{HaveManyWays};
 
-use crate::judged::Judged;
 use crate::ways::firsts_of_ways;
 use am_config::Config;
+use am_eval::receivers_of;
 use am_labels::Space;
-use am_universe::Choice;
+use am_universe::{Choice, LabelSet, set_of};
 use indexmap::IndexMap;
 use std::alloc::{AllocError, Global};
 use std::marker::Model;
@@ -76,9 +74,8 @@ pub fn find_outcomes(
     ensures none { IfOk result (λ found. IfNone found
         (HaveManyWays space.now (configs_view configs.now))) }
 {
-    let judged = Judged::of(alloc, space, configs)?;
-    match firsts_of_ways(alloc, space.universe(), &judged)? {
-        Some(firsts) => Ok(Some(outcomes_in(alloc, &judged, firsts.as_slice())?)),
+    match firsts_of_ways(alloc, space, configs)? {
+        Some(firsts) => Ok(Some(outcomes_in(alloc, space, configs, firsts.as_slice())?)),
         None => Ok(None),
     }
 }
@@ -87,21 +84,38 @@ pub fn find_outcomes(
 /// order.
 fn outcomes_in(
     alloc: Global,
-    judged: &Judged<'_>,
+    space: &Space,
+    configs: &[&Config],
     choices: &[Choice],
 ) -> Result<Outcomes, AllocError>
-    requires firsts { AreFirstsOfWays (judged_space judged.now) (judged_configs judged.now)
-        choices.now }
+    requires firsts { AreFirstsOfWays space.now (configs_view configs.now) choices.now }
     requires sorted { IsSortedBy comes_before choices.now }
-    ensures { IfOk result (λ outcomes. outcomes ≡ outcomes_of (judged_space judged.now)
-        (judged_configs judged.now)) }
+    ensures { IfOk result (λ outcomes.
+        outcomes ≡ outcomes_of space.now (configs_view configs.now)) }
 {
     let mut firsts = IndexMap::new(alloc);
     for choice in choices {
-        let fate = judged.fate(alloc, choice)?;
+        let set = set_of(alloc, space.universe(), choice)?;
+        let fate = fate_of(alloc, configs, &set)?;
         if !firsts.contains_key(&fate) {
             firsts.insert(fate, *choice)?;
         }
     }
     Ok(Outcomes { firsts })
+}
+
+/// Returns the receivers of a label set under each configuration.
+fn fate_of(
+    alloc: Global,
+    configs: &[&Config],
+    set: &LabelSet,
+) -> Result<Vec<Vec<usize>>, AllocError>
+    ensures { IfOk result (λ fates.
+        fates_view fates.items ≡ fate (configs_view configs.now) set.now) }
+{
+    let mut fates = Vec::with_capacity(alloc, configs.len())?;
+    for config in configs {
+        fates.push(receivers_of(alloc, config, set)?)?;
+    }
+    Ok(fates)
 }

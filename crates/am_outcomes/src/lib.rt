@@ -12,10 +12,6 @@
 // The limit of the search.
 pub mod limits;
 
-// The cubes of the routes, and the receivers of a choice.
-mod judged;
-mod route_receivers;
-
 // The walks through the routes.
 mod route_steps;
 mod walks;

@@ -36,52 +36,57 @@ impl<'a> Walk<'a> {
         self,
         alloc: Global,
         possible: &PossibleSets<'_>,
-        step: &RouteStep<'a>,
+        step: &'a RouteStep,
         walks: &mut Vec<Walk<'a>>,
     ) -> Result<(), AllocError>
         ensures { OnOk result (AddsBranches (possible_space possible.now) walks.old.items self.entry
             step.now walks.new.items) }
     {
-        let next = match self.within.matching(step.cube) {
+        let next = match self.within.matching(&step.cube) {
             Matching::Misses => step.unmatched,
             Matching::Covers => step.matched,
-            Matching::Opens(_, _) => return self.push_both(alloc, possible, step, walks),
+            Matching::Opens(_, _) => {
+                return self.push_both(alloc, possible, step, &step.cube, walks);
+            }
         };
         walks.push(Walk { next, ..self })?;
         Ok(())
     }
 
-    /// The same at a step whose route some choices of the box match, and others do not.
+    /// The same at a step whose route some choices of the box match, and others do not. The cube is
+    /// that of the step.
     fn push_both(
         self,
         alloc: Global,
         possible: &PossibleSets<'_>,
-        step: &RouteStep<'a>,
+        step: &RouteStep,
+        cube: &'a Cube,
         walks: &mut Vec<Walk<'a>>,
     ) -> Result<(), AllocError>
+        requires { cube.now ≡ step.now.cube }
         ensures { OnOk result (AddsBranches (possible_space possible.now) walks.old.items self.entry
             step.now walks.new.items) }
     {
-        let Some(matched) = self.some_matched(alloc, possible, step.cube)? else {
+        let Some(matched) = self.some_matched(alloc, possible, cube)? else {
             let next = step.unmatched;
             walks.push(Walk { next, ..self })?;
             return Ok(());
         };
         walks.push(Walk {
             next: step.matched,
-            wanted: with_cube(alloc, self.wanted.as_slice(), step.cube)?,
+            wanted: with_cube(alloc, self.wanted.as_slice(), cube)?,
             unwanted: self.unwanted.as_slice().to_vec(alloc)?,
-            within: narrowed(self.within.try_clone(alloc)?, step.cube),
+            within: narrowed(self.within.try_clone(alloc)?, cube),
             some: matched,
         })?;
-        if let Some(some) = self.some_unmatched(alloc, possible, step.cube)? {
+        if let Some(some) = self.some_unmatched(alloc, possible, cube)? {
             let mut unwanted = self.unwanted;
-            unwanted.push(step.cube)?;
+            unwanted.push(cube)?;
             walks.push(Walk {
                 next: step.unmatched,
                 wanted: self.wanted,
                 unwanted,
-                within: without(self.within, step.cube),
+                within: without(self.within, cube),
                 some,
             })?;
         }

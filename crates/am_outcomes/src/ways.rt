@@ -6,61 +6,72 @@
 //! there is such a choice. At the end of a walk all its choices have had the same answer at each
 //! step, and no other choice has: they are those that go one way. The first of them is kept.
 
-ghost use Rattle.std.specs.Prelude.{◌≡◌, IfOk, IfSome, IfNone};
+ghost use Rattle.std.specs.Prelude.{◌≡◌, List, length, IfOk, IfSome, IfNone};
 ghost use Rattle.std.specs.List.Sorted.{IsSortedBy};
+ghost use Rattle.am_config.specs.ConfigFile.{Configuration};
 ghost use Rattle.am_search.specs.Start.{comes_before};
-ghost use Rattle.am_outcomes.specs.JudgedView.{judged_space, judged_configs};
+ghost use Rattle.am_first_sets.specs.PossibleSets.{possible_space};
+ghost use Rattle.am_outcomes.specs.FatesView.{configs_view};
 ghost use Rattle.am_outcomes.specs.FirstsOfWays.{AreFirstsOfWays};
+ghost use Rattle.am_outcomes.specs.RouteSteps.{AreSteps, GoesThrough};
 ghost use Rattle.am_outcomes.specs.Ways.{HaveManyWays};
 
-use crate::judged::Judged;
 use crate::limits::MAX_WAYS;
-use crate::route_steps::RouteSteps;
+use crate::route_steps::{RouteStep, route_steps};
 use crate::walks::Walk;
+use am_config::Config;
+use am_first_sets::PossibleSets;
 use am_judged_lists::PositionBox;
+use am_labels::Space;
 use am_universe::{Choice, Universe};
 use std::alloc::{AllocError, Global};
 
-/// Finds the first choice of each way through the routes of the configurations, in declared order.
-/// Returns `None` if there are too many ways. The universe must be that of the space. Fails only if
-/// memory runs out.
+/// Finds the first choice of each way through the routes of some configurations, in declared order.
+/// Returns `None` if there are too many ways. Fails only if memory runs out.
 pub(crate) fn firsts_of_ways(
     alloc: Global,
-    universe: &Universe,
-    judged: &Judged<'_>,
+    space: &Space,
+    configs: &[&Config],
 ) -> Result<Option<Vec<Choice>>, AllocError>
-    requires { universe.now ≡ (judged_space judged.now).labels }
     ensures firsts { IfOk result (λ found. IfSome found (λ firsts.
-        AreFirstsOfWays (judged_space judged.now) (judged_configs judged.now) firsts.items)) }
+        AreFirstsOfWays space.now (configs_view configs.now) firsts.items)) }
     ensures sorted { IfOk result (λ found. IfSome found (λ firsts.
         IsSortedBy comes_before firsts.items)) }
     ensures many { IfOk result (λ found. IfNone found
-        (HaveManyWays (judged_space judged.now) (judged_configs judged.now))) }
+        (HaveManyWays space.now (configs_view configs.now))) }
 {
-    let Some(mut firsts) = unsorted_firsts(alloc, universe, judged)? else {
+    let possible = PossibleSets::of(alloc, space)?;
+    let steps = route_steps(alloc, space.universe(), configs)?;
+    let found = unsorted_firsts(alloc, space.universe(), &possible, steps.as_slice())?;
+    let Some(mut firsts) = found else {
         return Ok(None);
     };
     firsts.sort_unstable_by(|one, other| one.as_slice().cmp(other.as_slice()));
     Ok(Some(firsts))
 }
 
-/// The same in any order.
+/// The same in any order, by the steps of the routes.
 fn unsorted_firsts(
     alloc: Global,
     universe: &Universe,
-    judged: &Judged<'_>,
+    possible: &PossibleSets<'_>,
+    steps: &[RouteStep],
 ) -> Result<Option<Vec<Choice>>, AllocError>
-    requires { universe.now ≡ (judged_space judged.now).labels }
-    ensures firsts { IfOk result (λ found. IfSome found (λ firsts.
-        AreFirstsOfWays (judged_space judged.now) (judged_configs judged.now) firsts.items)) }
-    ensures many { IfOk result (λ found. IfNone found
-        (HaveManyWays (judged_space judged.now) (judged_configs judged.now))) }
+    requires labels { universe.now ≡ (possible_space possible.now).labels }
+    requires steps { AreSteps steps.now }
+    requires goes { (cs : List Configuration)
+        × GoesThrough universe.now cs steps.now (length steps.now) }
+    ensures firsts { IfOk result (λ found. IfSome found (λ firsts. (cs : List Configuration)
+        → GoesThrough universe.now cs steps.now (length steps.now)
+        → AreFirstsOfWays (possible_space possible.now) cs firsts.items)) }
+    ensures many { IfOk result (λ found. IfNone found ((cs : List Configuration)
+        → GoesThrough universe.now cs steps.now (length steps.now)
+        → HaveManyWays (possible_space possible.now) cs)) }
 {
-    let steps = RouteSteps::of(alloc, judged.routes.as_slice())?;
     let mut walks = Vec::new(alloc);
-    if let Some(some) = judged.possible.some_meeting(alloc, &[], &[])? {
+    if let Some(some) = possible.some_meeting(alloc, &[], &[])? {
         walks.push(Walk {
-            next: steps.first,
+            next: steps.len(),
             wanted: Vec::new(alloc),
             unwanted: Vec::new(alloc),
             within: PositionBox::all(alloc, universe)?,
@@ -70,12 +81,12 @@ fn unsorted_firsts(
     let mut firsts = Vec::new(alloc);
     while let Some(walk) = walks.pop() {
         if walk.next > 0 {
-            let step = &steps.steps[walk.next - 1];
-            walk.push_branches(alloc, &judged.possible, step, &mut walks)?;
+            let step = &steps[walk.next - 1];
+            walk.push_branches(alloc, possible, step, &mut walks)?;
             continue;
         }
         let (wanted, unwanted) = (walk.wanted.as_slice(), walk.unwanted.as_slice());
-        if let Some(first) = judged.possible.first_meeting(alloc, wanted, unwanted)? {
+        if let Some(first) = possible.first_meeting(alloc, wanted, unwanted)? {
             if firsts.len() >= MAX_WAYS {
                 return Ok(None);
             }

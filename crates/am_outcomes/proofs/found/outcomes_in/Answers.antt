@@ -1,6 +1,8 @@
 use Rattle.std.proofs.Common.{[], sym, ap, ◌∙◌, arith}
 use Rattle.std.proofs.lemmas.List.{take_all}
-use Rattle.am_outcomes.specs.JudgedView.{judged_space, judged_configs}
+use Rattle.am_universe.specs.LabelSet.{label_set_of}
+use Rattle.am_outcomes.specs.FatesView.{configs_view}
+use Rattle.am_outcomes.specs.Outcomes.{fate}
 use Rattle.am_outcomes.proofs.Gathered.{one_outcome_more, outcomes_after, outcomes_are}
 use Rattle.am_outcomes.proofs.Gathered.{there_already, same_fates_kept}
 use Rattle.am_outcomes.proofs.FirstSteps.{added, looked_up}
@@ -10,12 +12,14 @@ use Rattle.am_outcomes.proofs.found.outcomes_in.Goals.{else-not-contains_key}
 
 pub loop-choice-preserved : goal.loop-choice-preserved
 loop-choice-preserved c =
-    let s = judged_space c.args.judged.now in
-    let cs = judged_configs c.args.judged.now in
+    let s = c.args.space.now in
+    let cs = configs_view c.args.configs.now in
     let choice = c.choice-item.result in
     one_outcome_more s cs c.args.choices.now c.loop-choice.choice-index choice
     c.loop-choice.firsts.entries c.if-not-contains_key.firsts.entries c.in_ok-fate.fate
-    c.loop-choice-test.true c.choice-item.is c.loop-choice.invariant c.in_ok-fate.ensures
+    c.loop-choice-test.true c.choice-item.is c.loop-choice.invariant
+    (c.in_ok-fate.ensures ∙ ap (fate cs) (c.in_ok-set.ensures.set
+    ∙ ap (λ u. label_set_of u choice) c.universe.ensures.labels))
     (elim c.if-not-contains_key.branch [
       | then-not-contains_key+in_ok-insert w ↦
           ap (λ m. m.entries) w.firsts-is ∙ w.in_ok-insert.ensures.entries
@@ -31,8 +35,8 @@ loop-choice-preserved c =
 
 pub returns : goal.returns
 returns c =
-    let s = judged_space c.args.judged.now in
-    let cs = judged_configs c.args.judged.now in
+    let s = c.args.space.now in
+    let cs = configs_view c.args.configs.now in
     c.loop-choice.invariant
     ∙ ap (outcomes_after s cs [])
     (take_all c.loop-choice.choice-index c.args.choices.now

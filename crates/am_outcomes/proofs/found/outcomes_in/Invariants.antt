@@ -1,11 +1,10 @@
 use Rattle.std.proofs.Common.{◌≡◌, [], map, take}
-use Rattle.am_outcomes.specs.FatesView.{entry_view}
-use Rattle.am_outcomes.specs.JudgedView.{judged_space, judged_configs}
+use Rattle.am_outcomes.specs.FatesView.{configs_view, entry_view}
 use Rattle.am_outcomes.proofs.Gathered.{outcomes_after}
 use Rattle.am_outcomes.proofs.found.outcomes_in.Given as goal
 
 -- the outcomes of the choices so far
 abbrev pub invariant-loop-choice : goal.invariant-loop-choice
 invariant-loop-choice l =
-    map entry_view l.firsts.entries ≡ outcomes_after (judged_space l.judged) (judged_configs l.judged) []
-    (take l.choice-index l.choices)
+    map entry_view l.firsts.entries
+    ≡ outcomes_after l.space (configs_view l.configs) [] (take l.choice-index l.choices)

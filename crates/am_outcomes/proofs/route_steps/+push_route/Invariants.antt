@@ -1,4 +1,6 @@
-use Rattle.std.proofs.Common.{◌≡◌, ◌≤◌, ◌-◌, List, length, ◌++◌}
+use Rattle.std.proofs.Common.{◌≡◌, ◌≤◌, ◌-◌, List, length, ◌++◌, map, drop}
+use Rattle.am_config.specs.ConfigFile.{route_count}
+use Rattle.am_config.specs.RouteView.{route_view}
 use Rattle.am_outcomes.specs.declared.route_steps.RouteStep.{RouteStep}
 use Rattle.am_outcomes.specs.RouteSteps.{AreSteps}
 use Rattle.am_outcomes.proofs.StepLemmas.{GoesBelow}
@@ -10,6 +12,9 @@ invariant-loop-i l = record {
   steps : AreSteps l.steps.items;
   first : l.first ≤ length l.steps.items;
   more : (more : List RouteStep) × (l.steps.items ≡ l.fn.steps.items ++ more);
-  goes : GoesBelow l.fn.steps.items l.behind l.steps.items l.first l.children
-      (length l.children - l.i);
+  goes : GoesBelow l.universe (map route_view (drop (length l.children - l.i) l.children))
+      l.fn.steps.items l.behind l.steps.items l.first;
 }
+
+abbrev pub decreases-push_route : goal.decreases-push_route
+decreases-push_route l = route_count (route_view l.route.now)

@@ -1,6 +1,6 @@
 use Rattle.std.proofs.Common.{true, false, refl}
 use Rattle.am_first_sets.specs.PossibleSets.{possible_space}
-use Rattle.am_outcomes.proofs.WalkLemmas.{one_branch}
+use Rattle.am_outcomes.proofs.WalkLemmas.{whole_branch}
 use Rattle.am_outcomes.proofs.walks.Walk.push_branches.Goals as goal
 use Rattle.am_outcomes.proofs.walks.Walk.push_branches.Goals.{in-Misses, in-Covers}
 
@@ -12,12 +12,12 @@ returns c = λ cs steps k is next at are.
       c.in_ok-push.ensures.items,
       (elim c.match-matching.branch [
         | in-Misses w ↦
-            one_branch s cs steps c.args.self k step is next at are false _ w.next-is (λ d. refl)
-            (λ d choice on.
-            w.in-Misses.ensures d (is.within d choice on)) refl
+            whole_branch s cs steps c.args.self k step is next at are false _
+            (λ d choice on. w.in-Misses.ensures d (is.within d choice on)) w.next-is (λ d. refl)
+            refl
         | in-Covers w ↦
-            one_branch s cs steps c.args.self k step is next at are true _ w.next-is (λ d. refl)
-            (λ d choice on.
-            w.in-Covers.ensures d (is.within d choice on)) refl
+            whole_branch s cs steps c.args.self k step is next at are true _
+            (λ d choice on. w.in-Covers.ensures d (is.within d choice on)) w.next-is (λ d. refl)
+            refl
       ]),
     )
