@@ -1,7 +1,7 @@
 mod PatternLemmas
 mod PatternJoins
 pub mod MatcherTextIndices
-pub mod MatcherTextUtf8
+pub mod MatcherTextCuts
 pub mod MatcherTextSteps
 pub mod MatcherTextPieces
 pub mod MatcherTextLists

@@ -3,7 +3,7 @@ use Rattle.std.proofs.Common.{◌≡◌, refl, sym, ◌∙◌, ap, subst, inl, i
 use Rattle.std.specs.Prelude.{◌==◌}
 use Rattle.std.specs.List.{prefix_len}
 use Rattle.std.proofs.lemmas.List.{length-append, reverse-append, take-append-le, take_at, take_all, take_more, get_or_append_left, get_or_at}
-use Rattle.std.proofs.lemmas.Bool.{and_parts, cases_Bool, eqb-true, eq-eqb, ne_eqb, not-true}
+use Rattle.std.proofs.lemmas.Bool.{and_parts, cases_Bool, eqb-true, eq-eqb, ne_eqb, not-true, false_from_ne_true}
 use Rattle.std.proofs.lemmas.Option.{cond_some}
 use Rattle.am_labels.specs.MatcherText.{is_escaped, is_quote, HasBody}
 use Rattle.am_labels.specs.MatcherReading.{first_quote, read_body}
@@ -95,3 +95,11 @@ read_is_body raw body e = elim (cases_Bool (get_or raw 0 0 == 34)) [
 pub unread_quoted : (raw rest : List ℕ) (n : ℕ) → (get_or raw 0 0 == 34) ≡ true → rest ≡ drop 1 raw → n ≡ first_quote rest → (n + 1 ≡ length rest → ⊥) → read_body raw ≡ None
 unfolding read_body
 unread_quoted raw rest n quote e f h = rw (quote, ← e, ← f, ne_eqb (n + 1) (length rest) h) refl
+
+pub unread_bare : (raw : List ℕ) → ((rest : List ℕ) → raw ≡ 34 ∷ rest → ⊥)
+    → (first_quote raw ≡ length raw → ⊥) → read_body raw ≡ None
+unfolding read_body
+unread_bare raw bare h =
+    let first = false_from_ne_true (get_or raw 0 0 == 34)
+    (λ quote. bare (drop 1 raw) (one_byte 34 raw (omega arith) quote)) in
+    rw (first, ne_eqb (first_quote raw) (length raw) h) refl

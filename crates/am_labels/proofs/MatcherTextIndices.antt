@@ -2,9 +2,9 @@
 use Rattle.std.proofs.Common.{◌≡◌, refl, inl, inr, ℕ, ◌+◌, ◌-◌, ◌<◌, ◌≤◌, ◌%◌, List, length, get_or, Bool, true, false, not, ◌&&◌, cond, arith, add-one, add-zero, zero-add, add_comm}
 use Rattle.std.specs.Prelude.{◌==◌}
 use Rattle.std.specs.List.{range_with_len}
-use Rattle.std.proofs.lemmas.List.Sums.{suffix_len-take_yes, suffix_len-take_no, position_or_len_is, prefix_len-le-length, prefix_len_passes, prefix_len_stops}
+use Rattle.std.proofs.lemmas.List.Sums.{suffix_len-take_yes, suffix_len-take_no, position_or_len_is, prefix_len-le-length, fails_before_first, passes_at_first}
 use Rattle.std.proofs.lemmas.List.FromFn.{length-range_with_len, get_or-range_with_len}
-use Rattle.std.proofs.lemmas.Bool.{cases_Bool, not-true, not-false}
+use Rattle.std.proofs.lemmas.Bool.{cases_Bool}
 use Rattle.std.proofs.lemmas.Bool.Decides.{nat_tests}
 use Rattle.am_labels.specs.MatcherText.{is_escaped, is_quote, quotes_before, is_quoted}
 use Rattle.am_labels.specs.MatcherReading.{first_quote}
@@ -46,13 +46,12 @@ first_quote-le text = omega (arith, prefix_len-le-length (λ i. not (is_quote te
 pub first_quote_before : (text : List ℕ) (k : ℕ) → k < first_quote text → is_quote text k ≡ false
 first_quote_before text k l =
     let at = get_or-range_with_len 0 (length text) k 0 (omega (arith, first_quote-le text)) in
-    let h = prefix_len_passes (λ i. not (is_quote text i)) (range_with_len 0 (length text)) k 0 l in
-    let t = rw (at, zero-add k) at h in
-    not-true (is_quote text k) t
+    let fails = fails_before_first (is_quote text) (range_with_len 0 (length text)) k 0 l in
+    rw (at, zero-add k) at fails
 
 pub first_quote_found : (text : List ℕ) → first_quote text < length text → is_quote text (first_quote text) ≡ true
 first_quote_found text l =
     let at = get_or-range_with_len 0 (length text) (first_quote text) 0 l in
-    let h = prefix_len_stops (λ i. not (is_quote text i)) (range_with_len 0 (length text)) 0 (omega (arith, length-range_with_len 0 (length text))) in
-    let t = rw (at, zero-add (first_quote text)) at h in
-    not-false (is_quote text (first_quote text)) t
+    let passes = passes_at_first (is_quote text) (range_with_len 0 (length text)) 0
+    (omega (arith, l, length-range_with_len 0 (length text))) in
+    rw (at, zero-add (first_quote text)) at passes

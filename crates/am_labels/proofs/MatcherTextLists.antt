@@ -3,8 +3,8 @@ use Rattle.std.proofs.Common.{◌≡◌, refl, sym, ◌∙◌, inl, inr, ℕ, �
 use Rattle.std.specs.Prelude.{◌==◌}
 use Rattle.std.specs.List.{prefix_len, suffix_len, list_all}
 use Rattle.std.proofs.lemmas.List.{drop_at, take_at, length-append, length-reverse, get_or-reverse, get_or-drop, get_or-take, get_or_past, length-drop, length-take-le, get_or_append_left, get_or-append-add}
-use Rattle.std.proofs.lemmas.List.Sums.{prefix_len_passes, prefix_len_stops, prefix_len-le-length, suffix_len_is, suffix_len-le-length, list_all-from_AllPass, AllPass-from_list_all}
-use Rattle.std.proofs.lemmas.Bool.{and_parts, and_from, cases_lt, eqb-true}
+use Rattle.std.proofs.lemmas.List.Sums.{prefix_len_is, prefix_len_passes, prefix_len_stops, prefix_len-le-length, suffix_len_is, suffix_len-le-length, list_all-from_AllPass, AllPass-from_list_all}
+use Rattle.std.proofs.lemmas.Bool.{and_parts, cases_lt, eqb-true}
 
 -- ---- from the front
 
@@ -13,10 +13,9 @@ one_byte c [] l e = absurd (omega (arith, eqb-true 0 c e))
 one_byte c (d ∷ text) l e = rw (eqb-true d c e) refl
 
 pub prefix_all : (p : ℕ → Bool) (xs : List ℕ) → list_all p xs ≡ true → prefix_len p xs ≡ length xs
-prefix_all p [] h = refl
-prefix_all p (x ∷ xs) h =
-    let parts = and_parts (p x) (list_all p xs) h in
-    rw (parts.0, prefix_all p xs parts.1) (omega arith)
+prefix_all p xs h =
+    prefix_len_is p xs (length xs) 0 (omega arith) (λ k l. AllPass-from_list_all p xs h k 0 l)
+    (λ l. absurd (omega arith))
 
 pub prefix_whole : (p : ℕ → Bool) (xs ys : List ℕ) → list_all p xs ≡ true → p (get_or ys 0 0) ≡ false → prefix_len p (xs ++ ys) ≡ length xs
 prefix_whole p [] [] h e = refl
@@ -47,12 +46,6 @@ first_after_prefix p xs z =
     ]
 
 -- ---- from the end
-
-pub all_append : (p : ℕ → Bool) (xs ys : List ℕ) → list_all p xs ≡ true → list_all p ys ≡ true → list_all p (xs ++ ys) ≡ true
-all_append p [] ys h k = k
-all_append p (x ∷ xs) ys h k =
-    let parts = and_parts (p x) (list_all p xs) h in
-    and_from (p x) (list_all p (xs ++ ys)) parts.0 (all_append p xs ys parts.1 k)
 
 pub all_of_suffix : (p : ℕ → Bool) (xs : List ℕ) → list_all p (drop (length xs - suffix_len p xs) xs) ≡ true
 all_of_suffix p xs = list_all-from_AllPass p (drop (length xs - suffix_len p xs) xs) (λ k d l.

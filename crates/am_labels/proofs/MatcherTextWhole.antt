@@ -1,23 +1,25 @@
 -- What is read from a piece is what it spells, and the same holds for a whole text.
-use Rattle.std.proofs.Common.{◌≡◌, refl, sym, ◌∙◌, ap, subst, inl, inr, ℕ, suc, ◌+◌, ◌-◌, ◌≤◌, List, [], ◌∷◌, ◌++◌, length, take, drop, get_or, true, false, not, ◌&&◌, arith, Option, Some, Result, Ok, Err, ◌≢◌, IfOk, IfErr, Vec, Global}
+use Rattle.std.proofs.Common.{◌≡◌, refl, sym, ◌∙◌, ap, subst, inl, inr, ℕ, suc, ◌+◌, ◌-◌, ◌≤◌, List, [], ◌∷◌, ◌++◌, length, take, drop, get_or, true, false, not, ◌&&◌, arith, Option, Some, ◌≢◌}
 use Rattle.std.specs.Prelude.{◌==◌}
 use Rattle.std.specs.List.{prefix_len, suffix_len, list_all, AllZip, All, AllByRecursion}
 use Rattle.std.proofs.lemmas.List.Elements.{All-from_recursion}
+use Rattle.std.proofs.lemmas.List.Folds.{list_all-append}
 use Rattle.std.proofs.lemmas.List.{append-nil, take-append-drop, get_or-take, length-take-le}
 use Rattle.std.proofs.lemmas.Bool.{and_parts, and_from, cases_lt, cases_Bool, eqb-true, not-true, false≢true}
 use Rattle.std.proofs.lemmas.Bool.Decides.{nat_tests}
 use Rattle.std.proofs.lemmas.Option.{same_Some, cond_some, option_and_then_some, some_pair_parts, none-some}
 use Rattle.am_universe.specs.declared.kind.Kind.{Kind}
-use Rattle.am_universe.specs.declared.kind.Kind.TheVariants.{Memory, BadMatcher}
+use Rattle.am_universe.specs.declared.kind.Kind.TheVariants.{Memory}
 use Rattle.am_labels.specs.declared.op.Op.{Op}
 use Rattle.am_labels.specs.declared.op.Op.TheVariants.{Equal, Matches}
 use Rattle.am_labels.specs.declared.op.TheConstants.Op.{ALL}
 use Rattle.am_labels.specs.Matcher.{Condition, operator_text}
 use Rattle.am_labels.specs.MatcherText.{is_space, is_blank, begins_name, continues_name, is_name, unescaped_text, is_trimmed, IsLongest, SpellsOne, Spells, matcher_pieces, without_opening, without_closing, pieces_of_words, WordsSpell}
-use Rattle.am_labels.specs.MatcherReading.{ReturnsReading, read_body, read_operator, read_name, read_piece, read_each_piece, read_list, read_words, without_leading_blanks, without_trailing_blanks, ◌>>=◌}
+use Rattle.am_labels.specs.MatcherRefusals.{WordsRefusedFor}
+use Rattle.am_labels.specs.MatcherReading.{IsReadFailure, read_body, read_operator, read_name, read_piece, read_each_piece, read_list, read_words, without_leading_blanks, without_trailing_blanks, ◌>>=◌}
 use Rattle.am_labels.proofs.OperatorLemmas.{is_short, stands_first}
 use Rattle.am_labels.proofs.MatcherTextSteps.{whole_piece}
-use Rattle.am_labels.proofs.MatcherTextLists.{drop_prefix, take_prefix, all_of_prefix, first_after_prefix, all_append, all_of_suffix, last_before_suffix, take_before_suffix}
+use Rattle.am_labels.proofs.MatcherTextLists.{drop_prefix, take_prefix, all_of_prefix, first_after_prefix, all_of_suffix, last_before_suffix, take_before_suffix}
 use Rattle.am_labels.proofs.MatcherTextBodies.{body_is_read, read_is_body}
 
 -- ---- bytes
@@ -70,7 +72,7 @@ operator_is_read _ rest h = refl
 
 raw_is_cut : (after raw behind : List ℕ) → is_blank after ≡ true → is_blank behind ≡ true → is_trimmed raw ≡ true → without_trailing_blanks (without_leading_blanks (after ++ (raw ++ behind))) ≡ raw
 raw_is_cut after [] behind a b t =
-    let none = drop_prefix is_space (after ++ behind) [] (all_append is_space after behind a b) refl in
+    let none = drop_prefix is_space (after ++ behind) [] (list_all-append is_space after behind ∙ and_from _ _ a b) refl in
     let none' = rw (append-nil (after ++ behind)) at none in
     rw none' refl
 raw_is_cut after (c ∷ cs) behind a b t =
@@ -88,13 +90,12 @@ spelled_is_read piece m s =
     let rest : List ℕ = s.between ++ op in
     let start : m.name ++ rest ≡ without_leading_blanks piece =
     rw s.parts (sym (drop_prefix is_space s.before (m.name ++ rest) two.0 (begins_no_space (get_or (m.name ++ rest) 0 0) (name_begins m.name rest s.name)))) in
-    let read = whole_piece piece (m.name ++ rest) m.name rest op m.op tail (without_leading_blanks tail) s.raw s.value.body start
+    let read = whole_piece piece (m.name ++ rest) start m.name rest op
     (name_is_read m.name rest s.name (operator_ends_name s.between m.op tail two.1))
     (sym (drop_prefix is_space s.between op two.1 (operator_no_space m.op tail)))
-    (operator_is_read m.op tail s.operator)
-    refl
+    m.op tail s.raw (operator_is_read m.op tail s.operator)
     (sym (raw_is_cut s.after s.raw s.behind three.1 four.1 s.trimmed))
-    (body_is_read s.raw s.value.body (s.value.has_body, s.value.no_quote)) in
+    s.value.body (body_is_read s.raw s.value.body (s.value.has_body, s.value.no_quote)) in
     read ∙ ap (λ (value : List ℕ). Some (record m { value = value })) (sym s.value.value_is)
 
 -- ---- what is read is spelled
@@ -229,7 +230,7 @@ pub words_are_read : (words : List (List ℕ)) (ms : List Condition) → WordsSp
 unfolding read_words
 words_are_read words ms s = each_is_read (pieces_of_words words) ms s
 
-words_are_spelled : (words : List (List ℕ)) (ms : List Condition) → read_words words ≡ Some ms
+pub words_are_spelled : (words : List (List ℕ)) (ms : List Condition) → read_words words ≡ Some ms
     → WordsSpell words ms
 unfolding read_words
 words_are_spelled words ms e = each_is_spelled (pieces_of_words words) ms e
@@ -244,18 +245,11 @@ one_list text ms ns s t = same_Some ms ns (sym (list_is_read text ms s) ∙ list
 
 -- ---- an answer of the reader
 
-pub ok_is_spelled : {X : Type 0} (view : X → List Condition) (words : List (List ℕ)) (r : Result X Kind) → ReturnsReading view r (read_words words) → IfOk r (λ x. WordsSpell words (view x))
-ok_is_spelled view words (Ok x) g = words_are_spelled words (view x) g
-ok_is_spelled view words (Err kind) g = tt
-
-pub ok_is_only : {X : Type 0} (view : X → List Condition) (words : List (List ℕ)) (r : Result X Kind) → ReturnsReading view r (read_words words) → (ms : List Condition) → WordsSpell words ms → IfOk r (λ x. view x ≡ ms)
-ok_is_only view words (Ok x) g ms s = same_Some (view x) ms (sym g ∙ words_are_read words ms s)
-ok_is_only view words (Err kind) g ms s = tt
-
-pub refused_is_none : {X : Type 0} (view : X → List Condition) (words : List (List ℕ)) (r : Result X Kind) → ReturnsReading view r (read_words words) → IfErr r (λ kind. kind ≢ Memory → (kind ≡ BadMatcher) × ((ms : List Condition) → WordsSpell words ms → ⊥))
-refused_is_none view words (Ok x) g = tt
-refused_is_none view words (Err kind) (inl memory) = λ other. absurd (other memory)
-refused_is_none view words (Err kind) (inr none) = λ other. (none.0, λ ms s. none-some ms (sym none.1 ∙ words_are_read words ms s))
+pub refused_is_none : (kind : Kind) (words : List (List ℕ)) → IsReadFailure kind (read_words words)
+    → kind ≢ Memory → WordsRefusedFor words kind
+refused_is_none kind words (inl memory) other = absurd (other memory)
+refused_is_none kind words (inr none) other =
+    inl (none.0, λ ms s. none-some ms (sym none.1 ∙ words_are_read words ms s))
 
 name_is_some : (name : List ℕ) → is_name name ≡ true → name ≢ []
 name_is_some name h e = false≢true (rw e at h)
@@ -265,7 +259,8 @@ each_named ps [] h = tt
 each_named [] (s ∷ ss) h = absurd h
 each_named (p ∷ ps) (s ∷ ss) h = (name_is_some (s.name) h.0.name, each_named ps ss h.1)
 
-pub ok_is_named : (words : List (List ℕ)) (r : Result (Vec Condition Global) Kind) → ReturnsReading (λ (list : Vec Condition Global). list.items) r (read_words words) → IfOk r (λ list. All (λ s. s.name ≢ []) list.items)
-ok_is_named words (Ok list) g =
-    All-from_recursion (λ (s : Condition). s.name ≢ []) list.items (each_named (pieces_of_words words) list.items (words_are_spelled words list.items g))
-ok_is_named words (Err kind) g = tt
+pub all_named : (words : List (List ℕ)) (ms : List Condition) → read_words words ≡ Some ms
+    → All (λ m. m.name ≢ []) ms
+all_named words ms e =
+    All-from_recursion (λ (m : Condition). m.name ≢ []) ms
+    (each_named (pieces_of_words words) ms (words_are_spelled words ms e))

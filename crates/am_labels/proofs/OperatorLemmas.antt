@@ -1,7 +1,7 @@
 -- Facts about any operator.
 use Rattle.std.proofs.Common.{◌≡◌, ℕ, ◌+◌, ◌<◌, ◌≤◌, List, ◌∷◌, ◌++◌, Bool, true, false, not, cond}
 use Rattle.std.proofs.Common.{refl, ap, sym, ◌∙◌, arith, length, get_or, [], take, drop, Some}
-use Rattle.std.proofs.Common.{inl, inr, add-one}
+use Rattle.std.proofs.Common.{inl, inr, add-one, take_at, drop_at, ◌≢◌}
 use Rattle.std.proofs.Math.Seq.{drop-cons}
 use Rattle.std.proofs.lemmas.Bool.{cases_Bool}
 use Rattle.std.proofs.lemmas.List.{take-append-drop}
@@ -11,6 +11,7 @@ use Rattle.am_labels.specs.declared.op.Op.{Op}
 use Rattle.am_labels.specs.declared.op.Op.TheVariants.{Equal, NotEqual, Matches, NotMatches}
 use Rattle.am_labels.specs.declared.op.Comparison.TheVariants.{Text, Pattern}
 use Rattle.am_universe.specs.Text.{same_text}
+use Rattle.am_universe.proofs.LabelSetLemmas.{same_text-itself}
 use Rattle.am_labels.specs.Pattern.{finds}
 use Rattle.am_labels.specs.Matcher.{operator_text, comparison, is_equality, negates, holds}
 use Rattle.am_labels.specs.MatcherText.{IsLongest}
@@ -39,6 +40,13 @@ is_longest _ c more other = λ longer rest e. (is_short longer).1
 
 -- ---- How it is read.
 
+-- A text with this front begins with it.
+begins_with : (front text : List ℕ) → same_text (take (length front) text) front ≡ true
+    → text ≡ front ++ drop (length front) text
+begins_with front text there =
+    sym (take-append-drop (length front) text)
+    ∙ ap (λ f. f ++ drop (length front) text) ((bytes_eq-Decides _ _).0 there)
+
 -- A text from which an operator is read begins with it.
 pub stands_first : (ops : List Op) (text : List ℕ) (op : Op) (rest : List ℕ)
     → first_operator ops text ≡ Some (op, rest) → text ≡ operator_text op ++ rest
@@ -47,30 +55,28 @@ stands_first (o ∷ ops) text op rest e =
     let n = length (operator_text o) in
     elim (cases_Bool (same_text (take n text) (operator_text o))) [
       | inl there ↦
-          let front = (bytes_eq-Decides (take n text) (operator_text o)).0 there in
           let same = some_pair_parts o op (drop n text) rest (rw there at e) in
-          rw (← same.0, ← same.1)
-          (sym (ap (λ f. f ++ drop n text) (sym front) ∙ take-append-drop n text))
+          rw (← same.0, ← same.1) (begins_with (operator_text o) text there)
       | inr missing ↦ stands_first ops text op rest (rw missing at e)
     ]
 
 -- Reading with the operators from an index on: the text begins with the first of them, or the later
 -- ones decide.
-pub first_here : (ops : List Op) (k : ℕ) (text written : List ℕ) → k < length ops
-    → written ≡ operator_text (get_or ops k Equal)
-    → same_text (take (length written) text) written ≡ true
-    → first_operator (drop k ops) text ≡ Some (get_or ops k Equal, drop (length written) text)
-first_here ops k text written within is there =
-    let there' = rw is at there in
-    rw (drop-cons ops k Equal, is, there') refl
+module _ (ops : List Op) (k : ℕ) (text written : List ℕ) (within : k < length ops)
+    (is : written ≡ operator_text (get_or ops k Equal)) where
+  pub first_here : (rest : List ℕ) → text ≡ written ++ rest
+      → first_operator (drop k ops) text ≡ Some (get_or ops k Equal, rest)
+  first_here rest there =
+      let front = take_at written rest (length written) refl in
+      let behind = drop_at written rest (length written) refl in
+      rw (drop-cons ops k Equal, ← is, there, front, same_text-itself written, behind) refl
 
-pub first_behind : (ops : List Op) (k : ℕ) (text written : List ℕ) → k < length ops
-    → written ≡ operator_text (get_or ops k Equal)
-    → same_text (take (length written) text) written ≡ false
-    → first_operator (drop (k + 1) ops) text ≡ first_operator (drop k ops) text
-first_behind ops k text written within is missing =
-    let missing' = rw is at missing in
-    rw (drop-cons ops k Equal, missing', add-one) refl
+  pub first_behind : ((rest : List ℕ) → text ≢ written ++ rest)
+      → first_operator (drop (k + 1) ops) text ≡ first_operator (drop k ops) text
+  first_behind missing = elim (cases_Bool (same_text (take (length written) text) written)) [
+    | inl there ↦ absurd (missing _ (begins_with written text there))
+    | inr other ↦ rw (drop-cons ops k Equal, ← is, other, add-one) refl
+  ]
 
 -- ---- What it asks of a text.
 

@@ -67,31 +67,13 @@ module _ (at : Rest) where
       ap is_some (first_between_unfold at start last within)
       ∙ here_or (at start) _ (first_between at (start + 1) last)
 
-  pub nothing_past : (last : ℕ) → is_some (first_between at (last + 1) last) ≡ false
-  nothing_past last = ap is_some (first_between_past at (last + 1) last (omega arith))
+  pub nothing_past : (start last : ℕ) → last < start
+      → is_some (first_between at start last) ≡ false
+  nothing_past start last past = ap is_some (first_between_past at start last past)
 
   -- a search at one position
   pub at_one : (i : ℕ) → is_some (first_between at i i) ≡ is_some (at i)
   at_one i =
-      here_or_later i i (omega arith) ∙ ap (λ b. is_some (at i) || b) (nothing_past i)
+      here_or_later i i (omega arith)
+      ∙ ap (λ b. is_some (at i) || b) (nothing_past (i + 1) i (omega arith))
       ∙ or_nothing (is_some (at i))
-
-  -- ---- The search of a whole text, which goes from each position to the next.
-
-  pub goes_on : (found : Bool) (start last : ℕ) → start ≤ last → is_some (at start) ≡ false
-      → found ≡ is_some (first_between at start last)
-      → found ≡ is_some (first_between at (start + 1) last)
-  goes_on found start last within not_here so_far =
-      so_far ∙ here_or_later start last within
-      ∙ ap (λ b. b || is_some (first_between at (start + 1) last)) not_here
-
-  pub ends_here : (found : Bool) (start last : ℕ) → start ≤ last → is_some (at start) ≡ true
-      → found ≡ is_some (first_between at start last) → found ≡ true
-  ends_here found start last within here so_far =
-      so_far ∙ here_or_later start last within
-      ∙ ap (λ b. b || is_some (first_between at (start + 1) last)) here
-
-  pub ends_past : (found : Bool) (start last : ℕ) → last < start
-      → found ≡ is_some (first_between at start last) → found ≡ false
-  ends_past found start last past so_far =
-      so_far ∙ ap is_some (first_between_past at start last past)

@@ -1,11 +1,11 @@
 -- What a row says about the label set of a choice.
-use Rattle.std.proofs.Common.{◌≡◌, ℕ, zero, suc, ◌+◌, ◌<◌, Bool, true, false, ◌&&◌, List, [], ◌∷◌, length, map, get_or, Option, Some, None, option_map, unwrap_or, slice_get, slice_index, ap, sym, ◌∙◌, refl, inl, inr, arith}
+use Rattle.std.proofs.Common.{◌≡◌, ℕ, ◌<◌, Bool, true, false, ◌&&◌, List, [], ◌∷◌, length, map, get_or, Option, Some, None, option_map, unwrap_or, slice_get, slice_index, ap, sym, ◌∙◌, refl, inl, inr, arith}
 use Rattle.std.specs.Cmp.Lexicographic.{bytes_decides}
-use Rattle.std.specs.List.{position, position_from}
-use Rattle.std.proofs.lemmas.Bool.{cases_Bool, false≢true, lt-ltb}
+use Rattle.std.specs.List.{position, position_or_len}
+use Rattle.std.proofs.lemmas.Bool.{cases_lt, false≢true, lt-ltb}
 use Rattle.std.proofs.lemmas.List.{length-map, get_or-map}
 use Rattle.std.proofs.lemmas.List.Quantifiers.{position-Some}
-use Rattle.std.proofs.lemmas.Iterator.Adapters.{position_from-zero}
+use Rattle.std.proofs.lemmas.List.Sums.{fails_before_first}
 use Rattle.std.proofs.lemmas.Option.{slice_get-get_or}
 use Rattle.am_universe.specs.Text.{same_text}
 use Rattle.am_universe.specs.Universe.{Label, IsUniverse, sizes, values_at, label_position}
@@ -18,18 +18,13 @@ use Rattle.am_universe.proofs.LabelSetLemmas.{value_of_declared, value_of_undecl
 use Rattle.am_universe.proofs.UniverseLemmas.{no_label}
 use Rattle.am_universe.proofs.WholeChoiceLemmas.{admitted_at}
 
-none_from : {X : Type 0} (p : X → Bool) (i : ℕ) (xs : List X) → position_from p i xs ≡ None → (k : ℕ) (d : X) → k < length xs → p (get_or xs k d) ≡ false
-none_from p i [] e k d h = absurd (omega arith)
-none_from p i (x ∷ xs) e zero d h = elim (cases_Bool (p x)) [ inl passes ↦ let found : Some i ≡ None = rw passes at e in cc | inr fails ↦ fails ]
-none_from p i (x ∷ xs) e (suc k) d h =
-    elim (cases_Bool (p x)) [
-      | inl passes ↦ let found : Some i ≡ None = rw passes at e in cc
-      | inr fails ↦ none_from p (i + 1) xs (rw fails at e) k d (omega arith)
-    ]
-
 -- If there is no first index at which a test passes, it passes nowhere.
-none_passes : {X : Type 0} (p : X → Bool) (xs : List X) → position p xs ≡ None → (k : ℕ) (d : X) → k < length xs → p (get_or xs k d) ≡ false
-none_passes p xs e = none_from p 0 xs (sym (position_from-zero p xs) ∙ e)
+none_passes : {X : Type 0} (p : X → Bool) (xs : List X) → position p xs ≡ None → (k : ℕ) (d : X)
+    → k < length xs → p (get_or xs k d) ≡ false
+none_passes p xs e k d h = elim (cases_lt (position_or_len p xs) (length xs)) [
+  | inl found ↦ absurd (let some = rw (lt-ltb _ _ found) at e in cc)
+  | inr past ↦ fails_before_first p xs k d (omega (arith, past))
+]
 
 declared : (u : List Label) (c : List ℕ) (m : Condition) (i : ℕ) → IsUniverse u → IsWhole (sizes u) c → label_position u m.name ≡ Some i
     → condition_holds (label_set_of u c) m ≡ truth_among (Some i) (truths_of u m (Some i)) (slice_index c i)

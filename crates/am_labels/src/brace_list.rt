@@ -26,7 +26,7 @@ fn first_closing(text: &[u8]) -> Option<usize>
 {
     let mut state = QuoteState::start();
     for (i, byte) in text.iter().enumerate() {
-        if *byte == b'}' && !state.is_quoted() {
+        if state.is_outside(*byte, b'}') {
             return Some(i);
         }
         state = state.next(*byte);

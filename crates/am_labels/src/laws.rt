@@ -53,6 +53,7 @@ pub fn one_list_a_text()
 {}
 
 /// Words spell at most one list of matchers, and one word spells what it spells as a text.
+#[tactic(auto, using(crate::proofs::MatcherTextWhole::one_list_of_words))]
 pub fn one_list_of_words()
     ensures same_list { (words : List (List ℕ)) (ms ns : List Condition)
         → WordsSpell words ms → WordsSpell words ns → ms ≡ ns }
@@ -61,6 +62,7 @@ pub fn one_list_of_words()
 {}
 
 /// A text spells a list exactly if reading it step by step gives that list.
+#[tactic(auto, using(crate::proofs::MatcherTextWhole::list_is_read, crate::proofs::MatcherTextWhole::list_is_spelled))]
 pub fn texts_are_read()
     ensures exactly { (text : List ℕ) (ms : List Condition)
         → Spells text ms ↔ (read_list text ≡ Some ms) }

@@ -1,20 +1,20 @@
 //! Reading the text of a list of matchers.
 
-ghost use Rattle.std.specs.Prelude.{◌≡◌, ◌≢◌, ◌≤◌, List, [], length, map, IsTrue, IfOk, IfErr};
-ghost use Rattle.std.specs.Prelude.{IsOk, string_bytes};
-ghost use Rattle.std.specs.Str.{IsUtf8, IsAscii};
+ghost use Rattle.std.specs.Prelude.{◌≡◌, ◌≢◌, ◌≤◌, ◌<◌, [], ◌∷◌, length, map, IsTrue, IfOk, IfErr};
+ghost use Rattle.std.specs.Prelude.{string_bytes};
 ghost use Rattle.std.specs.List.{All, prefix_len};
+ghost use Rattle.am_universe.specs.Bytes.{backslash};
 ghost use Rattle.am_universe.specs.declared.kind.Kind.TheVariants as kinds;
 ghost use Rattle.am_labels.specs.Matcher as spec;
 ghost use Rattle.am_labels.specs.MatcherRefusals.{have_valid_patterns, PatternsRefusedFor};
 ghost use Rattle.am_labels.specs.MatcherRefusals.{WordsRefusedFor, TextRefusedFor};
 ghost use Rattle.am_labels.specs.MatcherText.{Spells, WordsSpell, is_blank, begins_name};
 ghost use Rattle.am_labels.specs.MatcherText.{continues_name, unescaped_text, matcher_pieces};
-ghost use Rattle.am_labels.specs.MatcherText.{without_opening, without_closing};
-ghost use Rattle.am_labels.specs.MatcherReading.{ReturnsReading, without_leading_blanks};
-ghost use Rattle.am_labels.specs.MatcherReading.{without_trailing_blanks, first_quote, read_body};
+ghost use Rattle.am_labels.specs.MatcherText.{without_opening, without_closing, has_escape};
+ghost use Rattle.am_labels.specs.MatcherText.{byte_of_escape};
+ghost use Rattle.am_labels.specs.MatcherReading.{ReturnsReading, first_quote, read_body};
 ghost use Rattle.am_labels.specs.MatcherReading.{read_operator, read_name, read_piece};
-ghost use Rattle.am_labels.specs.MatcherReading.{read_each_piece, read_list, read_words};
+ghost use Rattle.am_labels.specs.MatcherReading.{read_each_piece, read_words};
 
 use crate::limits::MAX_MATCHERS;
 use crate::quotes::QuoteState;
@@ -67,7 +67,7 @@ pub(crate) fn parse_words(alloc: Global, words: &[&str]) -> Result<Matchers, Kin
     ensures refused { IfErr result (λ kind. kind ≢ kinds.Memory
         → WordsRefusedFor (map (λ word. word.now) words.now) kind) }
 {
-    let list = read_list(alloc, words)?;
+    let list = read_words(alloc, words)?;
     if list.len() > MAX_MATCHERS {
         return Err(Kind::Limit);
     }
@@ -92,93 +92,59 @@ fn matchers_of(alloc: Global, list: Vec<Condition>) -> Result<Matchers, Kind>
 
 /// Reads the list of matchers that words spell, however long. Fails with `BadMatcher` if they spell
 /// none, and with `Memory` if memory runs out.
-fn read_list(alloc: Global, words: &[&str]) -> Result<Vec<Condition>, Kind>
-    ensures spelled { IfOk result (λ list.
-        WordsSpell (map (λ word. word.now) words.now) list.items) }
-    ensures only { (ms : List spec.Condition) → WordsSpell (map (λ word. word.now) words.now) ms
-        → IfOk result (λ list. list.items ≡ ms) }
-    ensures named { IfOk result (λ list. All (λ m. m.name ≢ []) list.items) }
-    ensures refused { IfErr result (λ kind. kind ≢ kinds.Memory → (kind ≡ kinds.BadMatcher)
-        × ((ms : List spec.Condition) → WordsSpell (map (λ word. word.now) words.now) ms → ⊥)) }
-{
-    read_words(alloc, words)
-}
-
-// Does the work of `read_list`. The contract here names the function that is computed; that of
-// `read_list` says what the words spell.
 fn read_words(alloc: Global, words: &[&str]) -> Result<Vec<Condition>, Kind>
     ensures { ReturnsReading (λ list. list.items) result
         (read_words (map (λ word. word.now) words.now)) }
 {
     if words.len() == 1 {
-        read_text(alloc, words[0])
+        let pieces = pieces_of(alloc, without_closing(without_opening(words[0])))?;
+        read_pieces(alloc, pieces.as_slice())
     } else {
-        read_each_word(alloc, words)
+        read_pieces(alloc, words)
     }
-}
-
-/// Reads each word as one piece.
-fn read_each_word(alloc: Global, words: &[&str]) -> Result<Vec<Condition>, Kind>
-    ensures { ReturnsReading (λ list. list.items) result
-        (read_each_piece (map (λ word. word.now) words.now)) }
-{
-    let mut list = Vec::new(alloc);
-    for word in words {
-        list.push(read_piece(alloc, word.as_bytes())?)?;
-    }
-    Ok(list)
-}
-
-/// Reads the text of a list.
-#[tactic(auto, unfolding(crate::specs::MatcherReading::read_list))]
-fn read_text(alloc: Global, text: &str) -> Result<Vec<Condition>, Kind>
-    ensures { ReturnsReading (λ list. list.items) result (read_list text.now) }
-{
-    read_pieces(alloc, without_closing(without_opening(text.as_bytes())))
 }
 
 /// The text without a `{` at its very beginning.
-fn without_opening(text: &[u8]) -> &[u8]
+fn without_opening(text: &str) -> &str
     ensures { result.now ≡ without_opening text.now }
 {
-    match text {
-        [b'{', rest @ ..] => rest,
+    match text.as_bytes() {
+        [b'{', ..] => &text[1..],
         _ => text,
     }
 }
 
 /// The text without a `}` at its very end.
-fn without_closing(text: &[u8]) -> &[u8]
+fn without_closing(text: &str) -> &str
     ensures { result.now ≡ without_closing text.now }
 {
-    match text {
-        [front @ .., b'}'] => front,
+    match text.as_bytes() {
+        [.., b'}'] => &text[..text.len() - 1],
         _ => text,
     }
 }
 
-/// Cuts the text at each comma outside quoted parts, and reads each piece. A blank last piece is
+/// The pieces of the text, which is cut at each comma outside quoted parts. A blank last piece is
 /// ignored.
-fn read_pieces(alloc: Global, text: &[u8]) -> Result<Vec<Condition>, Kind>
-    requires { IsUtf8 text.now }
-    ensures { ReturnsReading (λ list. list.items) result
-        (read_each_piece (matcher_pieces text.now)) }
+fn pieces_of(alloc: Global, text: &str) -> Result<Vec<&str>, AllocError>
+    ensures { IfOk result (λ pieces.
+        map (λ piece. piece.now) pieces.items ≡ matcher_pieces text.now) }
 {
-    let mut list = Vec::new(alloc);
+    let mut pieces = Vec::new(alloc);
     let mut start = 0;
     let mut state = QuoteState::start();
-    for (i, byte) in text.iter().enumerate() {
-        if *byte == b',' && !state.is_quoted() {
-            list.push(read_piece(alloc, &text[start..i])?)?;
+    for (i, byte) in text.as_bytes().iter().enumerate() {
+        if state.is_outside(*byte, b',') {
+            pieces.push(&text[start..i])?;
             start = i + 1;
         }
         state = state.next(*byte);
     }
     let last = &text[start..];
-    if !is_blank(last) {
-        list.push(read_piece(alloc, last)?)?;
+    if !is_blank(last.as_bytes()) {
+        pieces.push(last)?;
     }
-    Ok(list)
+    Ok(pieces)
 }
 
 fn is_blank(text: &[u8]) -> bool
@@ -187,33 +153,28 @@ fn is_blank(text: &[u8]) -> bool
     text.iter().all(|byte| byte.is_ascii_whitespace())
 }
 
+/// Reads pieces one by one.
+fn read_pieces(alloc: Global, pieces: &[&str]) -> Result<Vec<Condition>, Kind>
+    ensures { ReturnsReading (λ list. list.items) result
+        (read_each_piece (map (λ piece. piece.now) pieces.now)) }
+{
+    let mut list = Vec::new(alloc);
+    for piece in pieces {
+        list.push(read_piece(alloc, piece)?)?;
+    }
+    Ok(list)
+}
+
 /// Reads one piece: a name, an operator and a value. Each may have whitespace around it.
-fn read_piece(alloc: Global, piece: &[u8]) -> Result<Condition, Kind>
-    requires { IsUtf8 piece.now }
+fn read_piece(alloc: Global, piece: &str) -> Result<Condition, Kind>
     ensures { ReturnsReading (λ m. m) result (read_piece piece.now) }
 {
-    let (name, rest) = read_name(trim_start(piece))?;
-    let (op, rest) = read_operator(trim_start(rest))?;
-    let body = read_body(trim_end(trim_start(rest)))?;
-    let name = text_from(Vec::from_slice(alloc, name)?)?;
-    let value = text_from(unescape(alloc, body)?)?;
+    let (name, rest) = read_name(piece.trim_ascii_start())?;
+    let (op, rest) = read_operator(rest.trim_ascii_start())?;
+    let body = read_body(rest.trim_ascii())?;
+    let name = String::from_str(alloc, name)?;
+    let value = unescape(alloc, body)?;
     Ok(Condition { name, op, value })
-}
-
-/// The text without its leading whitespace.
-fn trim_start(text: &[u8]) -> &[u8]
-    ensures value { result.now ≡ without_leading_blanks text.now }
-    ensures utf8 { IsUtf8 text.now → IsUtf8 result.now }
-{
-    text.trim_ascii_start()
-}
-
-/// The text without its trailing whitespace.
-fn trim_end(text: &[u8]) -> &[u8]
-    ensures value { result.now ≡ without_trailing_blanks text.now }
-    ensures utf8 { IsUtf8 text.now → IsUtf8 result.now }
-{
-    text.trim_ascii_end()
 }
 
 /// Whether a name may begin with the byte.
@@ -232,13 +193,11 @@ fn continues_name(byte: u8) -> bool
 
 /// The name that the text begins with, and what follows it.
 #[tactic(auto, unfolding(crate::specs::MatcherReading::read_name))]
-fn read_name(text: &[u8]) -> Result<(&[u8], &[u8]), Kind>
-    ensures value { ReturnsReading (λ x. (x.0.now, x.1.now)) result (read_name text.now) }
-    ensures ascii { IfOk result (λ x. IsAscii x.0.now) }
-    ensures utf8 { IfOk result (λ x. IsUtf8 text.now → IsUtf8 x.1.now) }
+fn read_name(text: &str) -> Result<(&str, &str), Kind>
+    ensures { ReturnsReading (λ x. (x.0.now, x.1.now)) result (read_name text.now) }
 {
-    match text {
-        [first, ..] if begins_name(*first) => Ok(text.split_at(name_len(text))),
+    match text.as_bytes() {
+        [first, ..] if begins_name(*first) => Ok(text.split_at(name_len(text.as_bytes()))),
         _ => Err(Kind::BadMatcher),
     }
 }
@@ -254,12 +213,11 @@ fn name_len(text: &[u8]) -> usize
 }
 
 /// The operator that the text begins with, and what follows it.
-fn read_operator(text: &[u8]) -> Result<(Op, &[u8]), Kind>
-    ensures value { ReturnsReading (λ x. (x.0, x.1.now)) result (read_operator text.now) }
-    ensures utf8 { IfOk result (λ x. IsUtf8 text.now → IsUtf8 x.1.now) }
+fn read_operator(text: &str) -> Result<(Op, &str), Kind>
+    ensures { ReturnsReading (λ x. (x.0, x.1.now)) result (read_operator text.now) }
 {
     for op in &Op::ALL {
-        if let Some(rest) = text.strip_prefix(op.text().as_bytes()) {
+        if let Some(rest) = text.strip_prefix(op.text()) {
             return Ok((*op, rest));
         }
     }
@@ -268,21 +226,20 @@ fn read_operator(text: &[u8]) -> Result<(Op, &[u8]), Kind>
 
 /// The body of a raw value: the text between its quotes, or all of it if it begins with no quote.
 #[tactic(auto, unfolding(crate::specs::MatcherReading::read_body))]
-fn read_body(raw: &[u8]) -> Result<&[u8], Kind>
-    ensures value { ReturnsReading (λ x. x.now) result (read_body raw.now) }
-    ensures utf8 { IfOk result (λ body. IsUtf8 raw.now → IsUtf8 body.now) }
+fn read_body(raw: &str) -> Result<&str, Kind>
+    ensures { ReturnsReading (λ x. x.now) result (read_body raw.now) }
 {
-    match raw {
-        [b'"', rest @ ..] => {
-            let end = first_quote(rest);
+    match raw.strip_prefix('"') {
+        Some(rest) => {
+            let end = first_quote(rest.as_bytes());
             if end + 1 == rest.len() {
                 Ok(&rest[..end])
             } else {
                 Err(Kind::BadMatcher)
             }
         }
-        _ => {
-            if first_quote(raw) == raw.len() {
+        None => {
+            if first_quote(raw.as_bytes()) == raw.len() {
                 Ok(raw)
             } else {
                 Err(Kind::BadMatcher)
@@ -307,39 +264,44 @@ fn first_quote(text: &[u8]) -> usize
 }
 
 /// A body without its escapes.
-fn unescape(alloc: Global, body: &[u8]) -> Result<Vec<u8>, AllocError>
-    ensures { IfOk result (λ value. value.items ≡ unescaped_text body.now) }
+fn unescape(alloc: Global, body: &str) -> Result<String, AllocError>
+    ensures { IfOk result (λ value. string_bytes value ≡ unescaped_text body.now) }
 {
-    let mut value = Vec::new(alloc);
+    let mut value = String::new(alloc);
     let mut rest = body;
-    while let [byte, after @ ..] = rest {
-        rest = match (*byte, after) {
-            (b'\\', [b'n', more @ ..]) => {
-                value.push(b'\n')?;
-                more
-            }
-            (b'\\', [next @ (b'"' | b'\\'), more @ ..]) => {
-                value.push(*next)?;
-                more
-            }
-            _ => {
-                value.push(*byte)?;
-                after
-            }
-        };
+    while let Some((plain, behind)) = rest.split_once('\\') {
+        value.push_str(plain)?;
+        let (character, more) = read_escape(behind);
+        value.push(character)?;
+        rest = more;
     }
+    value.push_str(rest)?;
     Ok(value)
 }
 
-/// The text of these bytes.
-fn text_from(bytes: Vec<u8>) -> Result<String, Kind>
-    requires { IsUtf8 bytes.items }
-    ensures ok { IfOk result (λ text. string_bytes text ≡ bytes.items) }
-    ensures always { IsOk result }
+/// What a backslash before the text stands for, and what follows it.
+fn read_escape(text: &str) -> (char, &str)
+    ensures ascii { result.0 < 128 }
+    ensures within { length result.1.now ≤ length text.now }
+    ensures value { unescaped_text (backslash ∷ text.now)
+        ≡ result.0 ∷ unescaped_text result.1.now }
 {
-    match String::from_utf8(bytes) {
-        Ok(text) => Ok(text),
-        // This cannot happen: a part that is cut from a text at ASCII bytes is UTF-8.
-        Err(_) => Err(Kind::BadMatcher),
+    match text.as_bytes() {
+        [first, ..] if has_escape(*first) => (escape_of(*first), &text[1..]),
+        _ => ('\\', text),
     }
+}
+
+/// Whether a backslash escapes the byte.
+fn has_escape(byte: u8) -> bool
+    ensures { result ≡ has_escape byte }
+{
+    matches!(byte, b'"' | b'\\' | b'n')
+}
+
+/// The character that an escaped byte stands for.
+fn escape_of(byte: u8) -> char
+    ensures { result ≡ byte_of_escape byte }
+{
+    if byte == b'n' { '\n' } else { char::from(byte) }
 }

@@ -1,6 +1,6 @@
 //! Quoted parts and escapes of a matcher text.
 
-ghost use Rattle.std.specs.Prelude.{◌≡◌, ◌+◌, ◌<◌, ℕ, List, length, slice_index};
+ghost use Rattle.std.specs.Prelude.{◌≡◌, ◌+◌, ◌<◌, ◌==◌, ◌&&◌, ℕ, List, length, slice_index, not};
 ghost use Rattle.am_labels.specs.MatcherText.{is_quote, is_quoted};
 ghost use Rattle.am_labels.specs.QuoteState.{IsStateAt};
 
@@ -48,10 +48,11 @@ impl QuoteState {
         byte == b'"' && !self.escaped
     }
 
-    /// Whether the index is in a quoted part.
-    pub(crate) fn is_quoted(self) -> bool
-        ensures { (text : List ℕ) (i : ℕ) → IsStateAt text i self → result ≡ is_quoted text i }
+    /// Whether the byte at the index is the wanted one, outside quoted parts.
+    pub(crate) fn is_outside(self, byte: u8, wanted: u8) -> bool
+        ensures { (text : List ℕ) (i : ℕ) → slice_index text i ≡ byte → IsStateAt text i self
+            → result ≡ (slice_index text i == wanted && not (is_quoted text i)) }
     {
-        self.quoted
+        byte == wanted && !self.quoted
     }
 }

@@ -45,6 +45,12 @@ pub read_backslash : read_quoted (92 ∷ []) ≡ None
 unfolding read_quoted
 read_backslash = refl
 
+pub escape_ascii : (d : ℕ) → has_escape d ≡ true → byte_of_escape d < 128
+escape_ascii d h = grind (arith, nat_tests)
+
+pub escaped_ascii : (d : ℕ) → has_escape d ≡ true → d < 128
+escaped_ascii d h = grind (arith, nat_tests)
+
 -- ---- a run of bytes that stand for themselves, and what follows it
 
 abbrev pub begun_with_run : List ℕ → Option (List ℕ × List ℕ) → Option (List ℕ × List ℕ)

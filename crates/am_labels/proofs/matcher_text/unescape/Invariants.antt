@@ -1,9 +1,13 @@
-use Rattle.std.proofs.Common.{◌≡◌, ◌++◌, length}
+use Rattle.std.proofs.Common.{◌≡◌, ◌++◌, length, string_bytes}
+use denote.Text.{Utf8}
+use denote.Shadow.{shadow}
 use Rattle.am_labels.specs.MatcherText.{unescaped_text}
 use Rattle.am_labels.proofs.matcher_text.unescape.Given as goal
 
-abbrev pub invariant-loop-rest : goal.invariant-loop-rest
-invariant-loop-rest l = l.value.items ++ unescaped_text l.rest ≡ unescaped_text l.body
+abbrev pub invariant-loop-plain : goal.invariant-loop-plain
+invariant-loop-plain l =
+    shadow (Utf8 l.rest)
+    × (string_bytes l.value ++ unescaped_text l.rest ≡ unescaped_text l.body)
 
-abbrev pub decreases-loop-rest : goal.decreases-loop-rest
-decreases-loop-rest l = length l.rest
+abbrev pub decreases-loop-plain : goal.decreases-loop-plain
+decreases-loop-plain l = length l.rest

@@ -7,10 +7,9 @@ use Rattle.std.specs.String.{string_bytes}
 use Rattle.std.specs.List.{prefix_len}
 use Rattle.am_labels.specs.MatcherText.{has_escape, byte_of_escape}
 use Rattle.am_questions.specs.Lexemes.{is_plain}
-use Rattle.am_labels.proofs.MatcherTextUtf8.{escape_ascii, escaped_ascii}
 use Rattle.am_questions.proofs.Boundaries.{behind_plain}
 use Rattle.am_questions.proofs.QuotedTexts.{quote_closes, escape_goes_on, no_escape_here}
-use Rattle.am_questions.proofs.QuotedTexts.{quote_is_missing}
+use Rattle.am_questions.proofs.QuotedTexts.{quote_is_missing, escape_ascii, escaped_ascii}
 use Rattle.am_questions.proofs.lexemes.read_quoted.Goals as goal
 
 pub range-requires-clause-end_boundary : goal.range-requires-clause-end_boundary

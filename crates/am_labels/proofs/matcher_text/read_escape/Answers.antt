@@ -1,0 +1,10 @@
+use Rattle.std.proofs.Common.{arith}
+use Rattle.std.proofs.lemmas.Grind.{common_steps}
+use Rattle.std.proofs.lemmas.Str.{IsCharBoundary-after_ascii}
+use Rattle.am_labels.proofs.MatcherTextCuts.{escaped_ascii}
+use Rattle.am_labels.proofs.matcher_text.read_escape.Goals as goal
+
+pub range_from-requires : goal.range_from-requires
+range_from-requires c =
+    λ _. IsCharBoundary-after_ascii c.args.text.now 0 c.utf8.text (grind (arith, common_steps))
+    (grind (arith, common_steps, escaped_ascii))
