@@ -3,6 +3,9 @@ use Rattle.std.proofs.Common.{◌≡◌, ◌≢◌, ℕ, List, [], ◌∷◌, �
 use Rattle.std.proofs.Common.{◌∙◌, append_assoc, append-nil, option_map, arith}
 use Rattle.std.specs.List.{find}
 use Rattle.std.proofs.lemmas.Option.{some_pair_parts}
+use Rattle.std.proofs.lemmas.List.{nil_from_length, length-map}
+use Rattle.std.proofs.lemmas.Bool.{eqb-true}
+use Rattle.std.proofs.lemmas.Result.{err_from_is_err_and}
 use Rattle.std.proofs.lemmas.Grind.{common_steps}
 use Rattle.am_universe.specs.Text.{same_text}
 use Rattle.am_universe.specs.declared.kind.Kind.{Kind}
@@ -217,6 +220,9 @@ whole_read {ts = ts} {q = q} is =
 
 pub one_tree : (ts : List Lexeme) (q r : Tree Written) → IsQuestion ts q → IsQuestion ts r → q ≡ r
 one_tree ts q r one other = (same_read (whole_read one) (whole_read other) refl).0
+
+pub ruleset whole_lists =
+    (err_from_is_err_and, nil_from_length, eqb-true, length-map, whole_front, whole_read, same_read)
 
 -- ---- What the code reads: questions that a connective joins.
 

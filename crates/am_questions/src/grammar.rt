@@ -50,6 +50,7 @@ pub(crate) enum Written<'a> {
 
 /// Reads the tree that the lexemes make. Fails with `QuestionSyntax` if they make none, and with
 /// `Memory` if memory runs out.
+#[tactic(auto, using(crate::proofs::Fronts::whole_lists))]
 pub(crate) fn read_tree<'a>(alloc: Global, lexemes: &'a [Lexeme<'a>]) -> Result<Tree<'a>, Kind>
     ensures read { IfOk result (λ tree.
         spec.IsQuestion (map lexeme_view lexemes.now) (tree_view tree)) }
@@ -67,6 +68,7 @@ pub(crate) fn read_tree<'a>(alloc: Global, lexemes: &'a [Lexeme<'a>]) -> Result<
 
 /// Reads the questions that a connective joins, to the left, or one question alone. Returns their
 /// tree and the lexemes after them.
+#[tactic(auto, using(crate::proofs::Fronts::first_read, crate::proofs::Fronts::next_read, crate::proofs::TreeSeen::view_joined))]
 #[cycle(questions)]
 fn read_joined<'a>(
     alloc: Global,
@@ -80,7 +82,7 @@ fn read_joined<'a>(
         Refuses kind (Reads (JoinedBy connective) (map lexeme_view lexemes.now))) }
 {
     let (mut tree, mut rest) = read_operand(alloc, connective, lexemes)?;
-    while let Some(behind) = behind_word(rest, connective_word(connective)) {
+    while let Some(behind) = behind_lexeme(rest, &Lexeme::Word(connective_word(connective))) {
         let (right, behind) = read_operand(alloc, connective, behind)?;
         tree = Tree::Joined(connective, Box::new(alloc, tree)?, Box::new(alloc, right)?);
         rest = behind;
@@ -109,6 +111,7 @@ fn read_operand<'a>(
 }
 
 /// Reads a question that no connective joins. Returns its tree and the lexemes after it.
+#[tactic(auto, using(crate::proofs::Fronts::part_missing))]
 #[cycle(questions)]
 fn read_single<'a>(
     alloc: Global,
@@ -120,14 +123,14 @@ fn read_single<'a>(
     ensures refused { IfErr result (λ kind.
         Refuses kind (Reads Single (map lexeme_view lexemes.now))) }
 {
-    if let Some(behind) = behind_word(lexemes, "not") {
+    if let Some(behind) = behind_lexeme(lexemes, &Lexeme::Word("not")) {
         let (tree, rest) = read_single(alloc, behind)?;
         return Ok((Tree::Not(Box::new(alloc, tree)?), rest));
     }
-    match behind_open(lexemes) {
+    match behind_lexeme(lexemes, &Lexeme::Open) {
         Some(behind) => {
             let (tree, rest) = read_joined(alloc, Connective::Or, behind)?;
-            match behind_close(rest) {
+            match behind_lexeme(rest, &Lexeme::Close) {
                 Some(rest) => Ok((tree, rest)),
                 None => Err(Kind::QuestionSyntax),
             }
@@ -245,54 +248,29 @@ fn is_path(word: &str) -> bool
     !matches!(Path::parse(word), Err(Kind::QuestionSyntax))
 }
 
-/// The lexemes after a word, if it is the first lexeme.
-fn behind_word<'a>(lexemes: &'a [Lexeme<'a>], word: &str) -> Option<&'a [Lexeme<'a>]>
+/// The lexemes after the wanted one, if it is the first lexeme.
+fn behind_lexeme<'a>(lexemes: &'a [Lexeme<'a>], wanted: &Lexeme<'_>) -> Option<&'a [Lexeme<'a>]>
     ensures behind { IfSome result (λ rest. map lexeme_view lexemes.now
-        ≡ lexeme.Word word.now ∷ map lexeme_view rest.now) }
+        ≡ lexeme_view wanted.now ∷ map lexeme_view rest.now) }
     ensures shorter { IfSome result (λ rest. length rest.now < length lexemes.now) }
     ensures other { IfNone result ((rest : List lexeme.Lexeme)
-        → map lexeme_view lexemes.now ≢ lexeme.Word word.now ∷ rest) }
+        → map lexeme_view lexemes.now ≢ lexeme_view wanted.now ∷ rest) }
 {
     match lexemes {
-        [first, rest @ ..] if is_word(first, word) => Some(rest),
+        [first, rest @ ..] if is_same(first, wanted) => Some(rest),
         _ => None,
     }
 }
 
-/// Whether a lexeme is this word.
-fn is_word(first: &Lexeme<'_>, word: &str) -> bool
-    ensures { IsTrue result ↔ (lexeme_view first.now ≡ lexeme.Word word.now) }
+/// Whether two lexemes are the same.
+fn is_same(one: &Lexeme<'_>, other: &Lexeme<'_>) -> bool
+    ensures { IsTrue result ↔ (lexeme_view one.now ≡ lexeme_view other.now) }
 {
-    match first {
-        Lexeme::Word(text) => *text == word,
+    match (one, other) {
+        (Lexeme::Open, Lexeme::Open) | (Lexeme::Close, Lexeme::Close) => true,
+        (Lexeme::Word(one), Lexeme::Word(other)) => one == other,
+        (Lexeme::Quoted(one), Lexeme::Quoted(other)) => one == other,
+        (Lexeme::Braces(one), Lexeme::Braces(other)) => one == other,
         _ => false,
-    }
-}
-
-/// The lexemes after an opening parenthesis, if it is the first lexeme.
-fn behind_open<'a>(lexemes: &'a [Lexeme<'a>]) -> Option<&'a [Lexeme<'a>]>
-    ensures behind { IfSome result (λ rest. map lexeme_view lexemes.now
-        ≡ lexeme.Open ∷ map lexeme_view rest.now) }
-    ensures shorter { IfSome result (λ rest. length rest.now < length lexemes.now) }
-    ensures other { IfNone result ((rest : List lexeme.Lexeme)
-        → map lexeme_view lexemes.now ≢ lexeme.Open ∷ rest) }
-{
-    match lexemes {
-        [Lexeme::Open, rest @ ..] => Some(rest),
-        _ => None,
-    }
-}
-
-/// The lexemes after a closing parenthesis, if it is the first lexeme.
-fn behind_close<'a>(lexemes: &'a [Lexeme<'a>]) -> Option<&'a [Lexeme<'a>]>
-    ensures behind { IfSome result (λ rest. map lexeme_view lexemes.now
-        ≡ lexeme.Close ∷ map lexeme_view rest.now) }
-    ensures shorter { IfSome result (λ rest. length rest.now < length lexemes.now) }
-    ensures other { IfNone result ((rest : List lexeme.Lexeme)
-        → map lexeme_view lexemes.now ≢ lexeme.Close ∷ rest) }
-{
-    match lexemes {
-        [Lexeme::Close, rest @ ..] => Some(rest),
-        _ => None,
     }
 }

@@ -1,10 +1,9 @@
-use Rattle.std.proofs.Common.{refl, arith}
+use Rattle.std.proofs.Common.{refl}
 use Rattle.std.proofs.lemmas.Result.{err_from_is_err_and}
-use Rattle.std.proofs.lemmas.Grind.{common_steps}
-use Rattle.am_questions.proofs.Fronts.{first_read, next_read, all_read, refused_for, first_missing}
+use Rattle.am_questions.proofs.Fronts.{all_read, refused_for, first_missing}
 use Rattle.am_questions.proofs.Fronts.{next_missing, not_missing, inside_missing, close_missing}
-use Rattle.am_questions.proofs.Fronts.{part_missing, not_read, inside_read, part_read}
-use Rattle.am_questions.proofs.TreeSeen.{view_part, view_not, view_joined}
+use Rattle.am_questions.proofs.Fronts.{not_read, inside_read, part_read}
+use Rattle.am_questions.proofs.TreeSeen.{view_part, view_not}
 use Rattle.am_questions.proofs.grammar.+questions.Goals as goal
 
 -- ---- read_joined
@@ -14,12 +13,6 @@ pub read_joined-returns-in_err-tree-clause-refused :
 read_joined-returns-in_err-tree-clause-refused t c =
     let p = err_from_is_err_and c.from_residual.result c.from_residual.ensures.1 in
     rw (p.1, p.2) (refused_for first_missing c.in_err-tree.ensures.refused)
-
-pub read_joined-loop-behind-init : goal.read_joined-loop-behind-init
-read_joined-loop-behind-init t c = grind (arith, common_steps, first_read)
-
-pub read_joined-loop-behind-preserved : goal.read_joined-loop-behind-preserved
-read_joined-loop-behind-preserved t c = grind (arith, common_steps, next_read, view_joined)
 
 pub read_joined-returns-in_err-right-clause-refused :
     goal.read_joined-returns-in_err-right-clause-refused
@@ -56,32 +49,29 @@ read_single-returns-in-Some-clause-taken t c =
     rw (view_not c.in_ok-tree.tree c.in_ok-new.field-0 c.in_ok-new.ensures.ok)
     (not_read c.in-Some.ensures.behind c.in_ok-tree.ensures.taken)
 
-pub read_single-returns-in_err-tree-in-Some-behind_open-clause-refused :
-    goal.read_single-returns-in_err-tree-in-Some-behind_open-clause-refused
-read_single-returns-in_err-tree-in-Some-behind_open-clause-refused t c =
-    let p = err_from_is_err_and c.from_residual-in_err-tree-in-Some-behind_open.result
-    c.from_residual-in_err-tree-in-Some-behind_open.ensures.1 in
-    rw (p.1, p.2) (refused_for (inside_missing c.in-Some-behind_open.ensures.behind)
-    c.in_err-tree-in-Some-behind_open.ensures.refused)
+pub read_single-returns-in_err-tree-in-Some-behind_lexeme-clause-refused :
+    goal.read_single-returns-in_err-tree-in-Some-behind_lexeme-clause-refused
+read_single-returns-in_err-tree-in-Some-behind_lexeme-clause-refused t c =
+    let p = err_from_is_err_and c.from_residual-in_err-tree-in-Some-behind_lexeme.result
+    c.from_residual-in_err-tree-in-Some-behind_lexeme.ensures.1 in
+    rw (p.1, p.2) (refused_for (inside_missing c.in-Some-behind_lexeme.ensures.behind)
+    c.in_err-tree-in-Some-behind_lexeme.ensures.refused)
 
-pub read_single-returns-in-Some-behind_close-clause-taken :
-    goal.read_single-returns-in-Some-behind_close-clause-taken
-read_single-returns-in-Some-behind_close-clause-taken t c =
-    inside_read c.in-Some-behind_open.ensures.behind
-    c.in_ok-tree-in-Some-behind_open.ensures.taken c.in-Some-behind_close.ensures.behind
+pub read_single-returns-in-Some-behind_lexeme-2-clause-taken :
+    goal.read_single-returns-in-Some-behind_lexeme-2-clause-taken
+read_single-returns-in-Some-behind_lexeme-2-clause-taken t c =
+    inside_read c.in-Some-behind_lexeme.ensures.behind
+    c.in_ok-tree-in-Some-behind_lexeme.ensures.taken c.in-Some-behind_lexeme-2.ensures.behind
 
-pub read_single-returns-in-Some-behind_open-clause-refused :
-    goal.read_single-returns-in-Some-behind_open-clause-refused
-read_single-returns-in-Some-behind_open-clause-refused t c = λ _. (
+pub read_single-returns-in-Some-behind_lexeme-clause-refused :
+    goal.read_single-returns-in-Some-behind_lexeme-clause-refused
+read_single-returns-in-Some-behind_lexeme-clause-refused t c = λ _. (
   refl,
-  close_missing c.in-Some-behind_open.ensures.behind
-      c.in_ok-tree-in-Some-behind_open.ensures.taken c.in-None-behind_close.ensures.other,
+  close_missing c.in-Some-behind_lexeme.ensures.behind
+      c.in_ok-tree-in-Some-behind_lexeme.ensures.taken c.in-None-behind_lexeme.ensures.other,
 )
 
 pub read_single-returns-in-Some-read_part-clause-taken :
     goal.read_single-returns-in-Some-read_part-clause-taken
 read_single-returns-in-Some-read_part-clause-taken t c =
     rw (view_part c.in-Some-read_part.part) (part_read c.in-Some-read_part.ensures.taken)
-
-pub read_single-returns-clause-refused : goal.read_single-returns-clause-refused
-read_single-returns-clause-refused t c = grind (arith, common_steps, part_missing)
