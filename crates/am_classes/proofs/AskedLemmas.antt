@@ -1,16 +1,17 @@
 -- The values of matchers, with one more matcher.
-use Rattle.std.proofs.Common.{◌≡◌, ◌+◌, ◌<◌, ◌≤◌, ℕ, List, [], ◌∷◌, ◌++◌, Some, slice_get, length, inl, inr, refl, ap, sym, subst, ◌∙◌, ◌⊎◌, arith, IsTrue}
-use Rattle.std.specs.List.{list_any}
+use Rattle.std.proofs.Common.{◌≡◌, ◌+◌, ◌<◌, ◌≤◌, ℕ, List, [], ◌∷◌, ◌++◌, Some, slice_get, length, inl, inr, refl, ap, sym, subst, ◌∙◌, ◌⊎◌, arith, IsTrue, length-append}
+use Rattle.std.specs.List.{list_any, AllByRecursion}
 use Rattle.std.specs.Str.{bytes_eq}
 use Rattle.std.proofs.Common.{true, zero, suc}
 use Rattle.std.proofs.lemmas.Bool.{cases_Bool}
+use Rattle.std.proofs.lemmas.List.{length-map}
 use Rattle.std.proofs.lemmas.Slice.Eq.{bytes_eq-Decides}
 use Rattle.std.proofs.lemmas.Option.{same_Some}
 use Rattle.std.proofs.lemmas.Grind.{common_steps}
 use Rattle.am_universe.proofs.ListLemmas.{IsIn}
 use Rattle.am_universe.proofs.Members.{at_in, in_at}
 use Rattle.am_labels.specs.declared.op.Comparison.{Comparison}
-use Rattle.am_labels.specs.declared.op.Comparison.TheVariants.{Text}
+use Rattle.am_labels.specs.declared.op.Comparison.TheVariants.{Text, Pattern}
 use Rattle.am_labels.specs.Matcher.{Condition, comparison}
 use Rattle.am_labels.proofs.Passing.{any_in, in_any}
 use Rattle.am_classes.specs.Alike.{HasPattern}
@@ -119,6 +120,8 @@ one_of_all [] text k e = absurd cc
 one_of_all (x ∷ xs) text zero e = grind (arith, common_steps, same_Some)
 one_of_all (x ∷ xs) text (suc k) e = grind (arith, common_steps, one_of_all xs text k e)
 
+pub ruleset no_longer = (length_of_all, one_of_all, length-append)
+
 -- If some values are not compared as texts, one of the matchers takes a pattern.
 pub has_pattern : (a : Alphabet) (ms : List Condition) (so : Comparison) (values : List (List ℕ))
     → AreValues a ms so values → (so ≡ Text → ⊥) → 0 < length values → HasPattern ms
@@ -126,3 +129,15 @@ has_pattern a ms so [] h other some = absurd (omega (arith, some))
 has_pattern a ms so (value ∷ values) h other some =
     let from = h.from 0 value refl in
     (from.1, contains_from_get ms from.1 from.0 from.2, λ text. other (sym from.3 ∙ text))
+
+-- Each matcher compares with a text or with a pattern.
+pub known : (so : Comparison) → (so ≡ Text) ⊎ (so ≡ Pattern)
+known Text = inl refl
+known Pattern = inr refl
+
+pub all_known : (ms : List Condition)
+    → AllByRecursion (λ m. (comparison m.op ≡ Text) ⊎ (comparison m.op ≡ Pattern)) ms
+all_known [] = tt
+all_known (m ∷ ms) = (known (comparison m.op), all_known ms)
+
+pub ruleset of_questions = (all_known, has_pattern, length-map)

@@ -1,8 +1,9 @@
 -- Many patterns, with one more.
 use Rattle.std.proofs.Common.{◌≡◌, ℕ, ◌+◌, ◌∷◌, ◌<◌, Some, slice_get, List, [], ◌++◌, length, map, arith}
 use Rattle.std.proofs.Common.{take, get_or, ap, option_map, ◌∙◌}
-use Rattle.std.proofs.lemmas.Option.{same_Some, slice_get-map}
+use Rattle.std.proofs.lemmas.Option.{same_Some, slice_get-map, slice_get_read, slice_get-get_or}
 use Rattle.std.proofs.lemmas.Grind.{common_steps}
+use Rattle.am_universe.proofs.Members.{in_at}
 use Rattle.am_scan.specs.declared.pattern_automaton.PatternAutomaton.{PatternAutomaton}
 use Rattle.am_scan.specs.Automaton.{number_of}
 use Rattle.am_scan.proofs.Places.{get_pushed, map_front, map_same}
@@ -40,3 +41,5 @@ pub classes_more : (automata : List PatternAutomaton) (classes all : List ℕ) (
     → AreClasses automata classes → AreClasses automata all
 classes_more automata classes all class byte count is make said = λ b one at.
     grind (arith, common_steps, get_pushed)
+
+pub ruleset more_numbers = (slice_get_read, slice_get-get_or, mapped_more, number_at, in_at)

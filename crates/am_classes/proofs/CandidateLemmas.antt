@@ -10,14 +10,15 @@ use Rattle.am_classes.specs.Automata.{found_by}
 use Rattle.am_classes.specs.Alphabet.{IsOver}
 use Rattle.am_classes.specs.State.{IsNamed}
 use Rattle.am_classes.specs.Exploration.{IsClosed}
-use Rattle.am_classes.specs.Candidates.{IsCandidate, HasFound, GrowsCandidates, AreApartCandidates, Represents, AreCandidates}
+use Rattle.am_classes.specs.Candidates.{IsCandidate, HasFound, AreApartCandidates, Represents, AreCandidates}
+use Rattle.am_scan.specs.Automaton.{Grows}
 use Rattle.am_scan.proofs.Places.{get_pushed}
 use Rattle.am_classes.proofs.Utf8Lemmas.{text_whole}
 use Rattle.am_classes.proofs.ExplorationLemmas.{some_follows}
 
 -- Candidates that represent a state still do so with more candidates.
 pub represents_kept : (q : Questions) (old new : List Candidate) (state : LabelState)
-    → GrowsCandidates old new → Represents q old state → Represents q new state
+    → Grows old new → Represents q old state → Represents q new state
 represents_kept q old new state grows represents = λ text follows whole unnamed.
     let has = represents text follows whole unnamed in (has.0, has.1, grows has.0 has.1 has.2, has.3)
 

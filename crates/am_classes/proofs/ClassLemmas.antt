@@ -4,6 +4,7 @@ use Rattle.std.proofs.Common.{Some, slice_get, length, map, string_bytes, inl, i
 use Rattle.std.proofs.Common.{sym, ap, ◌∙◌, arith}
 use Rattle.std.proofs.lemmas.Bool.{false_from_ne_true, cases_Bool}
 use Rattle.std.proofs.lemmas.Slice.Eq.{bytes_eq-Decides}
+use Rattle.std.proofs.lemmas.List.{length-map}
 use Rattle.std.proofs.lemmas.Option.{same_Some}
 use Rattle.std.proofs.lemmas.Grind.{common_steps}
 use Rattle.am_universe.specs.Text.{same_text}
@@ -20,7 +21,7 @@ use Rattle.am_classes.specs.Asked.{AreAsked}
 use Rattle.am_classes.specs.Automata.{found_by}
 use Rattle.am_classes.specs.State.{named_texts, patterns_of, IsNamed}
 use Rattle.am_classes.specs.Candidates.{AreApartCandidates, AreCandidates}
-use Rattle.am_classes.proofs.AskedLemmas.{among_cases}
+use Rattle.am_classes.proofs.AskedLemmas.{among_cases, has_pattern}
 use Rattle.am_classes.proofs.AutomataLemmas.{get_under}
 use Rattle.am_classes.proofs.OverLemmas.{is_over_from, string_over}
 use Rattle.am_scan.proofs.Places.{get_append, get_kept, get_behind, contains_from_get}
@@ -190,3 +191,6 @@ classes_over ms q cs asked distinct =
           let c = get_mapped (λ c. string_bytes c.text) cs behind.0 x behind.2 in
           subst (IsOver q.alphabet) c.2 (distinct.own behind.0 c.0 c.1).over
     ])
+
+pub ruleset of_classes =
+    (class_texts, classes_cover, classes_apart, classes_over, has_pattern, length-map)

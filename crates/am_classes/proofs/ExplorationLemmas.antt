@@ -1,7 +1,7 @@
 -- Listed states: with more listed, and for each text one that it leads to.
 use Rattle.std.proofs.Common.{◌≡◌, ◌<◌, ◌+◌, ◌-◌, ℕ, zero, suc, ap, set, Option, ◌⊎◌, List, [], ◌∷◌, ◌++◌, Some, slice_get, length, refl, inl, inr, subst, sym, ◌∙◌, arith, lt-ltb, le-ltb}
 use Rattle.std.proofs.lemmas.Bool.{cases_lt}
-use Rattle.std.proofs.lemmas.Option.{option_and_then_some, same_Some, slice_get_within}
+use Rattle.std.proofs.lemmas.Option.{option_and_then_some, same_Some}
 use Rattle.am_classes.specs.declared.questions.Questions.{Questions}
 use Rattle.am_classes.specs.declared.label_state.LabelState.{LabelState}
 use Rattle.am_classes.specs.declared.reached_state.ReachedState.{ReachedState}
@@ -9,8 +9,9 @@ use Rattle.am_classes.specs.declared.tail.Tail.{Tail}
 use Rattle.am_classes.specs.Utf8.{text_step, tail_of}
 use Rattle.am_classes.specs.State.{FollowsLabel}
 use Rattle.am_classes.specs.Automata.{MakeSame}
-use Rattle.am_classes.specs.Exploration.{AreListed, Grows, HasState, LeadsOn, AreLed, byte_at, IsClosed}
-use Rattle.am_scan.proofs.Places.{get_pushed, get_kept, get_last, get_behind, get_within}
+use Rattle.am_classes.specs.Exploration.{AreListed, HasState, LeadsOn, AreLed, byte_at, IsClosed}
+use Rattle.am_scan.specs.Automaton.{Grows}
+use Rattle.am_scan.proofs.Places.{get_pushed, get_last, get_behind}
 use Rattle.am_classes.proofs.TailLemmas.{step_byte}
 
 -- A listed state is still there when more is listed.
@@ -22,11 +23,6 @@ pub leads_kept : (q : Questions) (old new : List ReachedState) (state : LabelSta
     → Grows old new → LeadsOn q old state byte → LeadsOn q new state byte
 leads_kept q old new state byte grows leads = λ text tail follows has.
     has_kept q old new (byte ∷ text) grows (leads text tail follows has)
-
--- A list with one more state keeps what was listed.
-pub grows_pushed : (old new : List ReachedState) (item : ReachedState) → new ≡ old ++ item ∷ [] → Grows old new
-grows_pushed old new item is = λ k x at.
-    subst (λ xs. slice_get xs k ≡ Some x) (sym is) (get_kept old (item ∷ []) x k at)
 
 -- Each state still follows the text beside it with one more state.
 pub listed_pushed : (q : Questions) (old new : List ReachedState) (item : ReachedState)
@@ -79,17 +75,6 @@ leads_again q listed state one other tails again leads = λ text tail follows ha
     let step = rw follows.tail at has in
     let there = leads text tail follows (rw follows.tail (tails ∙ step)) in
     (there.0, there.1, there.2, again text there.1.state follows there.3)
-
--- A position that was within the list still is.
-pub grows_within : (old new : List ReachedState) (k : ℕ) → Grows old new → k < length old → k < length new
-grows_within old new k grows h =
-    let there = get_within old k h in slice_get_within new k there.0 (grows k there.0 there.1)
-
--- The state at a position that was within the list was there before.
-pub grown_back : (old new : List ReachedState) (k : ℕ) (item : ReachedState) → Grows old new → k < length old
-    → slice_get new k ≡ Some item → slice_get old k ≡ Some item
-grown_back old new k item grows h at =
-    let there = get_within old k h in there.1 ∙ sym (grows k there.0 there.1) ∙ at
 
 -- After a write, an element is what was written, or what was there before.
 get_changed : {X : Type 0} (xs : List X) (i k : ℕ) (x y : X) → slice_get (set xs i x) k ≡ Some y

@@ -25,12 +25,6 @@ abbrev pub HasCandidate : Questions → List Candidate → List ℕ → Type 0
 HasCandidate q candidates text =
     HasFound candidates (found_by q.automata.items text)
 
--- Each candidate keeps its position.
-abbrev pub GrowsCandidates : List Candidate → List Candidate → Type 0
-GrowsCandidates old new =
-    (k : ℕ) (candidate : Candidate) → slice_get old k ≡ Some candidate
-    → slice_get new k ≡ Some candidate
-
 -- Candidates, no two of which are found by exactly the same patterns.
 pub record AreApartCandidates (q : Questions) (candidates : List Candidate) : Type 0 where
   pub own : (k : ℕ) (candidate : Candidate) → slice_get candidates k ≡ Some candidate

@@ -15,11 +15,6 @@ AreListed q listed =
     (k : ℕ) (item : ReachedState) → slice_get listed k ≡ Some item
     → FollowsLabel q item.state item.text.items
 
--- What was listed keeps its position.
-abbrev pub Grows : List ReachedState → List ReachedState → Type 0
-Grows old new =
-    (k : ℕ) (item : ReachedState) → slice_get old k ≡ Some item → slice_get new k ≡ Some item
-
 -- One of the listed states follows a text.
 abbrev pub HasState : Questions → List ReachedState → List ℕ → Type 0
 HasState q listed text =

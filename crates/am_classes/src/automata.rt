@@ -1,4 +1,6 @@
 //! The automata of many patterns at once.
+#![tactic(auto, using(crate::proofs::AutomataLemmas::more_numbers))]
+
 ghost use Rattle.std.specs.Prelude.{◌≡◌, ℕ, ◌∷◌, [], List, map, ◌<◌, true, IfOk, IfSome, IfNone};
 ghost use Rattle.std.specs.Prelude.{IsTrue, length, string_bytes};
 ghost use Rattle.std.specs.List.{list_all};

@@ -2,7 +2,8 @@ ghost use Rattle.std.specs.Prelude.{◌≡◌, ◌<◌, [], false, IsTrue, IfOk,
 ghost use Rattle.std.specs.Prelude.{vec_len, string_bytes};
 ghost use Rattle.am_classes.specs.State.{FollowsLabel, IsNamed};
 ghost use Rattle.am_classes.specs.Candidates.{AreCandidates, AreApartCandidates, Represents};
-ghost use Rattle.am_classes.specs.Candidates.{GrowsCandidates, HasFound};
+ghost use Rattle.am_classes.specs.Candidates.{HasFound};
+ghost use Rattle.am_scan.specs.Automaton.{Grows};
 ghost use Rattle.am_classes.specs.Alphabet.{IsOrdinary};
 
 use crate::candidate::Candidate;
@@ -63,6 +64,7 @@ fn other_candidate(alloc: Global, questions: &Questions) -> Result<Vec<Candidate
 
 /// Returns a text that is not named: the empty text, which stands for absence, or else `other`,
 /// `otherother`, and so on. There is one, because the text becomes longer than each named text.
+#[tactic(auto, using(crate::proofs::AskedLemmas::no_longer))]
 fn other_text(alloc: Global, questions: &Questions) -> Result<String, AllocError>
     ensures unnamed { IfOk result (λ text. ¬ IsNamed questions.now (string_bytes text)) }
     ensures ordinary { IfOk result (λ text. IsOrdinary (string_bytes text)) }
@@ -85,7 +87,7 @@ pub(crate) fn add(
     requires follows { FollowsLabel questions.now item.now.state item.now.text.items }
     requires distinct { AreApartCandidates questions.now candidates.old.items }
     ensures distinct { AreApartCandidates questions.now candidates.new.items }
-    ensures grows { GrowsCandidates candidates.old.items candidates.new.items }
+    ensures grows { Grows candidates.old.items candidates.new.items }
     ensures added { IfOk result (λ done. IsTrue done
         → Represents questions.now candidates.new.items item.now.state) }
 {

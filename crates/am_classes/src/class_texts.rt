@@ -40,6 +40,7 @@ pub struct ClassTexts {
 /// matchers. Returns `None` if the classes cannot be computed: a pattern cannot be followed, or
 /// there are too many states. If no matcher takes a pattern, all classes are always found. Fails
 /// only if memory runs out.
+#[tactic(auto, using(crate::proofs::ClassLemmas::of_classes))]
 pub fn classes(
     alloc: Global,
     alphabet: Alphabet,

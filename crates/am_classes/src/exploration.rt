@@ -14,8 +14,8 @@ ghost use Rattle.std.specs.Prelude.{◌≡◌, ◌<◌, ◌≤◌, ◌∷◌, �
 ghost use Rattle.std.specs.Prelude.{IfOk, IfSome, IsTrue, slice_get, vec_len};
 ghost use Rattle.am_classes.specs.declared.questions.Questions.{Questions};
 ghost use Rattle.am_classes.specs.State.{FollowsLabel};
-ghost use Rattle.am_classes.specs.Exploration.{AreListed, Grows, HasState, LeadsOn, AreLed};
-ghost use Rattle.am_classes.specs.Exploration.{byte_at};
+ghost use Rattle.am_scan.specs.Automaton.{Grows};
+ghost use Rattle.am_classes.specs.Exploration.{AreListed, HasState, LeadsOn, AreLed, byte_at};
 ghost use Rattle.am_classes.specs.Candidates.{AreApartCandidates, AreCandidates};
 
 use crate::candidates::{CandidateTexts, add};

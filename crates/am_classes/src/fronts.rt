@@ -49,6 +49,7 @@ pub(crate) fn has_nothing(fronts: &[&[u8]]) -> bool
 }
 
 /// Whether two lists have the same fronts in the same order. `false` promises nothing.
+#[tactic(auto, using(std::proofs::lemmas::Grind::common_steps, crate::proofs::FrontLemmas::same_so_far))]
 pub(crate) fn same_fronts(fronts: &[&[u8]], others: &[&[u8]]) -> bool
     ensures { IsTrue result → map (λ f. f.now) fronts.now ≡ map (λ f. f.now) others.now }
 {

@@ -36,6 +36,7 @@ impl Questions {
 
     /// Finds what matchers ask about texts over an alphabet. Returns `None` if a pattern cannot be
     /// followed.
+    #[tactic(auto, using(crate::proofs::AskedLemmas::of_questions))]
     pub(crate) fn of(
         alloc: Global,
         alphabet: Alphabet,
@@ -164,6 +165,7 @@ fn is_among(texts: &[String], text: &[u8]) -> bool
 }
 
 /// Returns the values that count of the matchers with this comparison, each once.
+#[tactic(auto, using(std::proofs::lemmas::Grind::common_steps, am_scan::proofs::Places::map_front, crate::proofs::ComparisonLemmas::differs, crate::proofs::AskedLemmas::values_skip, crate::proofs::AskedLemmas::values_same))]
 fn values(
     alloc: Global,
     alphabet: Alphabet,

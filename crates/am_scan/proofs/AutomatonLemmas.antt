@@ -14,7 +14,7 @@ use Rattle.am_scan.specs.Sight.{is_scanned, IsScanned}
 use Rattle.am_scan.specs.Scan.{Follows}
 use Rattle.am_scan.specs.Numbers.{next_in, number_in, found_in}
 use Rattle.am_scan.specs.Column.{IsColumn}
-use Rattle.am_scan.specs.Automaton.{AreClasses, Grows, GrowsColumns, IsNumber, IsRow, AreRows}
+use Rattle.am_scan.specs.Automaton.{AreClasses, Grows, IsNumber, IsRow, AreRows}
 use Rattle.am_scan.proofs.Places.{get_within, get_pushed}
 use Rattle.am_scan.proofs.StepLemmas.{scanned_is_byte}
 
@@ -54,15 +54,6 @@ module _ (scan : PatternScan) (columns : List Column) (classes : List ℕ) (stat
   pub found_in-exact : (text : List ℕ) → IsScanned scan.ascii text → found_in rows (number_in rows classes text) ≡ finds (string_bytes scan.pattern) text
   found_in-exact text scanned = grind (arith, common_steps, stands_for, row_at)
 
--- A position that was within the list still is.
-pub grows_within : (old new : List PatternState) (k : ℕ) → Grows old new → k < length old → k < length new
-grows_within old new k grows h = let there = get_within old k h in slice_get_within new k there.0 (grows k there.0 there.1)
-
--- The state at a position that was within the list was there before.
-pub grown_back : (old new : List PatternState) (k : ℕ) (state : PatternState) → Grows old new → k < length old
-    → slice_get new k ≡ Some state → slice_get old k ≡ Some state
-grown_back old new k state grows h at = let there = get_within old k h in there.1 ∙ sym (grows k there.0 there.1) ∙ at
-
 -- A row stays a row when states are added.
 pub IsRow_kept : (scan : PatternScan) (columns : List Column) (old new : List PatternState) (state : PatternState) (row : Row) → Grows old new →
     IsRow scan columns old state row → IsRow scan columns new state row
@@ -78,7 +69,7 @@ IsNumber_kept old new state number grows h = (h.0, grows number h.0 h.1, h.2)
 
 -- One more byte has its class.
 pub AreClasses-more : (scan : PatternScan) (old new : List Column) (classes all : List ℕ) (byte class : ℕ) → AreClasses scan old classes →
-    GrowsColumns old new → length classes ≡ byte → all ≡ classes ++ class ∷ [] →
+    Grows old new → length classes ≡ byte → all ≡ classes ++ class ∷ [] →
     (is_scanned scan.ascii byte ≡ true → (column : Column) × (slice_get new class ≡ Some column) × IsColumn scan.nfa scan.sight byte column) →
     AreClasses scan new all
 AreClasses-more scan old new classes all byte class h grows len is own = λ b other at scanned.

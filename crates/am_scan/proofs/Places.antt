@@ -4,6 +4,7 @@ use Rattle.std.specs.List.{AllByRecursion}
 use Rattle.std.proofs.lemmas.List.{take_more, take_all, map-append}
 use Rattle.std.proofs.lemmas.Option.{get_or_from_slice_get, slice_get_within, same_Some}
 use Rattle.std.proofs.lemmas.Grind.{common_steps}
+use Rattle.am_scan.specs.Automaton.{Grows}
 
 -- The element at a position of two joined lists is from the first list or from the second.
 pub get_append : {X : Type 0} (xs ys : List X) (x : X) (k : ℕ) → slice_get (xs ++ ys) k ≡ Some x
@@ -100,3 +101,20 @@ pub each_pushed : {X Y : Type 0} (R : X → Y → Type 0) (xs : List X) (ys : Li
     → ((k : ℕ) (a : X) (b : Y) → slice_get xs k ≡ Some a → slice_get ys k ≡ Some b → R a b) → R x y
     → (k : ℕ) (a : X) (b : Y) → slice_get (xs ++ x ∷ []) k ≡ Some a → slice_get (ys ++ y ∷ []) k ≡ Some b → R a b
 each_pushed R xs ys x y len each last k a b at also = grind (arith, common_steps, get_pushed, slice_get_within)
+
+-- A list grows by one more element.
+pub grows_pushed : {X : Type 0} (old new : List X) (x : X) → new ≡ old ++ x ∷ [] → Grows old new
+grows_pushed old new x is = λ k y at.
+    subst (λ xs. slice_get xs k ≡ Some y) (sym is) (get_kept old (x ∷ []) y k at)
+
+-- A position that was within a list that grew still is.
+pub grows_within : {X : Type 0} (old new : List X) (k : ℕ) → Grows old new → k < length old
+    → k < length new
+grows_within old new k grows h =
+    let there = get_within old k h in slice_get_within new k there.0 (grows k there.0 there.1)
+
+-- The element at a position that was within the list was there before.
+pub grown_back : {X : Type 0} (old new : List X) (k : ℕ) (x : X) → Grows old new → k < length old
+    → slice_get new k ≡ Some x → slice_get old k ≡ Some x
+grown_back old new k x grows h at =
+    let there = get_within old k h in there.1 ∙ sym (grows k there.0 there.1) ∙ at

@@ -19,15 +19,9 @@ AreClasses scan columns classes =
     → (column : Column) × (slice_get columns class ≡ Some column)
     × IsColumn scan.nfa scan.sight b column
 
--- Each column keeps its position.
-abbrev pub GrowsColumns : List Column → List Column → Type 0
-GrowsColumns old new =
-    (k : ℕ) (column : Column) → slice_get old k ≡ Some column → slice_get new k ≡ Some column
-
--- Each state keeps its position.
-abbrev pub Grows : List PatternState → List PatternState → Type 0
-Grows old new =
-    (k : ℕ) (state : PatternState) → slice_get old k ≡ Some state → slice_get new k ≡ Some state
+-- Each element of a list keeps its position.
+abbrev pub Grows : {X : Type 0} → List X → List X → Type 0
+Grows {X = X} old new = (k : ℕ) (x : X) → slice_get old k ≡ Some x → slice_get new k ≡ Some x
 
 -- A byte of a column, put before a text, leads from one state to another.
 -- Source: own choice.

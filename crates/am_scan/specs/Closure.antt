@@ -1,6 +1,6 @@
 -- Which states of a compiled pattern lead to a match from a position of a text.
 use Rattle.std.specs.Prelude.{◌≡◌, ℕ, ◌<◌, Bool, true, false, ◌&&◌, ◌||◌, List, length, Option}
-use Rattle.std.specs.Prelude.{None, is_some, vec_len, slice_index_or, if◌then◌else◌, ◌==◌}
+use Rattle.std.specs.Prelude.{is_some, vec_len, slice_index_or, ◌==◌}
 use Rattle.std.specs.List.{list_any}
 use Rattle.regex_hir.specs.Looks.{holds_between}
 use Rattle.regex_hir.specs.Text.{is_some_and}

@@ -50,6 +50,7 @@ impl Column {
 }
 
 /// Whether a character begins with a byte.
+#[tactic(auto, using(std::proofs::lemmas::Bool::Decides::nat_tests), unfolding(regex_hir::specs::Text::is_boundary))]
 fn is_start(byte: u8) -> bool
     ensures { result ≡ is_boundary (byte ∷ []) 0 }
 {

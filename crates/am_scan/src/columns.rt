@@ -4,7 +4,7 @@ ghost use Rattle.am_scan.specs.declared.sight.Sight.{Sight};
 ghost use Rattle.am_scan.specs.declared.column.Column.{Column};
 ghost use Rattle.am_scan.specs.Sight.{is_scanned};
 ghost use Rattle.am_scan.specs.Column.{IsColumn};
-ghost use Rattle.am_scan.specs.Automaton.{AreClasses, GrowsColumns};
+ghost use Rattle.am_scan.specs.Automaton.{AreClasses, Grows};
 
 use crate::column::Column;
 use crate::pattern_scan::PatternScan;
@@ -48,7 +48,7 @@ fn class_of(
     byte: u8,
     columns: &mut Vec<Column>,
 ) -> Result<Option<u8>, AllocError>
-    ensures grows { GrowsColumns columns.old.items columns.new.items }
+    ensures grows { Grows columns.old.items columns.new.items }
     ensures class { IfOk result (λ found. IfSome found (λ class.
         is_scanned scan.now.ascii byte ≡ true → (column : Column)
         × (slice_get columns.new.items class ≡ Some column)
@@ -67,7 +67,7 @@ fn class_of(
 
 /// Returns the position of a column, and adds the column if it is not listed yet.
 fn place_of(columns: &mut Vec<Column>, column: Column) -> Result<usize, AllocError>
-    ensures grows { GrowsColumns columns.old.items columns.new.items }
+    ensures grows { Grows columns.old.items columns.new.items }
     ensures place { IfOk result (λ place. (other : Column)
         × (slice_get columns.new.items place ≡ Some other)
         × ((nfa : Nfa) (sight : Sight) (byte : ℕ) → IsColumn nfa sight byte column

@@ -74,6 +74,7 @@ impl PatternAutomaton {
     }
 
     /// Returns the number of the empty text.
+    #[tactic(auto, unfolding(crate::specs::Automaton::number_of))]
     pub fn end(&self) -> u32
         ensures { result ≡ number_of self.now [] }
     {
@@ -82,6 +83,7 @@ impl PatternAutomaton {
 
     /// Returns the number of a text with one more byte before it, from the number of the text,
     /// which must come from this automaton. For any other number nothing is promised.
+    #[tactic(auto, using(std::proofs::lemmas::Option::slice_get_read, std::proofs::lemmas::Option::slice_get_past, std::proofs::lemmas::Option::get_or_from_slice_get), unfolding(crate::specs::Automaton::number_of, crate::specs::Automaton::class_of))]
     pub fn step(&self, number: u32, byte: u8) -> u32
         ensures { (text : List ℕ) → number ≡ number_of self.now text
             → result ≡ number_of self.now (byte ∷ text) }
@@ -97,6 +99,7 @@ impl PatternAutomaton {
 
     /// Whether the pattern finds a text that the automaton reads, by its number, which must come
     /// from this automaton. For any other number nothing is promised.
+    #[tactic(auto, using(std::proofs::lemmas::Option::slice_get_read, std::proofs::lemmas::Option::slice_get_past), unfolding(crate::specs::Automaton::number_of, crate::specs::Automaton::is_ascii, crate::specs::Automaton::pattern_of))]
     pub fn finds(&self, number: u32) -> bool
         ensures { (text : List ℕ) → number ≡ number_of self.now text
             → IsScanned (is_ascii self.now) text → result ≡ finds (pattern_of self.now) text }
@@ -108,6 +111,7 @@ impl PatternAutomaton {
     }
 
     /// Returns the class of a byte.
+    #[tactic(auto, unfolding(crate::specs::Automaton::class_of))]
     pub fn class_of(&self, byte: u8) -> u8
         ensures { result ≡ class_of self.now byte }
     {
@@ -119,6 +123,7 @@ impl PatternAutomaton {
 
     /// Whether two bytes are of one class. If so, they lead to the same numbers; if not, nothing is
     /// promised.
+    #[tactic(auto, unfolding(crate::specs::Automaton::class_of, crate::specs::Automaton::number_of))]
     pub fn are_alike(&self, one: u8, other: u8) -> bool
         ensures { IsTrue result → (text : List ℕ)
             → number_of self.now (one ∷ text) ≡ number_of self.now (other ∷ text) }

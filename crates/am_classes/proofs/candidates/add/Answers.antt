@@ -1,11 +1,11 @@
-use Rattle.std.proofs.Common.{◌≡◌, [], ◌∷◌, Some, slice_get, length, string_bytes, refl, sym, ap, ◌∙◌, subst}
+use Rattle.std.proofs.Common.{◌≡◌, Some, slice_get, length, string_bytes, refl, sym, ap, ◌∙◌, subst}
 use Rattle.am_classes.specs.declared.candidate.Candidate.{Candidate}
 use Rattle.am_classes.specs.declared.tail.Tail.TheVariants.{Whole}
 use Rattle.am_classes.specs.Automata.{found_by}
 use Rattle.am_classes.specs.State.{FollowsLabel, IsNamed}
 use Rattle.am_classes.proofs.OverLemmas.{followed_over}
 use Rattle.am_classes.specs.Candidates.{AreApartCandidates, IsCandidate, HasFound}
-use Rattle.am_scan.proofs.Places.{get_kept, get_last}
+use Rattle.am_scan.proofs.Places.{get_last, grows_pushed}
 use Rattle.am_classes.proofs.TailLemmas.{whole_from}
 use Rattle.am_classes.proofs.CandidateLemmas.{apart_pushed}
 use Rattle.am_classes.proofs.candidates.add.Goals as goal
@@ -47,8 +47,8 @@ returns-clause-distinct c =
     subst (AreApartCandidates q) (sym c.in_ok-push.ensures.items) (apart_pushed q c.args.candidates.now.items x c.requires.distinct own new)
 
 pub returns-clause-grows : goal.returns-clause-grows
-returns-clause-grows c = λ k x at.
-    subst (λ cs. slice_get cs k ≡ Some x) (sym c.in_ok-push.ensures.items) (get_kept c.args.candidates.now.items (_ ∷ []) x k at)
+returns-clause-grows c =
+    grows_pushed c.args.candidates.now.items c.push.new.self.items _ c.in_ok-push.ensures.items
 
 pub returns-clause-added : goal.returns-clause-added
 returns-clause-added c =

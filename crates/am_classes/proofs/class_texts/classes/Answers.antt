@@ -2,23 +2,12 @@ use Rattle.std.proofs.Common.{◌≡◌, ◌+◌, ◌<◌, map, length, string_b
 use Rattle.std.proofs.Common.{List, arith, length-append}
 use Rattle.am_universe.specs.declared.limits.TheConstants.{MAX_VALUES}
 use Rattle.std.proofs.lemmas.List.{length-map}
-use Rattle.std.proofs.lemmas.Grind.{common_steps}
 use Rattle.am_scan.specs.Automaton.{pattern_of}
 use Rattle.am_labels.specs.declared.op.Comparison.TheVariants.{Pattern}
 use Rattle.am_labels.specs.Matcher.{Condition}
 use Rattle.am_classes.specs.State.{patterns_of}
 use Rattle.am_classes.proofs.AskedLemmas.{has_pattern}
-use Rattle.am_classes.proofs.ClassLemmas.{class_texts, classes_cover, classes_apart, classes_over}
 use Rattle.am_classes.proofs.class_texts.classes.Goals as goal
-
-pub returns-clause-covers : goal.returns-clause-covers
-returns-clause-covers c = grind (arith, common_steps, class_texts, classes_cover)
-
-pub returns-clause-over : goal.returns-clause-over
-returns-clause-over c = grind (arith, common_steps, class_texts, classes_over)
-
-pub returns-clause-apart : goal.returns-clause-apart
-returns-clause-apart c = grind (arith, common_steps, classes_apart)
 
 pub returns-clause-many : goal.returns-clause-many
 returns-clause-many c = λ some_missing.
@@ -38,6 +27,3 @@ returns-clause-many c = λ some_missing.
       has_pattern questions.alphabet ms Pattern (patterns_of questions) asked.patterns (λ e. cc)
           (omega (arith, many.1, length-map questions.automata.items pattern_of)),
     )
-
-pub returns-in_default-2-clause-none : goal.returns-in_default-2-clause-none
-returns-in_default-2-clause-none c = grind (arith, common_steps, has_pattern, length-map)

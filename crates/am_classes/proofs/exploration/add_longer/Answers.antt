@@ -1,4 +1,5 @@
-use Rattle.am_classes.proofs.ExplorationLemmas.{grows_pushed, listed_pushed, leads_pushed}
+use Rattle.am_scan.proofs.Places.{grows_pushed}
+use Rattle.am_classes.proofs.ExplorationLemmas.{listed_pushed, leads_pushed}
 use Rattle.am_classes.proofs.exploration.add_longer.Goals as goal
 
 pub returns-clause-own : goal.returns-clause-own

@@ -5,7 +5,8 @@ use Rattle.am_classes.specs.declared.reached_state.ReachedState.{ReachedState}
 use Rattle.am_classes.specs.Exploration.{LeadsOn}
 use Rattle.am_classes.specs.Candidates.{Represents}
 use Rattle.am_classes.proofs.CandidateLemmas.{represents_kept, candidates_of_all}
-use Rattle.am_classes.proofs.ExplorationLemmas.{has_kept, leads_kept, grows_within, grown_back}
+use Rattle.am_scan.proofs.Places.{grows_within, grown_back}
+use Rattle.am_classes.proofs.ExplorationLemmas.{has_kept, leads_kept}
 use Rattle.am_classes.proofs.exploration.explored.Goals as goal
 
 pub add-requires-clause-follows : goal.add-requires-clause-follows

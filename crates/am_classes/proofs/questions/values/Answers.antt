@@ -1,20 +1,10 @@
-use Rattle.std.proofs.Common.{◌≡◌, ℕ, Some, true, map, slice_get, string_bytes, sym, ap, ◌∙◌, subst, arith}
-use Rattle.std.proofs.lemmas.Grind.{common_steps}
+use Rattle.std.proofs.Common.{◌≡◌, ℕ, Some, true, map, slice_get, string_bytes, sym, ap, ◌∙◌, subst}
 use Rattle.am_labels.specs.Matcher.{comparison}
 use Rattle.am_classes.specs.Values.{AreValues, counts}
-use Rattle.am_classes.proofs.ComparisonLemmas.{differs, agrees}
+use Rattle.am_classes.proofs.ComparisonLemmas.{agrees}
 use Rattle.am_scan.proofs.Places.{map_front, map_pushed}
-use Rattle.am_classes.proofs.AskedLemmas.{values_skip, values_same, values_push}
+use Rattle.am_classes.proofs.AskedLemmas.{values_push}
 use Rattle.am_classes.proofs.questions.values.Goals as goal
-
-pub loop-matcher-preserved-then-ne : goal.loop-matcher-preserved-then-ne
-loop-matcher-preserved-then-ne c = grind (arith, common_steps, map_front, differs, values_skip)
-
-pub loop-matcher-preserved-then-not-counts : goal.loop-matcher-preserved-then-not-counts
-loop-matcher-preserved-then-not-counts c = grind (arith, common_steps, map_front, values_skip)
-
-pub loop-matcher-preserved-then-is_among : goal.loop-matcher-preserved-then-is_among
-loop-matcher-preserved-then-is_among c = grind (arith, common_steps, map_front, values_same)
 
 pub loop-matcher-preserved : goal.loop-matcher-preserved
 loop-matcher-preserved c =

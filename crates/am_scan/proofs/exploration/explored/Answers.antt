@@ -2,8 +2,8 @@
 use Rattle.std.proofs.Common.{◌≡◌, ◌<◌, Some, length, slice_get, inl, inr, subst, ◌∙◌, arith}
 use Rattle.std.proofs.lemmas.Option.{slice_get_within}
 use Rattle.am_scan.specs.Automaton.{IsRow}
-use Rattle.am_scan.proofs.Places.{get_pushed}
-use Rattle.am_scan.proofs.AutomatonLemmas.{grows_within, grown_back, IsRow_kept}
+use Rattle.am_scan.proofs.Places.{get_pushed, grows_within, grown_back}
+use Rattle.am_scan.proofs.AutomatonLemmas.{IsRow_kept}
 use Rattle.am_scan.proofs.exploration.explored.Goals as goal
 
 pub loop-at-preserved : goal.loop-at-preserved

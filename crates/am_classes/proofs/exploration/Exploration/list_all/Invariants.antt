@@ -1,7 +1,8 @@
 use Rattle.std.proofs.Common.{◌≡◌, ◌++◌, ℕ, List}
 use Rattle.std.specs.Vec.Iter.{into_iter_items}
 use Rattle.am_classes.specs.declared.questions.Questions.{Questions}
-use Rattle.am_classes.specs.Exploration.{AreListed, Grows, HasState}
+use Rattle.am_scan.specs.Automaton.{Grows}
+use Rattle.am_classes.specs.Exploration.{AreListed, HasState}
 use Rattle.am_classes.proofs.exploration.Exploration.list_all.Given as goal
 
 -- The states so far are served.
