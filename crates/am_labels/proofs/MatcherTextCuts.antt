@@ -1,11 +1,11 @@
 -- Where a matcher text may be cut, and how the escapes of a body are replaced.
-use Rattle.std.proofs.Common.{◌≡◌, ◌≢◌, ◌∙◌, refl, sym, ap, subst, ℕ, zero, suc, ◌<◌, List, []}
+use Rattle.std.proofs.Common.{◌≡◌, ◌≢◌, ◌∙◌, refl, sym, ap, subst, ℕ, zero, suc, ◌<◌, ◌≤◌, List, []}
 use Rattle.std.proofs.Common.{◌∷◌, ◌++◌, length, get_or, true, false, arith, add-one}
 use Rattle.std.specs.Prelude.{◌==◌}
 use Rattle.std.specs.List.{prefix_len}
 use Rattle.std.specs.Str.{IsUtf8, IsCharBoundary}
 use Rattle.std.proofs.lemmas.Str.{IsCharBoundary-start, IsCharBoundary-after_ascii}
-use Rattle.std.proofs.lemmas.Str.{IsCharBoundary-before_ascii}
+use Rattle.std.proofs.lemmas.Str.{IsCharBoundary-before_ascii, lead_after_ascii}
 use Rattle.std.proofs.lemmas.List.{append-nil, append_assoc}
 use Rattle.std.proofs.lemmas.List.Sums.{prefix_len_passes, prefix_len-le-length}
 use Rattle.std.proofs.lemmas.Bool.{and_parts, eqb-true, ne_eqb}
@@ -32,6 +32,12 @@ at_quote text n e l =
     let found = first_quote_found text (rw (← e) l) in
     let at = eqb-true (get_or text (first_quote text) 0) 34 (and_parts _ _ found).0 in
     IsCharBoundary-before_ascii text n l (rw e (omega arith))
+
+pub behind_first : (text : List ℕ) → IsUtf8 text → get_or text 0 0 < 128 → 1 < length text
+    → 128 ≤ get_or text 1 0 → 192 ≤ get_or text 1 0
+behind_first text u h = lead_after_ascii text 0 u h
+
+pub ruleset cuts = (behind_first, behind_name, at_quote)
 
 -- ---- Escapes.
 

@@ -4,6 +4,7 @@ use Rattle.std.proofs.Common.{Bool, true, false, ◌||◌, option_map}
 use Rattle.std.specs.Option.{option_or}
 use Rattle.std.specs.Prelude.{chars}
 use Rattle.std.proofs.lemmas.Grind.{common_steps}
+use Rattle.std.proofs.lemmas.Option.{slice_get_past, slice_get-get_or}
 use Rattle.regex_hir.specs.Find.{find_str, first_between}
 use Rattle.regex_hir.specs.Meaning.{meaning}
 use Rattle.regex_hir.specs.declared.hir.Hir.{Hir}
@@ -77,3 +78,5 @@ module _ (at : Rest) where
       here_or_later i i (omega arith)
       ∙ ap (λ b. is_some (at i) || b) (nothing_past (i + 1) i (omega arith))
       ∙ or_nothing (is_some (at i))
+
+pub ruleset reads = (slice_get_past, slice_get-get_or)

@@ -105,6 +105,7 @@ fn read_words(alloc: Global, words: &[&str]) -> Result<Vec<Condition>, Kind>
 }
 
 /// The text without a `{` at its very beginning.
+#[tactic(auto, using(std::proofs::lemmas::Grind::common_steps, crate::proofs::MatcherTextCuts::cuts))]
 fn without_opening(text: &str) -> &str
     ensures { result.now ≡ without_opening text.now }
 {
@@ -192,7 +193,7 @@ fn continues_name(byte: u8) -> bool
 }
 
 /// The name that the text begins with, and what follows it.
-#[tactic(auto, unfolding(crate::specs::MatcherReading::read_name))]
+#[tactic(auto, using(std::proofs::lemmas::Grind::common_steps, crate::proofs::MatcherTextCuts::cuts), unfolding(crate::specs::MatcherReading::read_name))]
 fn read_name(text: &str) -> Result<(&str, &str), Kind>
     ensures { ReturnsReading (λ x. (x.0.now, x.1.now)) result (read_name text.now) }
 {
@@ -225,7 +226,7 @@ fn read_operator(text: &str) -> Result<(Op, &str), Kind>
 }
 
 /// The body of a raw value: the text between its quotes, or all of it if it begins with no quote.
-#[tactic(auto, unfolding(crate::specs::MatcherReading::read_body))]
+#[tactic(auto, using(std::proofs::lemmas::Grind::common_steps, crate::proofs::MatcherTextCuts::cuts), unfolding(crate::specs::MatcherReading::read_body))]
 fn read_body(raw: &str) -> Result<&str, Kind>
     ensures { ReturnsReading (λ x. x.now) result (read_body raw.now) }
 {
@@ -280,6 +281,7 @@ fn unescape(alloc: Global, body: &str) -> Result<String, AllocError>
 }
 
 /// What a backslash before the text stands for, and what follows it.
+#[tactic(auto, using(std::proofs::lemmas::Grind::common_steps, crate::proofs::MatcherTextCuts::cuts, crate::proofs::MatcherTextCuts::escaped_ascii))]
 fn read_escape(text: &str) -> (char, &str)
     ensures ascii { result.0 < 128 }
     ensures within { length result.1.now ≤ length text.now }

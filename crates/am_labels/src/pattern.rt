@@ -182,6 +182,7 @@ fn starts_match(search: &mut PikeVm, nfa: &Nfa, bytes: &[u8], start: usize) -> b
 }
 
 /// Whether a character begins at a position of a text, or the text ends there.
+#[tactic(auto, using(std::proofs::lemmas::Bool::Decides::nat_tests, crate::proofs::PatternLemmas::reads), unfolding(regex_hir::specs::Text::is_boundary))]
 fn is_boundary(bytes: &[u8], at: usize) -> bool
     ensures { result ≡ is_boundary bytes.now at }
 {

@@ -11,6 +11,7 @@ use Rattle.std.specs.List.{list_all, prefix_len}
 use Rattle.std.proofs.lemmas.Bool.{and_parts, cases_lt}
 use Rattle.std.proofs.lemmas.Bool.Decides.{nat_tests}
 use Rattle.std.proofs.lemmas.Grind.{common_steps}
+use Rattle.std.proofs.lemmas.Str.{IsCharBoundary-after_ascii}
 use Rattle.am_labels.specs.MatcherText.{has_escape, byte_of_escape}
 use Rattle.am_labels.proofs.MatcherTextLists.{all_of_prefix}
 use Rattle.am_questions.specs.Lexemes.{is_plain, begun_with, read_quoted}
@@ -127,3 +128,5 @@ module _ (text value rest : List ℕ) (n : ℕ) (e : n ≡ prefix_len is_plain r
         after_run ∙ rw (last_backslash rest n l ((other l).1 at) at, read_backslash) refl
     | inr l ↦ after_run ∙ rw (drop_all n rest l, read_empty) refl
   ]
+
+pub ruleset cuts = (IsCharBoundary-after_ascii, quote_closes)

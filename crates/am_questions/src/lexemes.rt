@@ -50,7 +50,7 @@ pub fn read_lexemes(alloc: Global, text: &str) -> Result<Vec<Lexeme<'_>>, Kind>
 
 /// Reads the first lexeme of a text that does not begin with whitespace. Returns it and the text
 /// after it.
-#[tactic(auto, unfolding(crate::specs::Lexemes::read_lexeme))]
+#[tactic(auto, using(std::proofs::lemmas::Grind::common_steps, crate::proofs::Boundaries::behind_brace, crate::proofs::Boundaries::behind_word), unfolding(crate::specs::Lexemes::read_lexeme))]
 fn read_lexeme(alloc: Global, text: &str) -> Result<(Lexeme<'_>, &str), Kind>
     ensures read { IfOk result (λ x. read_lexeme text.now ≡ Some (lexeme_view x.0, x.1.now)) }
     ensures shorter { IfOk result (λ x. 0 < length text.now
@@ -78,6 +78,7 @@ fn read_lexeme(alloc: Global, text: &str) -> Result<(Lexeme<'_>, &str), Kind>
 
 /// Reads the text after an opening quote. Returns what it stands for, and the text after the
 /// closing quote.
+#[tactic(auto, using(std::proofs::lemmas::Grind::common_steps, crate::proofs::Boundaries::behind_plain, crate::proofs::QuotedTexts::cuts))]
 fn read_quoted(alloc: Global, text: &str) -> Result<(String, &str), Kind>
     ensures read { IfOk result (λ x. read_quoted text.now ≡ Some (string_bytes x.0, x.1.now)) }
     ensures shorter { IfOk result (λ x. length x.1.now < length text.now) }

@@ -2,13 +2,7 @@ use Rattle.std.proofs.Common.{arith, inr, refl, None}
 use Rattle.std.proofs.lemmas.Grind.{common_steps}
 use Rattle.std.proofs.lemmas.Str.Pattern.{strip_prefix_char}
 use Rattle.am_labels.proofs.MatcherTextBodies.{unread_quoted, unread_bare}
-use Rattle.am_labels.proofs.MatcherTextCuts.{at_quote}
 use Rattle.am_labels.proofs.matcher_text.read_body.Goals as goal
-
-pub range-requires-clause-end_boundary : goal.range-requires-clause-end_boundary
-range-requires-clause-end_boundary c =
-    at_quote c.in-Some.rest.now c.first_quote-end.result (grind (arith, common_steps))
-    (grind (arith, common_steps))
 
 pub returns-else-end-rest : goal.returns-else-end-rest
 returns-else-end-rest c =

@@ -1,7 +1,7 @@
 use Rattle.std.proofs.Common.{arith, sym}
 use Rattle.std.proofs.lemmas.Grind.{common_steps}
 use Rattle.std.proofs.lemmas.Str.{IsCharBoundary-after_ascii}
-use Rattle.am_questions.proofs.Boundaries.{behind_brace, behind_word}
+use Rattle.am_questions.proofs.Boundaries.{behind_brace}
 use Rattle.am_questions.proofs.lexemes.read_lexeme.Goals as goal
 
 pub range_from-requires : goal.range_from-requires
@@ -22,16 +22,3 @@ range_from-requires-in-34 c =
 pub range-requires-clause-end_boundary : goal.range-requires-clause-end_boundary
 range-requires-clause-end_boundary c =
     behind_brace c.args.text.now c.in-Some.len c.utf8.text (sym c.in-Some.ensures.len)
-
-pub range_from-requires-in-Some : goal.range_from-requires-in-Some
-range_from-requires-in-Some c =
-    λ _. behind_brace c.args.text.now c.in-Some.len c.utf8.text (sym c.in-Some.ensures.len)
-
-pub range-requires-in_default-clause-end_boundary :
-    goal.range-requires-in_default-clause-end_boundary
-range-requires-in_default-clause-end_boundary c =
-    behind_word c.args.text.now c.word_len-len.result (grind (arith, common_steps))
-
-pub range_from-requires-in_default : goal.range_from-requires-in_default
-range_from-requires-in_default c =
-    λ _. behind_word c.args.text.now c.word_len-len.result (grind (arith, common_steps))

@@ -7,14 +7,9 @@ use Rattle.std.specs.String.{string_bytes}
 use Rattle.std.specs.List.{prefix_len}
 use Rattle.am_labels.specs.MatcherText.{has_escape, byte_of_escape}
 use Rattle.am_questions.specs.Lexemes.{is_plain}
-use Rattle.am_questions.proofs.Boundaries.{behind_plain}
-use Rattle.am_questions.proofs.QuotedTexts.{quote_closes, escape_goes_on, no_escape_here}
+use Rattle.am_questions.proofs.QuotedTexts.{escape_goes_on, no_escape_here}
 use Rattle.am_questions.proofs.QuotedTexts.{quote_is_missing, escape_ascii, escaped_ascii}
 use Rattle.am_questions.proofs.lexemes.read_quoted.Goals as goal
-
-pub range-requires-clause-end_boundary : goal.range-requires-clause-end_boundary
-range-requires-clause-end_boundary c =
-    behind_plain c.loop-value.rest.now c.plain_len-len.result (grind (arith, common_steps))
 
 pub returns-in_err-escape_of-in-92-clause-refused :
     goal.returns-in_err-escape_of-in-92-clause-refused
@@ -35,12 +30,6 @@ returns-in_err-escape_of-in-92-clause-refused c =
       no_escape_here _ _ rest n is c.loop-value.invariant.1 inside at unknown,
     ))
 
-pub range_from-requires : goal.range_from-requires
-range_from-requires c = grind (arith, common_steps, IsCharBoundary-after_ascii)
-
-pub returns-in-34-clause-read : goal.returns-in-34-clause-read
-returns-in-34-clause-read c = grind (arith, common_steps, quote_closes)
-
 pub returns-in_default-clause-refused : goal.returns-in_default-clause-refused
 returns-in_default-clause-refused c = λ _.
     let n : ℕ = c.plain_len-len.result in
@@ -54,9 +43,6 @@ returns-in_default-clause-refused c = λ _.
       quote_is_missing _ _ rest n is c.loop-value.invariant.1
           (λ inside. (no_quote inside, no_more inside)),
     )
-
-pub range_from-rest-requires : goal.range_from-rest-requires
-range_from-rest-requires c = grind (arith, common_steps, IsCharBoundary-after_ascii, escaped_ascii)
 
 pub loop-value-preserved : goal.loop-value-preserved
 loop-value-preserved c =
@@ -81,3 +67,6 @@ loop-value-preserved c =
     let behind_is : c.range_from-rest.result.now ≡ drop (n + 2) rest =
     grind (arith, common_steps) in
     (c.range_from-rest.utf8, rw (value_is, behind_is) goes_on, grind (arith, common_steps))
+
+pub range_from-rest-requires : goal.range_from-rest-requires
+range_from-rest-requires c = grind (arith, common_steps, IsCharBoundary-after_ascii, escaped_ascii)
