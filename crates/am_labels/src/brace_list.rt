@@ -20,6 +20,7 @@ pub fn brace_len(text: &str) -> Option<usize>
 }
 
 /// The index of the first closing brace outside quoted parts.
+#[tactic(auto, using(std::proofs::lemmas::Grind::common_steps, std::proofs::Common::below_more))]
 fn first_closing(text: &[u8]) -> Option<usize>
     ensures index { result ≡ first_closing text.now }
     ensures within { IfSome result (λ i. i < length text.now) }

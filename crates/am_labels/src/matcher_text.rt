@@ -250,6 +250,7 @@ fn read_body(raw: &str) -> Result<&str, Kind>
 }
 
 /// The index of the first quote that is not escaped, or the length.
+#[tactic(auto, using(std::proofs::lemmas::Grind::common_steps, crate::proofs::MatcherTextIndices::first_quote_is, std::proofs::Common::below_more))]
 fn first_quote(text: &[u8]) -> usize
     ensures at_most { result ≤ length text.now }
     ensures first { result ≡ first_quote text.now }

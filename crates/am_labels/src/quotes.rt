@@ -25,6 +25,7 @@ impl QuoteState {
     }
 
     /// The state of the next index, after this byte.
+    #[tactic(auto, using(std::proofs::lemmas::Grind::common_steps, crate::proofs::MatcherTextIndices::escaped_next, crate::proofs::MatcherTextIndices::quoted_next))]
     pub(crate) fn next(self, byte: u8) -> QuoteState
         ensures { (text : List ℕ) (i : ℕ) → i < length text → slice_index text i ≡ byte
             → IsStateAt text i self → IsStateAt text (i + 1) result }

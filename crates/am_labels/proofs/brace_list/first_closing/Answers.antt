@@ -1,4 +1,4 @@
-use Rattle.std.proofs.Common.{◌≡◌, ◌∙◌, false, length, sym, refl, below_more, arith}
+use Rattle.std.proofs.Common.{◌∙◌, length, sym, refl, arith}
 use Rattle.am_labels.specs.BraceList.{is_closing_brace}
 use Rattle.am_labels.proofs.BraceListLemmas.{find_at, find_none}
 use Rattle.am_labels.proofs.brace_list.first_closing.Goals as goal
@@ -12,16 +12,6 @@ returns-then-is_outside-clause-index c =
 
 pub loop-i-init : goal.loop-i-init
 loop-i-init c = record { state = c.start-state.ensures c.args.text.now; none_before = λ k h. absurd (omega arith) }
-
-pub loop-i-preserved : goal.loop-i-preserved
-loop-i-preserved c =
-    let text = c.args.text.now in
-    let is = c.is_outside.ensures text c.loop-i.i refl c.loop-i.invariant.state in
-    let whole : is_closing_brace text c.loop-i.i ≡ false = sym is ∙ c.if-is_outside.false in
-    record {
-      state = c.next-state.ensures text c.loop-i.i (omega arith) refl c.loop-i.invariant.state;
-      none_before = below_more _ _ c.loop-i.invariant.none_before whole;
-    }
 
 pub returns-clause-index : goal.returns-clause-index
 returns-clause-index c = sym (find_none (is_closing_brace c.args.text.now) 0 (length c.args.text.now) (λ k h. c.loop-i.invariant.none_before k (omega arith)))

@@ -1,4 +1,4 @@
-use Rattle.std.proofs.Common.{◌≡◌, true, false, sym, refl, below_more, arith, length}
+use Rattle.std.proofs.Common.{◌≡◌, true, sym, refl, arith}
 use Rattle.am_labels.specs.MatcherText.{is_quote}
 use Rattle.am_labels.proofs.MatcherTextIndices.{first_quote_is}
 use Rattle.am_labels.proofs.matcher_text.first_quote.Goals as goal
@@ -9,18 +9,5 @@ returns-then-is_quote-clause-first c =
     let here : is_quote c.args.text.now c.loop-i.i ≡ true = cc in
     sym (first_quote_is c.args.text.now c.loop-i.i (omega arith) c.loop-i.invariant.none (λ _. here))
 
-pub returns-clause-first : goal.returns-clause-first
-returns-clause-first c =
-    sym (first_quote_is c.args.text.now (length c.args.text.now) (omega arith) (λ k h. c.loop-i.invariant.none k (omega arith)) (λ h. absurd (omega arith)))
-
 pub loop-i-init : goal.loop-i-init
 loop-i-init c = record { state = c.start-state.ensures c.args.text.now; none = λ k h. absurd (omega arith) }
-
-pub loop-i-preserved : goal.loop-i-preserved
-loop-i-preserved c =
-    let is = c.is_quote.ensures c.args.text.now c.loop-i.i refl c.loop-i.invariant.state in
-    let none : is_quote c.args.text.now c.loop-i.i ≡ false = cc in
-    record {
-      state = c.next-state.ensures c.args.text.now c.loop-i.i (omega arith) refl c.loop-i.invariant.state;
-      none = below_more _ _ c.loop-i.invariant.none none;
-    }
