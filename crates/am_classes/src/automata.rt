@@ -73,6 +73,7 @@ pub(crate) fn next_numbers(
 }
 
 /// For each byte, finds the first byte that every pattern treats like it.
+#[tactic(auto, using(std::proofs::lemmas::Grind::common_steps, crate::proofs::AutomataLemmas::classes_more))]
 pub(crate) fn byte_classes(
     alloc: Global,
     automata: &[PatternAutomaton],

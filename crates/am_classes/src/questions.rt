@@ -71,6 +71,7 @@ impl Questions {
     }
 
     /// Whether a text that a state follows is a named text.
+    #[tactic(auto, using(std::proofs::lemmas::Grind::common_steps, crate::proofs::FrontLemmas::nothing_before))]
     pub(crate) fn names_followed(&self, state: &LabelState<'_>) -> bool
         ensures { (text : List ℕ) → FollowsLabel self.now state.now text
             → (IsTrue result ↔ IsNamed self.now text) }
