@@ -28,7 +28,7 @@ use Rattle.regex_syntax.proofs.SetLemmas.{in_ranges-members}
 use Rattle.regex_syntax.proofs.Written.{grammar}
 use Rattle.am_labels.specs.Pattern.{pattern_reading, finds}
 use Rattle.am_classes.specs.Alphabet.{is_printable, IsOrdinary}
-use Rattle.am_every_alert.proofs.JsonTexts.{ascii_then}
+use Rattle.am_json.proofs.StringTexts.{ascii_then}
 use Rattle.am_every_alert.proofs.OverAscii.{is_ascii}
 
 -- ---- What the grammar reads.

@@ -3,11 +3,8 @@ pub mod CompleteSpaces
 pub mod UniverseAlerts
 pub mod SameFate
 pub mod SpaceAlerts
-pub mod OptionParts
-pub mod JsonTexts
 pub mod OverAscii
 pub mod AnyLine
 pub mod CompleteExample
-pub mod JsonTokens
-pub mod JsonData
+pub mod UniverseTexts
 pub mod RoomLemmas

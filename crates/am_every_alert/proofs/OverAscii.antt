@@ -16,7 +16,7 @@ use Rattle.am_classes.specs.Alphabet.{is_printable, IsOrdinary, IsOver}
 use Rattle.am_complete.specs.Complete.{IsCompleteAt, IsComplete, IsSpaceComplete}
 use Rattle.am_complete.specs.Covering.{HasTextsOver}
 use Rattle.am_every_alert.specs.EveryAlert.{IsAlert, IsAlertOf}
-use Rattle.am_every_alert.proofs.JsonTexts.{ascii_then}
+use Rattle.am_json.proofs.StringTexts.{ascii_then}
 
 -- ---- Texts.
 

@@ -5,3 +5,6 @@ pub mod Items
 pub mod Keys
 pub mod Deciding
 pub mod FormLaws
+pub mod StringTexts
+pub mod TokenTexts
+pub mod ValueTexts

@@ -1,7 +1,8 @@
 -- How examples build JSON values from lists, and worked examples of what forms make of values.
 use Rattle.std.specs.Prelude.{ℕ, List, [], ◌∷◌, Some, true, codes, ⊤}
-use Rattle.serde_json.specs.Data.{Data, null, boolean, string, array, object, Items, no_items, item}
-use Rattle.serde_json.specs.Data.{Members, no_members, member}
+use Rattle.serde_json.specs.Data.{Data, null, boolean, string, array, object, Members, no_members}
+use Rattle.serde_json.specs.Data.{member}
+use Rattle.serde_json.specs.View.{items_of}
 use Rattle.am_universe.specs.declared.kind.Kind.{Kind}
 use Rattle.am_universe.specs.declared.kind.Kind.TheVariants as kinds
 use Rattle.am_json.specs.Objections.{Objection, a_fault, a_pattern}
@@ -16,12 +17,8 @@ members_of (pair ∷ pairs) = member pair.0 pair.1 (members_of pairs)
 abbrev pub object_of : List (List ℕ × Data) → Data
 object_of pairs = object (members_of pairs)
 
-abbrev pub items_from : List Data → Items
-items_from [] = no_items
-items_from (d ∷ ds) = item d (items_from ds)
-
 abbrev pub array_of : List Data → Data
-array_of ds = array (items_from ds)
+array_of ds = array (items_of ds)
 
 -- A refusal of this kind at this pointer.
 abbrev pub refused_at : Kind → List ℕ → Refusal

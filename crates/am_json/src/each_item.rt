@@ -9,7 +9,7 @@ ghost use Rattle.am_json.specs.Reading.{read_items_or_null};
 ghost use Rattle.am_json.specs.OptionalItems.{read_optional_array};
 ghost use Rattle.am_json.specs.Json.{member_list};
 
-use crate::json::{as_items, check_count, read_optional_items};
+use crate::parts::{as_items, check_count, read_optional_items};
 use crate::pointer::{within_field, within_item};
 use crate::read_error::ReadError;
 use serde_json::{Map, Value};

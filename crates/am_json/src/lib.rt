@@ -25,9 +25,9 @@ pub use pointer::{within_field, within_item};
 pub use read_error::{ReadError, Refusal};
 
 // The parts of a value.
-mod json;
+mod parts;
 
-pub use json::{
+pub use parts::{
     as_items, as_object, as_text, check_count, check_only_fields, field, or_refused,
     read_boolean_or, read_json, read_optional_items, refuse_for, required_field, required_items,
     required_text,

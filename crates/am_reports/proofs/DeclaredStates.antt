@@ -1,6 +1,6 @@
 -- The state of the label at a position of a space, and what follows from it.
 use Rattle.std.proofs.Common.{◌≡◌, ◌≢◌, ◌⊎◌, ℕ, List, [], map, take, Some, slice_get, string_bytes}
-use Rattle.std.proofs.Common.{option_map, sym, ap, subst, inl, inr, ◌∙◌}
+use Rattle.std.proofs.Common.{Option, None, option_map, refl, sym, ap, subst, inl, inr, ◌∙◌}
 use Rattle.std.specs.Prelude.{IsTrue}
 use Rattle.std.specs.List.{AllByRecursion}
 use Rattle.std.proofs.lemmas.Bool.{false≢true}
@@ -20,7 +20,6 @@ use Rattle.am_complete.specs.AskedLabel.{AskedLabel}
 use Rattle.am_complete.specs.LabelState.{IsSoAt, IsSoIfNamed, is_settled, reported_names}
 use Rattle.am_complete.proofs.CompleteUniverses.{space_complete_without_matchers}
 use Rattle.am_complete.proofs.Pushed.{got_front}
-use Rattle.am_every_alert.proofs.OptionParts.{mapped}
 use Rattle.am_reports.specs.Configurations.{Configurations, routing_conditions}
 use Rattle.am_reports.specs.Configurations.{labels_of_routes}
 use Rattle.am_reports.specs.Made.{AreDeclaredWhole, IsDeclaredRefusal, LacksValue, IsUndecided}
@@ -30,6 +29,11 @@ use Rattle.am_reports.specs.Made.{IsStateRefusal}
 
 named : (l : Label) → IsLabel l → l.name ≢ []
 named l is none = false≢true (subst (λ (name : List ℕ). IsTrue (is_label_name name)) none is.name)
+
+mapped : {A B : Type 0} (f : A → B) (o : Option A) (b : B) → option_map f o ≡ Some b
+    → (a : A) × (o ≡ Some a) × (f a ≡ b)
+mapped f None b e = absurd (cc)
+mapped f (Some a) b e = (a, refl, cc)
 
 -- the state at this position is that of the label there, and what it says is true
 pub told_at : (a : Alphabet) (s : Space) (ms : List Condition) (asked : List AskedLabel)

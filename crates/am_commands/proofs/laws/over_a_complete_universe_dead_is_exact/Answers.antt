@@ -1,5 +1,5 @@
 use Rattle.am_classes.specs.declared.alphabet.Alphabet.TheVariants.{Unicode}
-use Rattle.am_every_alert.proofs.JsonData.{universe_texts}
+use Rattle.am_every_alert.proofs.UniverseTexts.{universe_texts}
 use Rattle.am_commands.proofs.EveryAlert.{dead_exactly, never_exactly, unmatched_exactly}
 use Rattle.am_commands.proofs.laws.over_a_complete_universe_dead_is_exact.Goals as goal
 

@@ -1,7 +1,7 @@
 use Rattle.std.proofs.Common.{map, refl}
 use Rattle.serde_json.specs.View.{view}
 use Rattle.am_json.proofs.Values.{item_list-items_of}
-use Rattle.am_json.proofs.json.as_items.Goals as goal
+use Rattle.am_json.proofs.parts.as_items.Goals as goal
 
 pub returns-in-Some : goal.returns-in-Some
 returns-in-Some c =

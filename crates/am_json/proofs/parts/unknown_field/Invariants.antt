@@ -2,7 +2,7 @@ use Rattle.std.proofs.Common.{◌≡◌, map}
 use Rattle.serde_json.specs.View.{members_view}
 use Rattle.am_json.specs.Json.{unknown_field}
 use Rattle.am_json.proofs.Keys.{Ascends}
-use Rattle.am_json.proofs.json.unknown_field.Given as goal
+use Rattle.am_json.proofs.parts.unknown_field.Given as goal
 
 -- the members that are left have the same least unknown field as all members
 abbrev pub invariant-loop-key : goal.invariant-loop-key

@@ -1,22 +1,19 @@
 -- The strings among the tokens of a text are UTF-8, if the text is.
-use Rattle.std.proofs.Common.{◌≡◌, ℕ, ◌-◌, ◌<◌, Bool, true, false, cond, ◌==◌, ◌&&◌, nat_eq, length}
-use Rattle.std.proofs.Common.{take, drop, List, [], ◌∷◌, ◌++◌, Option, Some, None, IsUtf8, refl, sym}
-use Rattle.std.proofs.Common.{arith, subst, append_assoc}
+use Rattle.std.proofs.Common.{◌≡◌, ℕ, ◌<◌, Bool, true, false, cond, List, [], ◌∷◌, ◌++◌, Option}
+use Rattle.std.proofs.Common.{Some, None, IsUtf8, refl, sym, arith, subst, append_assoc}
 use Rattle.std.specs.Prelude.{⊤}
-use Rattle.std.specs.List.{AllByRecursion, starts_with}
+use Rattle.std.specs.List.{AllByRecursion}
 use Rattle.std.proofs.lemmas.Bool.Decides.{nat_tests}
-use Rattle.json.specs.Token.{Token, begin_object, end_object, begin_array, end_array, key, string}
-use Rattle.json.specs.Token.{number, boolean, null, bad}
+use Rattle.std.proofs.lemmas.Grind.{common_steps}
+use Rattle.json.specs.Token.{Token, key, string, bad}
 use Rattle.json.specs.Text.{content, plain}
-use Rattle.json.specs.Word.{head, ends_word, literal, number_before}
-use Rattle.json.specs.Word.{after_number, word}
-use Rattle.json.specs.Ascii as ascii
+use Rattle.json.specs.Word.{ends_word, number_before, word}
 use Rattle.json.specs.Lex.{Lexeme, token, comma, colon, Class, quote, backslash, operator, space}
 use Rattle.json.specs.Lex.{other, class, operator_lexeme, string_token, Mode, between, in_word}
 use Rattle.json.specs.Lex.{in_string, in_escape, lex_byte, lex, Place, fresh, after_value}
-use Rattle.json.specs.Lex.{after_comma, after_key, begins_colon, may_begin, may_close, if_allowed}
-use Rattle.json.specs.Lex.{place_token, punctuate, tokens}
-use Rattle.am_every_alert.proofs.JsonTexts.{beside_ascii, content_is_text}
+use Rattle.json.specs.Lex.{after_comma, after_key, begins_colon, if_allowed, place_token, punctuate}
+use Rattle.json.specs.Lex.{tokens}
+use Rattle.am_json.proofs.StringTexts.{beside_ascii, GivesText, content_is_text}
 
 -- if a token is a string, its text is UTF-8
 abbrev pub HasText : Token → Type 0
@@ -29,42 +26,24 @@ HasTextInside l = ⊤
 
 -- ---- Lexemes.
 
-one_of : {A : Type 0} (P : A → Type 0) (b : Bool) (x y : A) → P x → P y → P (cond b x y)
-one_of P true x y h k = h
-one_of P false x y h k = k
-
-literal_text : (name : List ℕ) (t : Token) (xs : List ℕ) → HasText t
-    → HasText (literal name t xs)
-literal_text name t xs h =
-    one_of HasText (starts_with nat_eq xs name && ends_word (drop (length name) xs)) t bad h tt
+one_of : (b : Bool) (t u : Token) → HasText t → HasText u → HasText (cond b t u)
+one_of true t u h k = h
+one_of false t u h k = k
 
 number_text : (xs : List ℕ) (o : Option (List ℕ)) → HasText (number_before xs o)
 number_text xs None = tt
-number_text xs (Some rest) =
-    one_of HasText (ends_word rest) (number (take (length xs - length rest) xs)) bad tt tt
+number_text xs (Some rest) = one_of (ends_word rest) _ bad tt tt
 
 word_text : (xs : List ℕ) → HasText (word xs)
 unfolding word
-word_text xs =
-    one_of HasText (head xs == ascii.lower_t) _ _
-    (literal_text ascii.true_text (boolean true) xs tt)
-    (one_of HasText (head xs == ascii.lower_f) _ _
-    (literal_text ascii.false_text (boolean false) xs tt)
-    (one_of HasText (head xs == ascii.lower_n) _ _ (literal_text ascii.null_text null xs tt)
-    (number_text xs (after_number xs))))
+word_text xs = search (one_of, number_text)
 
 operator_text : (x : ℕ) → HasTextInside (operator_lexeme x)
-operator_text x =
-    one_of HasTextInside (x == ascii.open_brace) (token begin_object) _ tt
-    (one_of HasTextInside (x == ascii.close_brace) (token end_object) _ tt
-    (one_of HasTextInside (x == ascii.open_bracket) (token begin_array) _ tt
-    (one_of HasTextInside (x == ascii.close_bracket) (token end_array) _ tt
-    (one_of HasTextInside (x == ascii.comma) comma colon tt tt))))
+operator_text x = grind (arith, common_steps)
 
-string_text : (xs : List ℕ) (o : Option (List ℕ)) → IsUtf8 xs → content plain xs ≡ o
-    → HasText (string_token o)
-string_text xs None u e = tt
-string_text xs (Some s) u e = content_is_text xs s u e
+string_text : (o : Option (List ℕ)) → GivesText [] o → HasText (string_token o)
+string_text None h = tt
+string_text (Some s) h = h
 
 abbrev AreLexemes : List Lexeme → Type 0
 AreLexemes ls = AllByRecursion HasTextInside ls
@@ -73,7 +52,7 @@ byte_text : (m : Mode) (c : Class) (x : ℕ) (xs : List ℕ) (k : Mode → List 
     → (c ≡ quote → IsUtf8 xs) → ((next : Mode) → AreLexemes (k next))
     → AreLexemes (lex_byte m c x xs k)
 byte_text between quote x xs k u later =
-    (string_text xs (content plain xs) (u refl) refl, later in_string)
+    (string_text (content plain xs) (content_is_text xs (u refl)), later in_string)
 byte_text between backslash x xs k u later = (tt, later in_word)
 byte_text between operator x xs k u later = (operator_text x, later between)
 byte_text between space x xs k u later = later between
@@ -112,22 +91,11 @@ allowed_texts false t k next h later = (tt, tt)
 
 placed_texts : (p : Place) (t : Token) (before_colon : Bool) (k : Place → List Token) → HasText t
     → ((next : Place) → AreTokens (k next)) → AreTokens (place_token p t before_colon k)
-placed_texts p begin_object b k h later = allowed_texts (may_begin p) begin_object k fresh tt later
-placed_texts p end_object b k h later =
-    allowed_texts (may_close p) end_object k after_value tt later
-placed_texts p begin_array b k h later = allowed_texts (may_begin p) begin_array k fresh tt later
-placed_texts p end_array b k h later = allowed_texts (may_close p) end_array k after_value tt later
 placed_texts p (key s) b k h later = (tt, tt)
-placed_texts p (string s) true k h later =
-    allowed_texts (may_begin p) (key s) k after_key tt later
-placed_texts p (string s) false k h later =
-    allowed_texts (may_begin p) (string s) k after_value h later
-placed_texts p (number s) b k h later =
-    allowed_texts (may_begin p) (number s) k after_value tt later
-placed_texts p (boolean v) b k h later =
-    allowed_texts (may_begin p) (boolean v) k after_value tt later
-placed_texts p null b k h later = allowed_texts (may_begin p) null k after_value tt later
 placed_texts p bad b k h later = (tt, tt)
+placed_texts p (string s) true k h later = allowed_texts _ (key s) k _ tt later
+placed_texts p (string s) false k h later = allowed_texts _ (string s) k _ h later
+placed_texts p t b k h later = allowed_texts _ t k _ h later
 
 token_texts : (p : Place) (ls : List Lexeme) → AreLexemes ls → AreTokens (punctuate p ls)
 unfolding punctuate

@@ -1,6 +1,6 @@
 use Rattle.am_universe.specs.Text.{same_text}
 use Rattle.am_universe.proofs.UniverseLemmas.{list_any-map}
-use Rattle.am_json.proofs.json.is_one_of.Goals as goal
+use Rattle.am_json.proofs.parts.is_one_of.Goals as goal
 
 pub returns : goal.returns
 returns c =

@@ -7,7 +7,7 @@ use Rattle.am_json.specs.Pointer.{refusal_here}
 use Rattle.am_json.proofs.Values.{json_of_text, json_of_none}
 use Rattle.am_json.specs.Reading.{accept_or}
 use Rattle.am_json.proofs.Readings.{fails_refused}
-use Rattle.am_json.proofs.json.value_of.Goals as goal
+use Rattle.am_json.proofs.parts.value_of.Goals as goal
 
 pub returns-in-Ok : goal.returns-in-Ok
 returns-in-Ok c =

@@ -2,7 +2,7 @@ use Rattle.std.proofs.Common.{◌≡◌, true, false, map, string_bytes}
 use Rattle.serde_json.specs.View.{view}
 use Rattle.am_json.specs.Json.{is_unknown}
 use Rattle.am_json.proofs.Keys.{is_first, is_passed, still_ascends}
-use Rattle.am_json.proofs.json.unknown_field.Goals as goal
+use Rattle.am_json.proofs.parts.unknown_field.Goals as goal
 
 pub returns-then-is_unknown : goal.returns-then-is_unknown
 returns-then-is_unknown c =
