@@ -4,7 +4,6 @@ pub mod UniverseAlerts
 pub mod SameFate
 pub mod SpaceAlerts
 pub mod OverAscii
-pub mod AnyLine
 pub mod CompleteExample
 pub mod UniverseTexts
 pub mod RoomLemmas
