@@ -2,13 +2,13 @@
 use Rattle.std.proofs.Common.{◌≡◌, ◌≤◌, ◌<◌, ◌+◌, ℕ, List, [], ◌∷◌, ◌++◌, length, take, Option, Some}
 use Rattle.std.proofs.Common.{None, sym, ap, ◌∙◌, append_assoc, codes, slice_get, get_or, option_map}
 use Rattle.std.proofs.Common.{ap₂, option_and_then, arith, ◌==◌, false, map, refl}
-use Rattle.std.proofs.lemmas.List.{take_all, length-map}
+use Rattle.std.proofs.lemmas.List.{length-map}
 use Rattle.std.proofs.lemmas.Option.{slice_get-map, slice_get-get_or, same_Some}
 use Rattle.json.specs.Print.{quoted}
 use Rattle.am_universe.specs.Universe.{Label, sizes, names}
 use Rattle.am_universe.specs.LabelSet.{value_at}
 use Rattle.am_report_texts.specs.Separated.{gap_before}
-use Rattle.am_report_texts.proofs.PieceSteps.{one_pushed}
+use Rattle.am_report_texts.proofs.PieceSteps.{item_here, one_pushed, row_closed}
 use Rattle.am_universe_command.specs.UniverseText.{value_text, values_text, label_text, labels_text}
 use Rattle.am_universe_command.specs.UniverseText.{lists_text, impossible_text}
 
@@ -43,9 +43,9 @@ value_pushed u i n j label value old text gap gapped new here sized below is so_
 pub values_pushed : (u : List Label) (i n j : ℕ) (label : Label) (old text : List ℕ)
     → slice_get u i ≡ Some label → slice_get (sizes u) i ≡ Some n → n ≤ j
     → text ≡ old ++ values_text (take j label.values) → text ≡ old ++ values_text label.values
-values_pushed u i n j label old text here sized all so_far =
-    so_far ∙ ap (λ vs. old ++ values_text vs)
-    (take_all j label.values (omega (arith, size_here u i n label here sized)))
+values_pushed u i n j label old text here sized all =
+    row_closed [] (codes ", ") value_text label.values j old text
+    (omega (arith, size_here u i n label here sized))
 
 pub label_pushed : (u : List Label) (i : ℕ) (label : Label) (name old a b c d e : List ℕ)
     → slice_get u i ≡ Some label → slice_get (names u) i ≡ Some name
@@ -79,9 +79,7 @@ module _ {X : Type 0} (view : X → List ℕ) where
       → new ≡ front ++ lists_text (take (i + 1) (map view lists))
   one_list_pushed lists i list front text gap gapped new within is so_far gap_is gap_put pushed =
       let at : slice_get (map view lists) i ≡ Some (view list) =
-      slice_get-map view lists i
-      ∙ ap (option_map view) (slice_get-get_or lists i list within)
-      ∙ ap (λ x. Some (view x)) (sym is) in
+      slice_get-map view lists i ∙ ap (option_map view) (item_here lists i list within is) in
       one_pushed (codes "\n  ") (codes ",\n  ") quoted (map view lists) i (view list) front text
       gap gapped new at so_far gap_is gap_put pushed
 
@@ -96,7 +94,6 @@ module _ {X : Type 0} (view : X → List ℕ) where
       → text ≡ front ++ lists_text (take i (map view lists)) → new ≡ text ++ codes "\n]"
       → new ≡ old ++ impossible_text (map view lists)
   lists_pushed lists i old front text new some all opened so_far closed =
-      let texts = map view lists in
-      let whole : take i texts ≡ texts =
-      take_all i texts (omega (arith, length-map lists view, all)) in
-      rw (closed, so_far, whole, opened, some_lists lists some) (simp append_assoc)
+      let whole = row_closed (codes "\n  ") (codes ",\n  ") quoted (map view lists) i front text
+      (omega (arith, length-map lists view, all)) so_far in
+      rw (closed, whole, opened, some_lists lists some) (simp append_assoc)
