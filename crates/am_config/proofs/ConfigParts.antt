@@ -95,12 +95,10 @@ name_decides before d =
     (λ name (said, fits). (said.0, said.1, (said.2, (said.3, fits))))
 
 -- an array of receivers
-pub record SaysNames (d : Data) (names : List (List ℕ)) : Type 0 where
-  pub items : List Data
-  pub is_array : option_and_then items_of (field (codes "receivers") d) ≡ Some items
-  pub names_are : AllZip SaysName items names
-  pub few : length names ≤ MAX_RECEIVERS
-  pub distinct : IsDistinct same_text names
+abbrev pub SaysNames : Data → List (List ℕ) → Type 0
+SaysNames d names =
+    (items : List Data) × (option_and_then items_of (field (codes "receivers") d) ≡ Some items)
+    × AllZip SaysName items names × (length names ≤ MAX_RECEIVERS) × IsDistinct same_text names
 
 pub names_decide : (d : Data) → Decides (SaysNames d) ((receivers_form d).result)
 unfolding receivers_form receiver_names_form
@@ -112,23 +110,11 @@ names_decide d =
     (λ _. read_items_decide SaysName NameFits next_receiver_form name_decides items))))
     (λ names (items, is_array, (_, few, (said, fits))).
     let long = AllZip-long SaysName items names said in
-    record {
-      items = items;
-      is_array = is_array;
-      names_are = said;
-      few = omega arith;
-      distinct = names_distinct [] names (distinct_none same_text) fits;
-    })
-    (λ names said.
-    let long = AllZip-long SaysName said.items names said.names_are in (
-      said.items,
-      said.is_array,
-      (
-        tt,
-        omega (arith, said.few),
-        (said.names_are, distinct_names [] names said.distinct),
-      ),
-    ))
+    let distinct = names_distinct [] names (distinct_none same_text) fits in
+    (items, is_array, said, omega arith, distinct))
+    (λ names (items, is_array, said, few, distinct).
+    let long = AllZip-long SaysName items names said in
+    (items, is_array, (tt, omega arith, (said, distinct_names [] names distinct))))
 
 -- ---- The receiver of a route.
 

@@ -10,7 +10,7 @@ use borrow.Author.Tests.{lt-ltb}
 use Rattle.serde_json.specs.Data.{Data}
 use Rattle.am_universe.specs.Text.{same_text}
 use Rattle.am_universe.specs.declared.kind.Kind.TheVariants as kinds
-use Rattle.am_config.specs.declared.limits.TheConstants.{MAX_ROUTES, MAX_LEVELS}
+use Rattle.am_config.specs.declared.limits.TheConstants.{MAX_ROUTES, MAX_LEVELS, MAX_RULES}
 use Rattle.am_json.specs.Json.{field}
 use Rattle.am_json.specs.OptionalItems.{HasItems}
 use Rattle.am_json.specs.Pointer.{refusal_here, refusal_within, to_field}
@@ -20,20 +20,21 @@ use Rattle.am_config.specs.ConfigFile.{routes_of, matchers_of, route_count, rout
 use Rattle.am_config.specs.ConfigFile.{route_levels, routes_levels, route_fields}
 use Rattle.am_config.specs.ConfigFile.{has_receivers_below, have_receivers_below}
 use Rattle.am_config.specs.ConfigFile.{route_matcher_fields, SaysReceiver, SaysSettings}
-use Rattle.am_config.specs.ConfigFile.{SaysRoute, SaysRoutes, SaysConfig}
+use Rattle.am_config.specs.ConfigFile.{SaysRoute, SaysRoutes, SaysRule, SaysConfig}
 use Rattle.am_config.specs.ConfigForm.{RouteFields, route_fields_form, route_form}
 use Rattle.am_config.specs.ConfigForm.{next_child_form, config_form, route_settings_form}
+use Rattle.am_config.specs.ConfigForm.{rule_form}
 use Rattle.am_config.specs.Path.{list_of}
 use Rattle.am_json.proofs.Deciding.{accept_decides, behind_decides, boolean_decides, count_decides}
 use Rattle.am_json.proofs.Deciding.{found_decides, object_of, only_fields_decide}
 use Rattle.am_json.proofs.Deciding.{optional_items_decide, said_as, then_decides, within_decides}
-use Rattle.am_json.proofs.Items.{AllFit, read_items_decide}
+use Rattle.am_json.proofs.Items.{AllFit, optional_array_decides, read_items_decide}
 use Rattle.am_json.proofs.Readings.{Decides}
 use Rattle.am_config.proofs.ConfigParts.{names_decide, receiver_decides}
 use Rattle.am_config.proofs.MatchersSay.{matchers_decide}
 use Rattle.am_config.proofs.Paths.{some_levels}
 use Rattle.am_config.proofs.Routing.{count_push}
-use Rattle.am_config.proofs.RuleSays.{rules_decide}
+use Rattle.am_config.proofs.RuleSays.{rule_decides}
 
 -- ---- The fields of a route.
 
@@ -269,35 +270,31 @@ config_decides d =
     (refusal_within (to_field (codes "route")) (refusal_here kinds.Shape)))
     (λ value. then_decides
     (within_decides (to_field (codes "route")) (route_decides names MAX_LEVELS None 0 value))
-    (λ root. then_decides (rules_decide d)
+    (λ root. then_decides
+    (optional_array_decides SaysRule rule_form rule_decides MAX_RULES (codes "inhibit_rules") d)
     (λ rules. accept_decides (record { receivers = names; root = root; rules = rules }))))))
-    (λ c (names, n, (value, there, (root, said, (rules, ruled, is)))).
+    (λ c (
+      names,
+      (items, is_array, named, few, distinct),
+      (value, there, (root, said, (rules, ruled, is))),
+    ).
     subst (λ (x : Configuration). SaysConfig d x) is (record {
-      items = n.items;
-      is_array = n.is_array;
-      names = n.names_are;
-      few = n.few;
-      distinct = n.distinct;
+      items = items;
+      is_array = is_array;
+      names = named;
+      few = few;
+      distinct = distinct;
       root = value;
       has_root = there;
       says_root = said.says;
       unmatched = said.unmatched refl;
       few_routes = omega (arith, said.number);
       few_levels = said.levels;
-      rule_items = ruled.items;
-      is_rule_array = ruled.is_array;
-      few_rules = ruled.few;
-      rules = ruled.each;
+      rules = ruled;
     }))
     (λ c said. (
       c.receivers,
-      record {
-        items = said.items;
-        is_array = said.is_array;
-        names_are = said.names;
-        few = said.few;
-        distinct = said.distinct;
-      },
+      (said.items, said.is_array, said.names, said.few, said.distinct),
       (
         said.root,
         said.has_root,
@@ -309,16 +306,7 @@ config_decides d =
             number = omega (arith, said.few_routes);
             unmatched = λ _. said.unmatched;
           },
-          (
-            c.rules,
-            record {
-              items = said.rule_items;
-              is_array = said.is_rule_array;
-              few = said.few_rules;
-              each = said.rules;
-            },
-            refl,
-          ),
+          (c.rules, said.rules, refl),
         ),
       ),
     )))

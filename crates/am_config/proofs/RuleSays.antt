@@ -3,13 +3,13 @@
 use Rattle.std.proofs.Common.{false, refl, subst}
 use Rattle.std.specs.Prelude.{codes}
 use Rattle.serde_json.specs.Data.{Data}
-use Rattle.am_config.specs.declared.limits.TheConstants.{MAX_RULES, MAX_EQUAL_NAMES}
+use Rattle.am_config.specs.declared.limits.TheConstants.{MAX_EQUAL_NAMES}
 use Rattle.am_config.specs.ConfigFile.{Rule, rule_fields, source_matcher_fields}
 use Rattle.am_config.specs.ConfigFile.{target_matcher_fields, SaysEqualName, SaysRule}
-use Rattle.am_config.specs.ConfigForm.{equal_name_form, rule_form, rules_form}
+use Rattle.am_config.specs.ConfigForm.{equal_name_form, rule_form}
 use Rattle.am_json.proofs.Deciding.{accept_decides, as_text_decides, checked_decides}
 use Rattle.am_json.proofs.Deciding.{only_fields_decide, said_as, then_decides}
-use Rattle.am_json.proofs.Items.{SaysEach, optional_array_decides}
+use Rattle.am_json.proofs.Items.{optional_array_decides}
 use Rattle.am_json.proofs.Readings.{Decides}
 use Rattle.am_list_files.proofs.Matching.{named_decides}
 use Rattle.am_config.proofs.MatchersSay.{matchers_decide}
@@ -34,10 +34,7 @@ rule_decides d =
       only = only;
       source = s;
       target = t;
-      items = e.items;
-      is_array = e.is_array;
-      few = e.few;
-      equal = e.each;
+      equal = e;
     }))
     (λ rule said. (
       tt,
@@ -48,21 +45,7 @@ rule_decides d =
         (
           rule.target,
           (said.target, λ e. absurd cc),
-          (
-            rule.equal,
-            record {
-              items = said.items;
-              is_array = said.is_array;
-              few = said.few;
-              each = said.equal;
-            },
-            refl,
-          ),
+          (rule.equal, said.equal, refl),
         ),
       ),
     ))
-
-pub rules_decide : (d : Data)
-    → Decides (SaysEach SaysRule (codes "inhibit_rules") MAX_RULES d) ((rules_form d).result)
-rules_decide =
-    optional_array_decides SaysRule rule_form rule_decides MAX_RULES (codes "inhibit_rules")

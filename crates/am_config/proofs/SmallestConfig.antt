@@ -1,13 +1,8 @@
 -- What reading the smallest configuration file gives.
-use Rattle.std.proofs.Common.{◌≡◌, ℕ, List, [], ◌∷◌, length, nat_lt, true, Ok, Some}
+use Rattle.std.proofs.Common.{◌≡◌, length, Ok, Some}
 use Rattle.std.proofs.Common.{refl, codes, arith}
 use Rattle.serde_json.specs.Data.{Data, string, array, object, no_items, item, no_members, member}
-use Rattle.std.specs.List.{list_all}
-use Rattle.std.specs.Str.{IsAscii}
-use Rattle.std.proofs.lemmas.Bool.{and_parts}
-use Rattle.std.proofs.lemmas.Bool.Decides.{nat_tests}
-use Rattle.std.proofs.lemmas.Str.{IsUtf8-from_ascii}
-use Rattle.std.proofs.lemmas.Str.Ascii.{IsAscii-cons, IsAscii-nil}
+use Rattle.json.proofs.Printed.Utf8.{IsUtf8-are_ascii}
 use Rattle.serde_json.specs.Read.{read}
 use Rattle.serde_json.proofs.OnLiterals.{serde_json_on_literals}
 use Rattle.am_json.specs.Json.{json_of}
@@ -28,21 +23,13 @@ value = object (member (codes "receivers")
     (member (codes "route")
     (object (member (codes "receiver") (string (codes "none")) no_members)) no_members))
 
-all_ascii : (bs : List ℕ) → list_all (λ b. nat_lt b 128) bs ≡ true → IsAscii bs
-all_ascii [] h = IsAscii-nil
-all_ascii (b ∷ bs) h =
-    let parts = and_parts (nat_lt b 128) (list_all (λ b. nat_lt b 128) bs) h in
-    let small : nat_lt b 128 ≡ true = parts.0 in
-    IsAscii-cons b bs (grind (arith, nat_tests)) (all_ascii bs parts.1)
-
 reads : read smallest_config_file ≡ Some value
 unfolding serde_json_on_literals
 reads = refl
 
 has_value : json_of smallest_config_file ≡ Some value
 has_value =
-    json_of_text smallest_config_file value
-    (IsUtf8-from_ascii smallest_config_file (all_ascii smallest_config_file refl)) reads
+    json_of_text smallest_config_file value (IsUtf8-are_ascii smallest_config_file refl) reads
 
 says_smallest : (config_form value).result ≡ Ok smallest_config
 unfolding config_form receivers_form required_items receiver_names_form read_each read_next_item

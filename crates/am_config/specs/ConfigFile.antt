@@ -16,7 +16,7 @@ use Rattle.am_list_files.specs.MatcherTexts.{SaysMatcherText}
 use Rattle.am_config.specs.declared.limits.TheConstants.{MAX_RECEIVERS, MAX_ROUTES, MAX_LEVELS}
 use Rattle.am_config.specs.declared.limits.TheConstants.{MAX_RULES, MAX_EQUAL_NAMES}
 use Rattle.am_json.specs.Json.{FileSays, field, items_of, member_list, SaysBooleanOr, HasOnlyFields}
-use Rattle.am_json.specs.OptionalItems.{HasItems}
+use Rattle.am_json.specs.OptionalItems.{HasItems, SaysItemsInField}
 
 -- ---- Configurations.
 
@@ -295,10 +295,7 @@ pub record SaysRule (d : Data) (rule : Rule) : Type 0 where
   pub only : HasOnlyFields rule_fields d
   pub source : SaysMatchers source_matcher_fields d rule.source
   pub target : SaysMatchers target_matcher_fields d rule.target
-  pub items : List Data
-  pub is_array : HasItems (codes "equal") d items
-  pub few : length items ≤ MAX_EQUAL_NAMES
-  pub equal : AllZip SaysEqualName items rule.equal
+  pub equal : SaysItemsInField SaysEqualName (codes "equal") MAX_EQUAL_NAMES d rule.equal
 
 -- A JSON value says a configuration: it is an object with receivers of different names, a top-level
 -- route without matchers, and inhibition rules, if it has any. Its other fields are ignored.
@@ -318,10 +315,7 @@ pub record SaysConfig (d : Data) (c : Configuration) : Type 0 where
   pub unmatched : matchers_of c.root ≡ []
   pub few_routes : route_count c.root ≤ MAX_ROUTES
   pub few_levels : route_levels c.root ≤ MAX_LEVELS
-  pub rule_items : List Data
-  pub is_rule_array : HasItems (codes "inhibit_rules") d rule_items
-  pub few_rules : length rule_items ≤ MAX_RULES
-  pub rules : AllZip SaysRule rule_items c.rules
+  pub rules : SaysItemsInField SaysRule (codes "inhibit_rules") MAX_RULES d c.rules
 
 -- The bytes of a file, at most `MAX_FILE_BYTES`, say the configuration that their JSON value says.
 abbrev pub FileSaysConfig : List ℕ → Configuration → Type 0

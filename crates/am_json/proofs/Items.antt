@@ -8,7 +8,8 @@ use Rattle.std.proofs.lemmas.List.{drop_all, append-nil}
 use Rattle.serde_json.specs.Data.{Data, null}
 use Rattle.am_json.specs.declared.read_error.ReadError.{ReadError}
 use Rattle.am_json.specs.Json.{items_of}
-use Rattle.am_json.specs.OptionalItems.{AreItems, HasItems, SaysItemsOrNull, read_optional_array}
+use Rattle.am_json.specs.OptionalItems.{AreItems, SaysItemsInField, SaysItemsOrNull}
+use Rattle.am_json.specs.OptionalItems.{read_optional_array}
 use Rattle.am_json.specs.Pointer.{to_field, to_item}
 use Rattle.am_json.specs.Reading.{Reading, ◌>>=◌, accept, reading_within, read_each}
 use Rattle.am_json.specs.Reading.{read_next_item, read_items, read_item_array}
@@ -175,14 +176,6 @@ all_fit before (x ∷ xs) = (tt, all_fit (before ++ x ∷ []) xs)
 items_of_null : (items : List Data) → items_of null ≡ Some items → ⊥
 items_of_null items h = cc
 
--- an array that may be absent has at most `limit` items, and each says the element at its position
-pub record SaysEach {A : Type 0} (Says : Data → A → Type 0) (key : List ℕ) (limit : ℕ) (d : Data)
-    (xs : List A) : Type 0 where
-  pub items : List Data
-  pub is_array : HasItems key d items
-  pub few : length items ≤ limit
-  pub each : AllZip Says items xs
-
 -- each item is read by itself
 module _ {A : Type 0} (Says : Data → A → Type 0) (read : Data → Reading A) (decides : (d : Data)
     → Decides (Says d) ((read d).result)) where
@@ -227,12 +220,12 @@ module _ {A : Type 0} (Says : Data → A → Type 0) (read : Data → Reading A)
 
     -- an array in a field that may be absent
     pub optional_array_decides : (key : List ℕ) (d : Data)
-        → Decides (SaysEach Says key limit d) ((read_optional_array key limit read d).result)
+        → Decides (SaysItemsInField Says key limit d) ((read_optional_array key limit read d).result)
     unfolding read_optional_array
     optional_array_decides key d =
         said_as
         (then_decides (optional_items_decide key d)
         (λ items. within_decides (to_field key) (counted_decides items)))
-        (λ xs (items, is_array, (few, each)).
-        record { items = items; is_array = is_array; few = few; each = each })
-        (λ xs said. (said.items, said.is_array, (said.few, said.each)))
+        (λ xs (items, has, (few, each)).
+        record { items = items; has_items = has; few = few; each = each })
+        (λ xs said. (said.items, said.has_items, (said.few, said.each)))

@@ -29,6 +29,18 @@ pub record AreItems {A : Type 0} (Says : Data → A → Type 0) (limit : ℕ) (d
 abbrev pub SaysItemsOrNull : {A : Type 0} → (Data → A → Type 0) → ℕ → Data → List A → Type 0
 SaysItemsOrNull Says limit d xs = ((d ≡ null) × (xs ≡ [])) ⊎ AreItems Says limit d xs
 
+-- An optional field says a list: it has an array of at most `limit` items, and each item says the
+-- element at its position. If the field is absent, it says the empty list.
+-- Source: own choice.
+-- Example: let the items be texts. In the field `a` and with the limit 1, `{"a": ["x"]}` says a
+-- list of one text, `{}` says the empty list, and `{"a": ["x", "y"]}` says nothing.
+pub record SaysItemsInField {A : Type 0} (Says : Data → A → Type 0) (key : List ℕ) (limit : ℕ)
+    (d : Data) (xs : List A) : Type 0 where
+  pub items : List Data
+  pub has_items : HasItems key d items
+  pub few : length items ≤ limit
+  pub each : AllZip Says items xs
+
 -- The items of an optional array, and the items of the array in an optional field. If it is absent,
 -- there are none.
 abbrev pub optional_items : Option Data → Reading (List Data)

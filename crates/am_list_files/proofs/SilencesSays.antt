@@ -87,10 +87,9 @@ fits_count [] some few = absurd (some refl)
 fits_count (d ∷ ds) some few = rw (le-ltb MAX_MATCHERS (length (d ∷ ds)) few) refl
 
 -- an array of matchers
-record SaysMatchers (items : List Data) (ms : List Condition) : Type 0 where
-  pub some : items ≢ []
-  pub few : length items ≤ MAX_MATCHERS
-  pub matchers : AllZip SaysSilenceMatcher items ms
+abbrev SaysMatchers : List Data → List Condition → Type 0
+SaysMatchers items ms =
+    (items ≢ []) × (length items ≤ MAX_MATCHERS) × AllZip SaysSilenceMatcher items ms
 
 matchers_decide : (items : List Data)
     → Decides (SaysMatchers items) ((silence_matchers_form items).result)
@@ -99,9 +98,8 @@ matchers_decide items =
     said_as
     (then_decides (cause_decides (matcher_count_fault (length items)))
     (λ _. each_decide SaysSilenceMatcher silence_matcher_form matcher_decides items))
-    (λ ms (_, none, each). let fits = count_fits items none in
-    record { some = fits.0; few = fits.1; matchers = each })
-    (λ ms said. (tt, fits_count items said.some said.few, said.matchers))
+    (λ ms (_, none, each). let fits = count_fits items none in (fits.0, fits.1, each))
+    (λ ms (some, few, each). (tt, fits_count items some few, each))
 
 -- ---- A silence.
 
@@ -124,13 +122,13 @@ silence_decides d =
     (λ starts. then_decides (instant_decides (codes "endsAt") d)
     (λ ends. accept_decides
     (record { matchers = matchers; starts = starts; ends = ends }))))))
-    (λ s (items, is_array, (matchers, said, (starts, begins, (ends, finishes, is)))).
+    (λ s (items, is_array, (matchers, (some, few, said), (starts, begins, (ends, finishes, is)))).
     subst (λ (found : Silence). SaysSilence d found) is (record {
       items = items;
       is_array = is_array;
-      some = said.some;
-      few = said.few;
-      matchers = said.matchers;
+      some = some;
+      few = few;
+      matchers = said;
       starts = begins;
       ends = finishes;
     }))
@@ -139,7 +137,7 @@ silence_decides d =
       said.is_array,
       (
         s.matchers,
-        record { some = said.some; few = said.few; matchers = said.matchers },
+        (said.some, said.few, said.matchers),
         (s.starts, said.starts, (s.ends, said.ends, refl)),
       ),
     )))

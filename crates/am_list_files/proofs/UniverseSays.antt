@@ -33,14 +33,13 @@ use Rattle.am_list_files.specs.UniverseFile.{file_fields, label_fields, SaysValu
 use Rattle.am_list_files.specs.UniverseFile.{SaysImpossible, SaysUniverse}
 use Rattle.am_list_files.specs.UniverseForm.{value_form, next_value_form, values_form}
 use Rattle.am_list_files.specs.UniverseForm.{next_label_form, labels_form, all_labels_form}
-use Rattle.am_list_files.specs.UniverseForm.{impossible_form, all_lists_form}
+use Rattle.am_list_files.specs.UniverseForm.{impossible_form}
 use Rattle.am_list_files.specs.UniverseForm.{universe_form}
 use Rattle.am_json.proofs.Deciding.{accept_decides, as_text_decides, cause_decides}
 use Rattle.am_json.proofs.Deciding.{checked_decides, count_decides, items_decide}
 use Rattle.am_json.proofs.Deciding.{only_fields_decide, said_as, text_decides, then_decides}
 use Rattle.am_json.proofs.Deciding.{within_decides}
-use Rattle.am_json.proofs.Items.{AllFit, read_items_decide}
-use Rattle.am_json.proofs.Items.{SaysEach, optional_array_decides}
+use Rattle.am_json.proofs.Items.{AllFit, optional_array_decides, read_items_decide}
 use Rattle.am_json.proofs.Readings.{Decides, bind_ok, same_read, within_ok}
 use Rattle.am_list_files.proofs.MatcherTexts.{spelled_decides}
 
@@ -224,11 +223,10 @@ grown before (label ∷ more) is fits few =
     (grown (before ++ label ∷ []) more next fits.1 few_next)
 
 -- an array of labels, which are a universe
-record SaysLabels (d : Data) (u : List Label) : Type 0 where
-  pub items : List Data
-  pub is_array : option_and_then items_of (field (codes "labels") d) ≡ Some items
-  pub labels : AllZip SaysLabel items u
-  pub is_universe : IsUniverse u
+abbrev SaysLabels : Data → List Label → Type 0
+SaysLabels d u =
+    (items : List Data) × (option_and_then items_of (field (codes "labels") d) ≡ Some items)
+    × AllZip SaysLabel items u × IsUniverse u
 
 labels_decide : (d : Data) → Decides (SaysLabels d) ((all_labels_form d).result)
 unfolding all_labels_form labels_form
@@ -240,22 +238,10 @@ labels_decide d =
     (λ _. read_items_decide SaysLabel LabelFits next_label_form label_decides items))))
     (λ u (items, is_array, (_, few, (said, fits))).
     let long = AllZip-long SaysLabel items u said in
-    record {
-      items = items;
-      is_array = is_array;
-      labels = said;
-      is_universe = grown [] u IsUniverse-empty fits (omega arith);
-    })
-    (λ u said.
-    let long = AllZip-long SaysLabel said.items u said.labels in (
-      said.items,
-      said.is_array,
-      (
-        tt,
-        omega (arith, said.is_universe.at_most),
-        (said.labels, universe_fits [] u said.is_universe),
-      ),
-    ))
+    (items, is_array, said, grown [] u IsUniverse-empty fits (omega arith)))
+    (λ u (items, is_array, said, is).
+    let long = AllZip-long SaysLabel items u said in
+    (items, is_array, (tt, omega (arith, is.at_most), (said, universe_fits [] u is))))
 
 -- ---- The lists that are impossible.
 
@@ -271,13 +257,6 @@ list_decides d =
     (λ ms said.
     (said.text.0, said.text.1, (said.text.2, said.few, said.valid_patterns)))
 
-lists_decide : (d : Data)
-    → Decides (SaysEach SaysImpossible (codes "impossible") MAX_IMPOSSIBLE d)
-    ((all_lists_form d).result)
-lists_decide =
-    optional_array_decides SaysImpossible impossible_form list_decides MAX_IMPOSSIBLE
-    (codes "impossible")
-
 -- ---- The file.
 
 pub universe_decides : (d : Data) → Decides (SaysUniverse d) ((universe_form d).result)
@@ -286,40 +265,25 @@ universe_decides d =
     said_as
     (then_decides (only_fields_decide file_fields d)
     (λ _. then_decides (labels_decide d)
-    (λ labels. then_decides (lists_decide d)
+    (λ labels. then_decides
+    (optional_array_decides SaysImpossible impossible_form list_decides MAX_IMPOSSIBLE
+    (codes "impossible") d)
     (λ lists. accept_decides (record { labels = labels; impossible = lists })))))
-    (λ s (_, only, (labels, said, (lists, listed, is))).
+    (λ s (_, only, (labels, (items, is_array, said, universe), (lists, listed, is))).
     subst (λ (found : Space). SaysUniverse d found) is (record {
       only = only;
-      items = said.items;
-      is_array = said.is_array;
-      labels = said.labels;
-      is_universe = said.is_universe;
-      texts = listed.items;
-      has_texts = listed.is_array;
-      few = listed.few;
-      impossible = listed.each;
+      items = items;
+      is_array = is_array;
+      labels = said;
+      is_universe = universe;
+      impossible = listed;
     }))
     (λ s said. (
       tt,
       said.only,
       (
         s.labels,
-        record {
-          items = said.items;
-          is_array = said.is_array;
-          labels = said.labels;
-          is_universe = said.is_universe;
-        },
-        (
-          s.impossible,
-          record {
-            items = said.texts;
-            is_array = said.has_texts;
-            few = said.few;
-            each = said.impossible;
-          },
-          refl,
-        ),
+        (said.items, said.is_array, said.labels, said.is_universe),
+        (s.impossible, said.impossible, refl),
       ),
     ))

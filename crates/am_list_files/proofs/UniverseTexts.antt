@@ -38,8 +38,9 @@ all_are_texts (d ∷ items) (ms ∷ lists) said =
 texts_found : (d : Data) (s : Space) → SaysUniverse d s
     → HasImpossibleTexts d (filter_map as_str (items_in_field (field (codes "impossible") d)))
 texts_found d s said =
-    let all = all_are_texts said.texts s.impossible said.impossible in
-    rw (items_found (codes "impossible") d said.texts said.has_texts, all) said.has_texts
+    let lists = said.impossible in
+    let all = all_are_texts lists.items s.impossible lists.each in
+    rw (items_found (codes "impossible") d lists.items lists.has_items, all) lists.has_items
 
 -- ---- The same of a file.
 
@@ -60,11 +61,9 @@ texts_say_lists bytes s texts said has =
     let d = said.1 in
     let one : has.1 ≡ d = same_Some has.1 d (sym has.2 ∙ said.2) in
     let here : HasImpossibleTexts d texts = rw one at has.3 in
-    let same : said.3.texts ≡ map string texts =
-    sym (items_found (codes "impossible") d said.3.texts said.3.has_texts)
+    let lists = said.3.impossible in
+    let same : lists.items ≡ map string texts =
+    sym (items_found (codes "impossible") d lists.items lists.has_items)
     ∙ items_found (codes "impossible") d (map string texts) here in
-    let long : length (map string texts) ≤ MAX_IMPOSSIBLE = rw same at said.3.few in
-    record {
-      few = omega (arith, length-map texts string, long);
-      each = rw same at said.3.impossible;
-    }
+    let long : length (map string texts) ≤ MAX_IMPOSSIBLE = rw same at lists.few in
+    record { few = omega (arith, length-map texts string, long); each = rw same at lists.each }

@@ -9,7 +9,7 @@ use Rattle.am_labels.specs.Matcher.{Condition}
 use Rattle.am_labels.specs.MatcherRefusals.{have_valid_patterns}
 use Rattle.am_labels.specs.Space.{Space}
 use Rattle.am_json.specs.Json.{FileSays, field, items_of, HasOnlyFields}
-use Rattle.am_json.specs.OptionalItems.{HasItems}
+use Rattle.am_json.specs.OptionalItems.{HasItems, SaysItemsInField}
 use Rattle.am_list_files.specs.MatcherTexts.{SaysMatcherText}
 
 -- The fields of a universe file.
@@ -64,10 +64,8 @@ pub record SaysUniverse (d : Data) (s : Space) : Type 0 where
   pub is_array : option_and_then items_of (field (codes "labels") d) ≡ Some items
   pub labels : AllZip SaysLabel items s.labels
   pub is_universe : IsUniverse s.labels
-  pub texts : List Data
-  pub has_texts : HasItems (codes "impossible") d texts
-  pub few : length texts ≤ MAX_IMPOSSIBLE
-  pub impossible : AllZip SaysImpossible texts s.impossible
+  pub impossible : SaysItemsInField SaysImpossible (codes "impossible") MAX_IMPOSSIBLE d
+      s.impossible
 
 -- The bytes of a file, at most `MAX_FILE_BYTES`, say the space that their JSON value says.
 abbrev pub FileSaysUniverse : List ℕ → Space → Type 0

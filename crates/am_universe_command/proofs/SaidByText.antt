@@ -135,10 +135,12 @@ data_says u texts lists is spell = record {
   is_array = labels_are_items u texts;
   labels = each_said label_data SaysLabel label_said u;
   is_universe = is;
-  texts = map string texts;
-  has_texts = texts_said u texts;
-  few = omega (arith, length-map texts string, spell.few);
-  impossible = spell.each;
+  impossible = record {
+    items = map string texts;
+    has_items = texts_said u texts;
+    few = omega (arith, length-map texts string, spell.few);
+    each = spell.each;
+  };
 }
 
 pub universe_said : (u : List Label) (texts : List (List ℕ)) (lists : List (List Condition))
