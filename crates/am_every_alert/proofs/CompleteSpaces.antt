@@ -1,11 +1,11 @@
 -- When a universe or a space is complete: if it has texts alike to some that cover all, and for
 -- matchers that are among others for which it is complete.
-use Rattle.std.proofs.Common.{◌≡◌, ◌≢◌, ℕ, List, [], ◌∷◌, ◌++◌, refl, ap, subst, inl, inr}
+use Rattle.std.proofs.Common.{◌≡◌, ◌≢◌, ℕ, List, [], ◌∷◌, ◌++◌, refl, ap}
 use Rattle.std.proofs.Common.{Contains}
 use Rattle.std.specs.List.{AllByRecursion}
 use Rattle.am_universe.specs.Universe.{Label, IsUniverse}
 use Rattle.am_universe.proofs.ListLemmas.{IsIn, IsIn-from_Contains, AllByRecursion-at}
-use Rattle.am_universe.proofs.ListLemmas.{AllByRecursion-each, Contains-from_IsIn}
+use Rattle.am_universe.proofs.Members.{joined_in}
 use Rattle.am_labels.specs.Matcher.{Condition}
 use Rattle.am_labels.specs.Space.{Space}
 use Rattle.am_config.specs.ConfigFile.{Configuration}
@@ -16,8 +16,7 @@ use Rattle.am_classes.specs.Alike.{Covers}
 use Rattle.am_complete.specs.Complete.{about, HasAlike, IsCompleteAt, IsComplete, AreAmong}
 use Rattle.am_complete.specs.Complete.{may_have, label_texts, IsSpaceCompleteAt, IsSpaceComplete}
 use Rattle.am_complete.specs.Complete.{impossible_conditions}
-use Rattle.am_asked.specs.Asked.{route_conditions, rule_conditions, equal_conditions}
-use Rattle.am_asked.specs.Asked.{silence_conditions, world_conditions, question_conditions}
+use Rattle.am_asked.specs.Asked.{route_conditions, world_conditions, question_conditions}
 use Rattle.am_asked.specs.Asked.{questions_conditions}
 use Rattle.am_complete.proofs.Alike.{is_about, about_is, is_among}
 use Rattle.am_complete.proofs.AmongMatchers.{among_by, first_among, last_among, among_through}
@@ -102,16 +101,6 @@ pub both_among : (ks ns ms : List Condition) → AreAmong ks ms → AreAmong ns 
 both_among [] ns ms h k = k
 both_among (m ∷ ks) ns ms h k = (h.0, both_among ks ns ms h.1 k)
 
-routes_in_world : (w : World) → AreAmong (route_conditions w.config.root) (world_conditions w)
-routes_in_world w =
-    first_among (route_conditions w.config.root)
-    (rule_conditions w.config.rules
-    ++ (equal_conditions w.config.rules w.alerts ++ silence_conditions w.silences))
-
-among_itself : (ms : List Condition) → AreAmong ms ms
-among_itself ms =
-    AllByRecursion-each (Contains ms) ms (λ m i. Contains-from_IsIn ms m i)
-
 -- the last of three lists is among all of them
 behind_more : (ms ns ks : List Condition) → AreAmong ks (ms ++ (ns ++ ks))
 behind_more ms ns ks =
@@ -135,7 +124,7 @@ pub complete_for_world : (a : Alphabet) (s : Space) (w : World) (questions : Lis
     → IsSpaceComplete a s (coverage_conditions s w.config)
 complete_for_world a s w questions =
     complete_for_routes a s w.config (world_conditions w) (questions_conditions questions)
-    (routes_in_world w)
+    (first_among (route_conditions w.config.root) _)
 
 pub complete_for_routes_alone : (a : Alphabet) (s : Space) (c : Configuration)
     (questions : List Question)
@@ -144,21 +133,15 @@ pub complete_for_routes_alone : (a : Alphabet) (s : Space) (c : Configuration)
     → IsSpaceComplete a s (coverage_conditions s c)
 complete_for_routes_alone a s c questions =
     complete_for_routes a s c (route_conditions c.root) (questions_conditions questions)
-    (among_itself (route_conditions c.root))
+    (among_by (route_conditions c.root) (route_conditions c.root) (λ m i. i))
 
 -- ---- What is complete for questions is so for each of them.
 
 in_questions : (questions : List Question) (q : Question) → IsIn questions q
     → AreAmong (question_conditions q) (questions_conditions questions)
-in_questions [] q i = absurd i
-in_questions (p ∷ questions) q (inl same) =
-    subst (λ (r : Question). AreAmong (question_conditions r)
-    (question_conditions p ++ questions_conditions questions)) same
-    (first_among (question_conditions p) (questions_conditions questions))
-in_questions (p ∷ questions) q (inr later) =
-    among_through (question_conditions q) (questions_conditions questions)
-    (question_conditions p ++ questions_conditions questions) (in_questions questions q later)
-    (last_among (question_conditions p) (questions_conditions questions))
+in_questions questions q i =
+    among_by (question_conditions q) (questions_conditions questions)
+    (λ m j. joined_in question_conditions questions q m i j)
 
 pub complete_for_question : (a : Alphabet) (s : Space) (w : World) (questions : List Question)
     (q : Question) → Contains questions q

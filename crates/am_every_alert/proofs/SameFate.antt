@@ -1,11 +1,12 @@
 -- Label sets that meet the same of the matchers that decide have the same fate.
 use Rattle.std.proofs.Common.{◌≡◌, ℕ, ◌+◌, List, [], ◌∷◌, ◌++◌, map, Bool, false, cond, not, refl}
-use Rattle.std.proofs.Common.{sym, ap, ◌∙◌, inl, inr, subst}
+use Rattle.std.proofs.Common.{sym, ap, ◌∙◌, inl, inr}
 use Rattle.std.specs.Prelude.{◌&&◌, ◌||◌, ◌==◌}
 use Rattle.std.specs.List.{flat_map, filter, filter_map, list_any}
 use Rattle.std.proofs.lemmas.Bool.{cases_Bool}
 use Rattle.am_universe.specs.LabelSet.{LabelMap}
 use Rattle.am_universe.proofs.ListLemmas.{IsIn, AllByRecursion-each, AllByRecursion-at}
+use Rattle.am_universe.proofs.Members.{joined_in}
 use Rattle.am_labels.specs.Matcher.{Condition, condition_holds, all_hold}
 use Rattle.am_labels.specs.Space.{is_possible}
 use Rattle.am_labels.proofs.Passing.{kept_from_passes}
@@ -98,12 +99,9 @@ module _ (s t : LabelMap) where
   -- what is met alike of the matchers of all items is met alike of those of each
   each_met : {X : Type 0} (conditions : X → List Condition) (xs : List X) (x : X) → IsIn xs x
       → MeetsTheSame (flat_map conditions xs) s t → MeetsTheSame (conditions x) s t
-  each_met conditions [] x there h = absurd there
-  each_met conditions (y ∷ xs) x (inl same) h =
-      subst (λ z. MeetsTheSame (conditions z) s t) same
-      (front_met (conditions y) (flat_map conditions xs) h)
-  each_met conditions (y ∷ xs) x (inr later) h =
-      each_met conditions xs x later (rest_met (conditions y) (flat_map conditions xs) h)
+  each_met conditions xs x there h =
+      AllByRecursion-each IsMetAlike (conditions x) (λ m i.
+      AllByRecursion-at IsMetAlike (flat_map conditions xs) m h (joined_in conditions xs x m there i))
 
   any_alike : {X : Type 0} (f g : X → Bool) (xs : List X)
       → ((x : X) → IsIn xs x → f x ≡ g x) → list_any f xs ≡ list_any g xs

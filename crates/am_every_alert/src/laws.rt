@@ -132,6 +132,7 @@ pub fn label_sets_of_a_universe_are_alerts()
 {}
 
 /// Being alike to some matchers is an equivalence of texts.
+#[tactic(auto, using(am_complete::proofs::Alike::alike_itself, am_complete::proofs::Alike::alike_turned, am_complete::proofs::Alike::alike_joined))]
 pub fn alike_texts_are_equivalent()
     ensures itself { (ms : List Condition) (x : List ℕ) → AreAlike ms x x }
     ensures turned { (ms : List Condition) (x y : List ℕ) → AreAlike ms x y → AreAlike ms y x }
@@ -142,6 +143,7 @@ pub fn alike_texts_are_equivalent()
 /// A universe is complete at a label, over an alphabet, if some texts cover all that are over it,
 /// and the universe has a text alike to each of them. It is also complete at each label that no
 /// matcher is on.
+#[tactic(auto, using(crate::proofs::CompleteSpaces::complete_by_cover, am_complete::proofs::CompleteUniverses::complete_without_matchers))]
 pub fn a_universe_is_complete_where_its_texts_cover_all()
     ensures covered { (a : Alphabet) (u : List Label) (ms : List Condition) (name : List ℕ)
         (texts : List (List ℕ)) → Covers a (about name ms) texts
