@@ -3,9 +3,9 @@
 use Rattle.std.proofs.Common.{◌≡◌, ◌↔◌, ℕ, List, [], ◌∷◌, ◌++◌, map, take, Bool, true, false, arith}
 use Rattle.std.proofs.Common.{◌&&◌, ◌||◌, not, cond, Option, Some, None, refl, sym, ap, rules}
 use Rattle.std.proofs.Common.{◌∙◌}
-use Rattle.std.specs.Prelude.{slice_get, IsTrue, IsFalse, ◌==◌}
-use Rattle.std.specs.List.{AllByRecursion, list_all, list_any}
-use Rattle.std.proofs.lemmas.Bool.{and_parts, and_from, eqb-true, eq-eqb, not-true}
+use Rattle.std.specs.Prelude.{slice_get, option_map, IsTrue, IsFalse, ◌==◌}
+use Rattle.std.specs.List.{AllByRecursion, list_all, list_any, filter, filter_map, cons_option}
+use Rattle.std.proofs.lemmas.Bool.{and_parts, and_from, not-true}
 use Rattle.std.proofs.lemmas.List.{append-nil}
 use Rattle.std.proofs.lemmas.List.Folds.{list_all-map}
 use Rattle.std.proofs.lemmas.Grind.{common_steps}
@@ -18,7 +18,7 @@ use Rattle.am_config.specs.ConfigFile.{Configuration, receiver_of}
 use Rattle.am_config.specs.Path.{list_of, route_at}
 use Rattle.am_config.specs.RoutePaths.{paths_of}
 use Rattle.am_eval.specs.World.{World}
-use Rattle.am_eval.specs.Routing.{ends_at, ends, receivers, is_last, EndsThere}
+use Rattle.am_eval.specs.Routing.{ends_at, ends, receivers, receiver_at, is_last, EndsThere}
 use Rattle.am_eval.specs.declared.reach.Reach.{Reach}
 use Rattle.am_eval.specs.declared.reach.Reach.TheVariants.{Ends, Enters}
 use Rattle.am_eval.specs.Question.{Receiver, Route, holds_of}
@@ -26,10 +26,10 @@ use Rattle.am_eval.specs.Conditions.{Literal, literal_holds, some_way_holds, mat
 use Rattle.am_eval.specs.Conditions.{stopped_by_none, no_child_of, asked_at, ways_into, ways_below}
 use Rattle.am_eval.specs.Conditions.{ways_to_reach, is_receiver, paths_to, ways_to_receiver}
 use Rattle.am_labels.proofs.Passing.{any_in, in_any, passes_from_kept, kept_from_passes}
-use Rattle.am_eval.proofs.EndLaws.{exactly}
+use Rattle.am_eval.proofs.EndLaws.{exactly, at_routes}
 use Rattle.am_eval.proofs.FlatEnds.{ends_exactly, matched_ends}
-use Rattle.am_eval.proofs.ListTests.{all_exactly, one_of}
-use Rattle.am_eval.proofs.SimpleParts.{goes_there, ends_there, end_from_test, test_from_end}
+use Rattle.am_eval.proofs.ListTests.{all_exactly, one_of, some_passes, passes_among}
+use Rattle.am_eval.proofs.SimpleParts.{ends_there, end_from_test, test_from_end}
 use Rattle.am_eval.proofs.RoutePathLaws.{is_path}
 use Rattle.am_eval.proofs.SomeWay.{some_way-literal, some_way-front, some_way-joined}
 
@@ -172,30 +172,51 @@ route_condition w s reach path =
 
 -- ---- To a receiver.
 
-receiver_there : (receiver : ℕ) (o : Option RouteTree) → IsTrue (is_receiver receiver o)
-    → (t : RouteTree) × (o ≡ Some t) × (receiver_of t ≡ receiver)
-receiver_there receiver None h = absurd (cc)
-receiver_there receiver (Some t) h = (t, refl, eqb-true (receiver_of t) receiver h)
+-- whether an alert ends at a path
+abbrev pub is_end : LabelMap → Configuration → List ℕ → Bool
+is_end s c path = list_any (λ end. same_text end path) (ends s c)
+
+-- some end passes a test exactly if the alert ends at one of the routes whose paths pass it
+pub ends_among : (s : LabelMap) (c : Configuration) (test : List ℕ → Bool)
+    → list_any test (ends s c) ≡ list_any (is_end s c) (filter test (paths_of c))
+ends_among s c test =
+    let all = ends s c in
+    let kept = filter test (paths_of c) in
+    same_test _ _ (λ h. h, λ h. h) (
+      λ h.
+          let r = any_in (is_end s c) kept h in
+          passes_among test all r.0 (end_from_test r.0 all r.2)
+          (passes_from_kept test (paths_of c) r.0 r.1).1,
+      λ h.
+          let r = some_passes test all h in
+          let at = at_routes c s r.0 r.1 in
+          let listed = is_path c.root at.0 r.0 at.1 in
+          in_any (is_end s c) kept r.0 (kept_from_passes test (paths_of c) r.0 listed r.2)
+          (test_from_end r.0 all r.1),
+    )
+
+receivers_by_paths : (c : Configuration) (receiver : ℕ) (paths : List (List ℕ))
+    → list_any (λ other. other == receiver) (filter_map (receiver_at c) paths)
+    ≡ list_any (λ path. is_receiver receiver (route_at c.root path)) paths
+receivers_by_paths c receiver [] = refl
+receivers_by_paths c receiver (path ∷ paths) =
+    by (route_at c.root path) ∙ ap (λ b. is_receiver receiver (route_at c.root path) || b)
+    (receivers_by_paths c receiver paths)
+  where
+    by : (o : Option RouteTree) → list_any (λ other. other == receiver)
+        (cons_option (option_map receiver_of o) (filter_map (receiver_at c) paths))
+        ≡ (is_receiver receiver o || list_any (λ other. other == receiver)
+        (filter_map (receiver_at c) paths))
+    by None = refl
+    by (Some t) = refl
 
 -- an alert goes to a receiver exactly if it ends at one of the routes that have it
 pub goes_by_ends : (s : LabelMap) (c : Configuration) (receiver : ℕ)
     → list_any (λ other. other == receiver) (receivers s c)
-    ≡ list_any (λ path. list_any (λ end. same_text end path) (ends s c)) (paths_to receiver c.root)
+    ≡ list_any (is_end s c) (paths_to receiver c.root)
 goes_by_ends s c receiver =
-    let has = λ (path : List ℕ). is_receiver receiver (route_at c.root path) in
-    let is_end = λ (path : List ℕ). list_any (λ end. same_text end path) (ends s c) in
-    same_test _ _ (goes_there s c receiver) (
-      λ h.
-          let one = any_in is_end (paths_to receiver c.root) h in
-          let kept = passes_from_kept has (paths_of c) one.0 one.1 in
-          let t = receiver_there receiver (route_at c.root one.0) kept.1 in
-          (one.0, t.0, end_from_test one.0 (ends s c) one.2, t.1, t.2),
-      λ h.
-          let passes = ap (is_receiver receiver) h.3 ∙ eq-eqb (receiver_of h.1) receiver h.4 in
-          in_any is_end (paths_to receiver c.root) h.0
-          (kept_from_passes has (paths_of c) h.0 (is_path c.root h.1 h.0 h.3) passes)
-          (test_from_end h.0 (ends s c) h.2),
-    )
+    receivers_by_paths c receiver (ends s c)
+    ∙ ends_among s c (λ path. is_receiver receiver (route_at c.root path))
 
 pub receiver_condition : (w : World) (s : LabelMap) (receiver : ℕ)
     → holds_of w (Receiver receiver) s
