@@ -1,3 +1,2 @@
 pub mod AskedPages
 pub mod AskedAgain
-pub mod EveryAlert

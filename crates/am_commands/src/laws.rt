@@ -1,6 +1,6 @@
 //! Facts about the definitions alone: each is the contract of a function with an empty body.
 ghost use Rattle.std.specs.Prelude.{◌≡◌, ◌≤◌, ◌<◌, ◌++◌, ℕ, List, [], Some, None, Option, IfSome};
-ghost use Rattle.std.specs.Prelude.{length, ◌↔◌, IsTrue, Contains, codes};
+ghost use Rattle.std.specs.Prelude.{length, ◌↔◌, codes};
 ghost use Rattle.std.specs.List.{flat_map};
 ghost use Rattle.am_universe.specs.declared.kind.Kind.TheVariants as kinds;
 ghost use Rattle.am_universe.specs.declared.limits.TheConstants.{MAX_LABELS};
@@ -35,8 +35,8 @@ ghost use Rattle.am_commands.specs.Reports.{ReportsFiles, AcceptsReport, report_
 ghost use Rattle.am_coverage.specs.Report.{IsRoutesReport, IsReceiversReport};
 ghost use Rattle.am_universe.specs.LabelSet.{LabelMap};
 ghost use Rattle.am_labels.specs.ParsedLabelSet.{WordsSpellSet};
-ghost use Rattle.am_config.specs.Path.{leads_through};
-ghost use Rattle.am_eval.specs.Routing.{ends, receivers};
+ghost use Rattle.am_eval.specs.Reaching.{EndsAt, Enters, GoesTo, SomeIs, IsSetOf, IsDead};
+ghost use Rattle.am_eval.specs.Reaching.{IsNeverEntered, IsUnmatched};
 ghost use Rattle.am_commands.specs.Explanation.{explain_stages, ExplainsSet, inhibited_line};
 ghost use Rattle.am_files.specs.Files.{Files};
 ghost use Rattle.am_files.specs.AcceptedWorld.{AcceptsWorld};
@@ -45,10 +45,8 @@ ghost use Rattle.am_classes.specs.declared.alphabet.Alphabet.TheVariants.{Unicod
 ghost use Rattle.am_complete.specs.Complete.{IsSpaceComplete};
 ghost use Rattle.am_complete.specs.Covering.{HasTextsOver};
 ghost use Rattle.am_coverage.specs.declared.coverage.RouteCoverage.TheVariants as route_is;
-ghost use Rattle.am_coverage.specs.Coverage.{IsDead, IsNeverEntered, IsUnmatched, route_coverage};
-ghost use Rattle.am_coverage.specs.Coverage.{first_receipt};
-ghost use Rattle.am_every_alert.specs.EveryAlert.{IsAlertOf, NoAlertEndsAt, NoAlertEnters};
-ghost use Rattle.am_every_alert.specs.EveryAlert.{NoAlertGoesTo};
+ghost use Rattle.am_coverage.specs.Coverage.{route_coverage, first_receipt};
+ghost use Rattle.am_every_alert.specs.EveryAlert.{IsAlertOf};
 ghost use Rattle.am_every_alert.specs.Deciding.{coverage_conditions};
 
 /// The answers from the first choice on are all answers to the question.
@@ -210,13 +208,13 @@ pub fn an_explanation_is_one_text()
 pub fn a_dead_route_of_a_complete_universe_has_no_alert()
     ensures dead { (a : Alphabet) (s : Space) (c : Configuration) (path : List ℕ)
         → IsUniverse s.labels → IsSpaceComplete a s (coverage_conditions s c)
-        → IsDead s c path → NoAlertEndsAt a s c path }
+        → IsDead (IsSetOf s) c path → IsDead (IsAlertOf a s) c path }
     ensures never_entered { (a : Alphabet) (s : Space) (c : Configuration) (path : List ℕ)
         → IsUniverse s.labels → IsSpaceComplete a s (coverage_conditions s c)
-        → IsNeverEntered s c path → NoAlertEnters a s c path }
+        → IsNeverEntered (IsSetOf s) c path → IsNeverEntered (IsAlertOf a s) c path }
     ensures unmatched { (a : Alphabet) (s : Space) (c : Configuration) (receiver : ℕ)
         → IsUniverse s.labels → IsSpaceComplete a s (coverage_conditions s c)
-        → IsUnmatched s c receiver → NoAlertGoesTo a s c receiver }
+        → IsUnmatched (IsSetOf s) c receiver → IsUnmatched (IsAlertOf a s) c receiver }
 {}
 
 /// Some alert ends at each route that is reported as live, some ends below each that is reported as
@@ -225,17 +223,14 @@ pub fn a_dead_route_of_a_complete_universe_has_no_alert()
 pub fn a_route_is_live_in_any_universe()
     ensures live { (a : Alphabet) (s : Space) (c : Configuration) (path choice : List ℕ)
         → IsUniverse s.labels → HasTextsOver a s.labels
-        → route_coverage s c path ≡ route_is.Live choice
-        → (alert : LabelMap) × IsAlertOf a s alert × Contains (ends alert c) path }
+        → route_coverage s c path ≡ route_is.Live choice → SomeIs (IsAlertOf a s) (EndsAt c path) }
     ensures entered { (a : Alphabet) (s : Space) (c : Configuration) (path : List ℕ)
         → IsUniverse s.labels → HasTextsOver a s.labels
-        → route_coverage s c path ≡ route_is.Entered
-        → (alert : LabelMap) × (end : List ℕ) × IsAlertOf a s alert × Contains (ends alert c) end
-        × IsTrue (leads_through path end) }
+        → route_coverage s c path ≡ route_is.Entered → SomeIs (IsAlertOf a s) (Enters c path) }
     ensures receiver { (a : Alphabet) (s : Space) (c : Configuration) (receiver : ℕ)
         (choice : List ℕ) → IsUniverse s.labels → HasTextsOver a s.labels
         → first_receipt s c receiver ≡ Some choice
-        → (alert : LabelMap) × IsAlertOf a s alert × Contains (receivers alert c) receiver }
+        → SomeIs (IsAlertOf a s) (GoesTo c receiver) }
 {}
 
 /// In a universe file that is complete over Unicode, a route is dead exactly if no possible alert
@@ -247,23 +242,23 @@ pub fn a_route_is_live_in_any_universe()
 pub fn over_a_complete_universe_dead_is_exact()
     ensures dead { (universe_file path : List ℕ) (s : Space) (c : Configuration)
         → FileSaysUniverse universe_file s → IsSpaceComplete Unicode s (coverage_conditions s c)
-        → (IsDead s c path ↔ NoAlertEndsAt Unicode s c path) }
+        → IsDead (IsSetOf s) c path ↔ IsDead (IsAlertOf Unicode s) c path }
     ensures never_entered { (universe_file path : List ℕ) (s : Space) (c : Configuration)
         → FileSaysUniverse universe_file s → IsSpaceComplete Unicode s (coverage_conditions s c)
-        → (IsNeverEntered s c path ↔ NoAlertEnters Unicode s c path) }
+        → IsNeverEntered (IsSetOf s) c path ↔ IsNeverEntered (IsAlertOf Unicode s) c path }
     ensures unmatched { (universe_file : List ℕ) (s : Space) (c : Configuration) (receiver : ℕ)
         → FileSaysUniverse universe_file s → IsSpaceComplete Unicode s (coverage_conditions s c)
-        → (IsUnmatched s c receiver ↔ NoAlertGoesTo Unicode s c receiver) }
+        → IsUnmatched (IsSetOf s) c receiver ↔ IsUnmatched (IsAlertOf Unicode s) c receiver }
     ensures dead_over { (a : Alphabet) (s : Space) (c : Configuration) (path : List ℕ)
         → IsUniverse s.labels → HasTextsOver a s.labels
         → IsSpaceComplete a s (coverage_conditions s c)
-        → (IsDead s c path ↔ NoAlertEndsAt a s c path) }
+        → IsDead (IsSetOf s) c path ↔ IsDead (IsAlertOf a s) c path }
     ensures never_entered_over { (a : Alphabet) (s : Space) (c : Configuration) (path : List ℕ)
         → IsUniverse s.labels → HasTextsOver a s.labels
         → IsSpaceComplete a s (coverage_conditions s c)
-        → (IsNeverEntered s c path ↔ NoAlertEnters a s c path) }
+        → IsNeverEntered (IsSetOf s) c path ↔ IsNeverEntered (IsAlertOf a s) c path }
     ensures unmatched_over { (a : Alphabet) (s : Space) (c : Configuration) (receiver : ℕ)
         → IsUniverse s.labels → HasTextsOver a s.labels
         → IsSpaceComplete a s (coverage_conditions s c)
-        → (IsUnmatched s c receiver ↔ NoAlertGoesTo a s c receiver) }
+        → IsUnmatched (IsSetOf s) c receiver ↔ IsUnmatched (IsAlertOf a s) c receiver }
 {}

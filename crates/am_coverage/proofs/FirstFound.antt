@@ -1,101 +1,94 @@
--- The first choice of a space that has a property, as a test finds it.
-use Rattle.std.proofs.Common.{◌≡◌, ◌↔◌, ℕ, List, [], ◌∷◌, Bool, true, false, Option, Some, None}
-use Rattle.std.proofs.Common.{refl, sym, ap, ◌∙◌, inl, inr}
+-- The first choice of a space whose label set has a property, as a test finds it.
+use Rattle.std.proofs.Common.{◌≡◌, ◌↔◌, ℕ, List, [], ◌∷◌, Bool, false, Option, Some, None}
+use Rattle.std.proofs.Common.{refl, sym, ap, ◌∙◌, subst, slice_get}
 use Rattle.std.specs.Prelude.{IsTrue}
-use Rattle.std.specs.List.{find}
-use Rattle.std.specs.Ordering.{nat_cmp, is_lt, ordering_reverse}
+use Rattle.std.specs.List.{filter}
+use Rattle.std.specs.Ordering.{nat_cmp}
 use Rattle.std.specs.Cmp.Lexicographic.{slice_cmp}
-use Rattle.std.specs.declared.cmp.Ordering.{Ordering}
-use Rattle.std.specs.declared.cmp.Ordering.TheVariants.{Less, Equal, Greater}
-use Rattle.std.proofs.lemmas.Bool.{cases_Bool, both_ways}
-use Rattle.std.proofs.lemmas.Cmp.{nat_list_cmp_total}
-use Rattle.std.proofs.lemmas.Map.Lookups.{exact_bytes}
+use Rattle.std.proofs.lemmas.Bool.{both_ways, false_from_ne_true}
+use Rattle.std.proofs.lemmas.List.Kept.{IsStrictlySortedBy-filter}
+use Rattle.am_universe.specs.LabelSet.{LabelMap, label_set_of}
 use Rattle.am_universe.proofs.ListLemmas.{IsIn, IsIn-from_Contains, Contains-from_IsIn}
 use Rattle.am_labels.specs.Space.{Space, all_choices, IsChoiceOf}
 use Rattle.am_labels.proofs.SpaceLaws.{space_choices, space_choices_sorted}
+use Rattle.am_eval.specs.Reaching.{SomeIs, IsSetOf}
 use Rattle.am_search.specs.Start.{comes_before}
-use Rattle.am_search.proofs.ChoiceOrder.{Ascends, ascends_rest}
-use Rattle.am_first_sets.proofs.FirstPossible.{is_found, none_passes}
-use Rattle.am_coverage.specs.Report.{IsFirstChoice}
+use Rattle.am_search.proofs.ChoiceOrder.{Ascends, first_is, in_filter, into_filter, none_found}
+use Rattle.am_first_sets.proofs.FirstPossible.{find_first, is_found, none_passes}
+use Rattle.am_coverage.specs.Coverage.{first_passing}
+use Rattle.am_coverage.specs.Report.{IsFirstChoice, IsFirst}
 use Rattle.am_coverage.proofs.EarliestFound.{none_before}
 
--- in a list that ascends, no item that passes comes before the one that is found
-found_first : (test : List ℕ → Bool) (xs : List (List ℕ)) (x y : List ℕ) → Ascends xs
-    → find test xs ≡ Some x → IsIn xs y → test y ≡ true → comes_before y x ≡ false
-found_first test [] x y s e h passes = absurd h
-found_first test (z ∷ zs) x y s e h passes = elim (cases_Bool (test z)) [
-  | inl first ↦
-      let found : Some z ≡ Some x = rw first at e in
-      let both : z ≡ x = cc in
-      ap (comes_before y) (sym both) ∙ none_before z zs y s h
-  | inr fails ↦ elim h [
-    | inl same ↦ absurd (both_ways (test z) fails (ap test same ∙ passes))
-    | inr later ↦ found_first test zs x y (ascends_rest z zs s) (rw fails at e) later passes
-  ]
-]
+-- in a list that ascends, no item comes before the first
+at_front : (xs : List (List ℕ)) (x y : List ℕ) → Ascends xs → slice_get xs 0 ≡ Some x → IsIn xs y
+    → comes_before y x ≡ false
+at_front [] x y s e i = absurd i
+at_front (z ∷ zs) x y s e i =
+    let same : z ≡ x = cc in ap (comes_before y) (sym same) ∙ none_before z zs y s i
 
--- ---- There is one first choice.
+-- so a label set of the space has the property
+pub some_first : (s : Space) (Is : LabelMap → Type 0) (choice : List ℕ)
+    → IsFirstChoice s Is choice → SomeIs (IsSetOf s) Is
+some_first s Is choice first =
+    (label_set_of s.labels choice, (choice, first.possible, refl), first.has)
 
-neither : (o : Ordering) → is_lt o ≡ false → is_lt (ordering_reverse o) ≡ false → o ≡ Equal
-neither Less le ge = absurd (cc)
-neither Equal le ge = refl
-neither Greater le ge = absurd (cc)
+-- Among all choices of a space, by a test that says which label sets have the property.
+module _ (s : Space) (test : LabelMap → Bool) (Is : LabelMap → Type 0)
+    (exact : (set : LabelMap) → IsTrue (test set) ↔ Is set) where
+  abbrev passes : List ℕ → Bool
+  passes choice = test (label_set_of s.labels choice)
 
-one_first : (s : Space) (Has : List ℕ → Type 0) (choice other : List ℕ)
-    → IsFirstChoice s Has choice → IsFirstChoice s Has other → choice ≡ other
-one_first s Has choice other one also =
-    exact_bytes choice other
-    (neither (slice_cmp nat_cmp choice other) (also.first choice one.possible one.has)
-    (ap is_lt (sym (nat_list_cmp_total.antisymm other choice))
-    ∙ one.first other also.possible also.has))
+  possible : (choice : List ℕ) → IsIn (all_choices s) choice → IsChoiceOf s choice
+  possible choice i = (space_choices s choice).0 (Contains-from_IsIn (all_choices s) choice i)
 
--- ---- Among all choices of a space, by a test that says which have the property.
+  -- the choices that pass, in order
+  abbrev kept : List (List ℕ)
+  kept = filter passes (all_choices s)
 
-module _ (s : Space) (test : List ℕ → Bool) (Has : List ℕ → Type 0)
-    (exact : (choice : List ℕ) → IsTrue (test choice) ↔ Has choice) where
-  in_space : (choice : List ℕ) → IsChoiceOf s choice → IsIn (all_choices s) choice
-  in_space choice possible =
-      IsIn-from_Contains (all_choices s) choice ((space_choices s choice).1 possible)
+  kept_sorted : Ascends kept
+  kept_sorted =
+      IsStrictlySortedBy-filter (slice_cmp nat_cmp) passes (all_choices s) (space_choices_sorted s)
 
-  pub first_found : (choice : List ℕ) → find test (all_choices s) ≡ Some choice
-      → IsFirstChoice s Has choice
-  first_found choice e =
-      let r = is_found test (all_choices s) choice e in
-      record {
-        possible = (space_choices s choice).0 (Contains-from_IsIn (all_choices s) choice r.0);
-        has = (exact choice).0 r.1;
-        first = λ other possible has.
-            found_first test (all_choices s) choice other (space_choices_sorted s) e
-            (in_space other possible) ((exact other).1 has);
-      }
+  into_kept : (choice : List ℕ) → IsChoiceOf s choice → Is (label_set_of s.labels choice)
+      → IsIn kept choice
+  into_kept choice is has =
+      into_filter passes (all_choices s) choice
+      (IsIn-from_Contains (all_choices s) choice ((space_choices s choice).1 is))
+      ((exact (label_set_of s.labels choice)).1 has)
 
-  -- nothing is found exactly if no choice has the property
-  pub none_found : ((choice : List ℕ) → IsChoiceOf s choice → Has choice → ⊥)
-      ↔ (find test (all_choices s) ≡ None)
-  none_found = (
-    λ none. by none (find test (all_choices s)) refl,
-    λ e choice possible has.
-        both_ways (test choice) (none_passes s test (sym e) choice possible) ((exact choice).1 has),
+  -- what is found is the first choice with the property, and nothing is found if none has it
+  pub first_exactly : (o : Option (List ℕ)) → IsFirst s Is o ↔ (first_passing s test ≡ o)
+  first_exactly None = (
+    λ none.
+        none_found passes (all_choices s) (λ choice i.
+        false_from_ne_true (passes choice) (λ e.
+        none (label_set_of s.labels choice) (choice, possible choice i, refl)
+        ((exact (label_set_of s.labels choice)).0 e))),
+    λ e set is has.
+        both_ways (passes is.0) (none_passes s passes (sym e) is.0 is.1)
+        ((exact (label_set_of s.labels is.0)).1 (subst Is is.2 has)),
   )
-    where
-      by : ((choice : List ℕ) → IsChoiceOf s choice → Has choice → ⊥) → (o : Option (List ℕ))
-          → find test (all_choices s) ≡ o → o ≡ None
-      by none None e = refl
-      by none (Some choice) e =
-          let first = first_found choice e in absurd (none choice first.possible first.has)
+  first_exactly (Some choice) = (
+    λ first.
+        find_first passes (all_choices s)
+        ∙ first_is kept choice kept_sorted (into_kept choice first.possible first.has) (λ x i.
+        let r = in_filter passes (all_choices s) x i in
+        first.first x (possible x r.0) ((exact (label_set_of s.labels x)).0 r.1)),
+    λ e.
+        let r = is_found passes (all_choices s) choice e in
+        record {
+          possible = possible choice r.0;
+          has = (exact (label_set_of s.labels choice)).0 r.1;
+          first = λ other is has.
+              at_front kept choice other kept_sorted (sym (find_first passes (all_choices s)) ∙ e)
+              (into_kept other is has);
+        },
+  )
 
-  pub some_found : (choice : List ℕ) → IsChoiceOf s choice → Has choice
-      → (first : List ℕ) × (find test (all_choices s) ≡ Some first)
-  some_found choice possible has = by (find test (all_choices s)) refl
+  pub some_found : SomeIs (IsSetOf s) Is
+      → (first : List ℕ) × (first_passing s test ≡ Some first)
+  some_found some = by (first_passing s test) refl
     where
-      by : (o : Option (List ℕ)) → find test (all_choices s) ≡ o
-          → (first : List ℕ) × (o ≡ Some first)
-      by None e = absurd (none_found.1 e choice possible has)
+      by : (o : Option (List ℕ)) → first_passing s test ≡ o → (first : List ℕ) × (o ≡ Some first)
+      by None e = absurd ((first_exactly None).1 e some.0 some.1 some.2)
       by (Some first) e = (first, refl)
-
-  -- so the first choice that has the property is the one that is found
-  pub is_first : (choice : List ℕ) → IsFirstChoice s Has choice
-      → find test (all_choices s) ≡ Some choice
-  is_first choice first =
-      let r = some_found choice first.possible first.has in
-      r.1 ∙ ap (λ c. Some c) (one_first s Has r.0 choice (first_found r.0 r.1) first)

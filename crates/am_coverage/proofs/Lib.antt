@@ -1,6 +1,5 @@
 pub mod FirstFound
-pub mod RouteLaws
-pub mod ReceiverLaws
+pub mod CoverageLaws
 pub mod PathLaws
 pub mod ReportFacts
 pub mod EarliestFound

@@ -29,7 +29,8 @@ use Rattle.am_coverage.specs.FirstEnds.{first_end_of, first_ends, is_entered, co
 use Rattle.am_coverage.specs.FirstEnds.{earliest, earliest_to}
 use Rattle.am_coverage.proofs.EarliestFound.{or_nothing}
 use Rattle.am_coverage.proofs.FirstEndLaws.{entry_is_earliest, receipt_is_earliest}
-use Rattle.am_coverage.proofs.RouteLaws.{first_live}
+use Rattle.am_coverage.specs.Report.{IsCoverage}
+use Rattle.am_coverage.proofs.CoverageLaws.{covered}
 
 -- ---- There is an earliest choice exactly if there is some choice.
 
@@ -93,13 +94,14 @@ module _ (s : Space) (c : Configuration) where
   pub routes_shown : (paths : List (List ℕ))
       → AllByRecursion (IsShownRoute (sizes s.labels)) (map (route_found s c) paths)
   routes_shown [] = tt
-  routes_shown (path ∷ paths) = (by (route_coverage s c path) refl, routes_shown paths)
+  routes_shown (path ∷ paths) =
+      (by (route_coverage s c path) (covered s c path), routes_shown paths)
     where
-      by : (coverage : RouteCoverage) → route_coverage s c path ≡ coverage
+      by : (coverage : RouteCoverage) → IsCoverage s c path coverage
           → IsShown (sizes s.labels) coverage
-      by (route_is.Live choice) e = (first_live s c path choice e).possible.0
-      by route_is.Entered e = tt
-      by route_is.NeverEntered e = tt
+      by (route_is.Live choice) first = first.possible.0
+      by route_is.Entered so = tt
+      by route_is.NeverEntered so = tt
 
   -- ---- Receivers.
 

@@ -1,60 +1,60 @@
 -- What the reports say, line by line, over all label sets of a universe. (This project's own.)
-use Rattle.std.specs.Prelude.{◌≡◌, ℕ, List, ◌++◌, Some, Contains, codes, false, length, slice_get}
+use Rattle.std.specs.Prelude.{◌≡◌, ℕ, List, ◌++◌, Option, Some, None, codes, false, length}
 use Rattle.std.specs.List.{AllZip, flat_map, range_with_len}
-use Rattle.am_universe.specs.LabelSet.{label_set_of}
-use Rattle.am_universe.specs.Text.{quoted_text}
-use Rattle.am_universe.specs.WrittenLabelSet.{set_text}
+use Rattle.am_universe.specs.LabelSet.{LabelMap, label_set_of}
 use Rattle.am_labels.specs.Space.{Space, IsChoiceOf}
 use Rattle.am_config.specs.ConfigFile.{Configuration}
-use Rattle.am_config.specs.Path.{path_text}
-use Rattle.am_eval.specs.Routing.{ends, receivers}
 use Rattle.am_config.specs.RoutePaths.{paths_of}
+use Rattle.am_eval.specs.Reaching.{EndsAt, Enters, GoesTo, SomeIs, NoneIs, IsSetOf, IsDead}
+use Rattle.am_eval.specs.Reaching.{IsNeverEntered}
 use Rattle.am_search.specs.Start.{comes_before}
-use Rattle.am_coverage.specs.Coverage.{IsDead, IsNeverEntered, IsUnmatched}
+use Rattle.am_coverage.specs.declared.coverage.RouteCoverage.{RouteCoverage}
+use Rattle.am_coverage.specs.declared.coverage.RouteCoverage.TheVariants as route_is
+use Rattle.am_coverage.specs.WrittenCoverage.{route_line, receiver_line}
 
--- This choice is the first of a space, in declared order, that has a property.
+-- This choice is the first of a space, in declared order, whose label set has a property. Without a
+-- choice, no label set of the space has it.
 -- Source: own choice.
--- Example: if the choices 0 0, 0 1 and 1 1 have the property, and no others do, the first is 0 0.
-pub record IsFirstChoice (s : Space) (Has : List ℕ → Type 0) (choice : List ℕ) : Type 0 where
+-- Example: if the label sets of the choices 0 0, 0 1 and 1 1 have the property, and no others do,
+-- the first is 0 0.
+pub record IsFirstChoice (s : Space) (Is : LabelMap → Type 0) (choice : List ℕ) : Type 0 where
   pub possible : IsChoiceOf s choice
-  pub has : Has choice
-  pub first : (other : List ℕ) → IsChoiceOf s other → Has other
+  pub has : Is (label_set_of s.labels choice)
+  pub first : (other : List ℕ) → IsChoiceOf s other → Is (label_set_of s.labels other)
       → comes_before other choice ≡ false
 
--- The label set of a choice ends at a route; and it goes to a receiver.
-abbrev pub EndsAt : Space → Configuration → List ℕ → List ℕ → Type 0
-EndsAt s c path choice = Contains (ends (label_set_of s.labels choice) c) path
+abbrev pub IsFirst : Space → (LabelMap → Type 0) → Option (List ℕ) → Type 0
+IsFirst s Is None = NoneIs (IsSetOf s) Is
+IsFirst s Is (Some choice) = IsFirstChoice s Is choice
 
-abbrev pub GoesTo : Space → Configuration → ℕ → List ℕ → Type 0
-GoesTo s c receiver choice = Contains (receivers (label_set_of s.labels choice) c) receiver
+-- What is said of a route is true over all label sets: it is live, and this choice is the first
+-- whose label set ends there; or it is dead, and some label set enters it; or none enters it.
+-- Source: own choice.
+-- Example: a route with the matcher `team=ops` is never entered if the universe does not declare
+-- that value. A route whose children match all that it matches is dead, and it is entered if some
+-- label set ends below it.
+abbrev pub IsCoverage : Space → Configuration → List ℕ → RouteCoverage → Type 0
+IsCoverage s c path (route_is.Live choice) = IsFirstChoice s (EndsAt c path) choice
+IsCoverage s c path route_is.Entered =
+    IsDead (IsSetOf s) c path × SomeIs (IsSetOf s) (Enters c path)
+IsCoverage s c path route_is.NeverEntered = IsNeverEntered (IsSetOf s) c path
 
--- The line of a route says what holds over all label sets: the route is live, and the line shows
--- the first label set that ends there; or the route is dead, and it is entered if some label set
--- ends below it, and otherwise never entered.
+-- The line of a route says a coverage that is true of it.
 -- Source: own choice.
 -- Example: `/ live {team="web"}`, `/0 dead entered` and `/1 dead never-entered` are three lines.
-pub data IsRouteLine (s : Space) (c : Configuration) (path line : List ℕ) : Type 0 where
-  live_route : (choice : List ℕ) → IsFirstChoice s (EndsAt s c path) choice
-      → line ≡ path_text path ++ (codes " live " ++ (set_text s.labels choice ++ codes "\n"))
-      → IsRouteLine s c path line
-  entered_route : IsDead s c path → (IsNeverEntered s c path → ⊥)
-      → line ≡ path_text path ++ codes " dead entered\n" → IsRouteLine s c path line
-  never_entered_route : IsNeverEntered s c path
-      → line ≡ path_text path ++ codes " dead never-entered\n" → IsRouteLine s c path line
+abbrev pub IsRouteLine : Space → Configuration → List ℕ → List ℕ → Type 0
+IsRouteLine s c path line =
+    (coverage : RouteCoverage) × IsCoverage s c path coverage
+    × (line ≡ route_line s.labels (record { path = path; coverage = coverage }))
 
--- The line of a receiver says what holds over all label sets: the receiver is live, and the line
--- shows the first label set that goes to it; or the receiver is unmatched.
+-- The line of a receiver says what is true of it over all label sets: it is live, and this choice
+-- is the first whose label set goes to it; or it is unmatched, as no label set goes to it.
 -- Source: own choice.
 -- Example: `"dba" live {team="db"}` and `"idle" unmatched` are two lines.
-pub data IsReceiverLine (s : Space) (c : Configuration) (receiver : ℕ) (line : List ℕ) :
-    Type 0 where
-  live_receiver : (name choice : List ℕ) → slice_get c.receivers receiver ≡ Some name
-      → IsFirstChoice s (GoesTo s c receiver) choice
-      → line ≡ quoted_text name ++ (codes " live " ++ (set_text s.labels choice ++ codes "\n"))
-      → IsReceiverLine s c receiver line
-  unmatched_receiver : (name : List ℕ) → slice_get c.receivers receiver ≡ Some name
-      → IsUnmatched s c receiver
-      → line ≡ quoted_text name ++ codes " unmatched\n" → IsReceiverLine s c receiver line
+abbrev pub IsReceiverLine : Space → Configuration → ℕ → List ℕ → Type 0
+IsReceiverLine s c receiver line =
+    (choice : Option (List ℕ)) × IsFirst s (GoesTo c receiver) choice
+    × (line ≡ receiver_line s.labels c.receivers (record { receiver = receiver; choice = choice }))
 
 -- The report on some things has the line of each, in order, and then `# end`. The report of routes
 -- is on all paths, in preorder, and that of receivers on all receivers, in declared order.

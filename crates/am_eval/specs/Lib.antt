@@ -1,5 +1,6 @@
 pub mod Routing
 pub mod RoutingExamples
+pub mod Reaching
 pub mod World
 pub mod WorldCode
 pub mod Silencing

@@ -1,6 +1,6 @@
 -- The alerts of a space, and the choices that stand for them.
-use Rattle.std.proofs.Common.{◌≡◌, ℕ, List, [], ◌∷◌, ◌++◌, Contains, Option, Some, None, true, false}
-use Rattle.std.proofs.Common.{not, refl, sym, ap, ◌∙◌, subst, inl, inr}
+use Rattle.std.proofs.Common.{◌≡◌, ◌↔◌, ℕ, List, [], ◌∷◌, ◌++◌, Contains, Option, Some, None, true}
+use Rattle.std.proofs.Common.{false, not, refl, sym, ap, ◌∙◌, subst, inl, inr}
 use Rattle.std.specs.Prelude.{IsTrue, IsFalse, unwrap_or}
 use Rattle.std.specs.List.{list_any}
 use Rattle.std.specs.FinMap.{get}
@@ -16,6 +16,7 @@ use Rattle.am_config.specs.ConfigFile.{Configuration}
 use Rattle.am_eval.specs.World.{World}
 use Rattle.am_eval.specs.Question.{Question, satisfies, answers}
 use Rattle.am_eval.specs.Routing.{ends, receivers}
+use Rattle.am_eval.specs.Reaching.{EndsAt, Enters, GoesTo, SomeIs, NoneIs, IsSetOf}
 use Rattle.am_eval.proofs.AnswerLaws.{answers_exact}
 use Rattle.am_classes.specs.declared.alphabet.Alphabet.{Alphabet}
 use Rattle.am_classes.specs.Alphabet.{IsOver}
@@ -25,12 +26,13 @@ use Rattle.am_complete.specs.Complete.{about, label_texts, HasAlike, IsComplete,
 use Rattle.am_complete.specs.Complete.{asks_only_of, matches_text, may_have}
 use Rattle.am_asked.specs.Asked.{route_conditions, world_conditions, question_conditions}
 use Rattle.am_complete.specs.Complete.{impossible_conditions}
+use Rattle.am_complete.specs.Covering.{HasTextsOver}
 use Rattle.am_complete.proofs.Alike.{alike_itself}
 use Rattle.am_complete.proofs.LabelTexts.{undeclared_texts}
 use Rattle.am_complete.proofs.CompleteUniverses.{alone_truth, takes_away}
 use Rattle.am_every_alert.specs.EveryAlert.{IsAlert, IsAlertOf, MeetsTheSame, HaveTheSameFate}
 use Rattle.am_every_alert.specs.Deciding.{coverage_conditions, asked_conditions, StandsFor}
-use Rattle.am_every_alert.specs.Deciding.{deciding_conditions, IsSetOf}
+use Rattle.am_every_alert.specs.Deciding.{deciding_conditions}
 use Rattle.am_every_alert.proofs.CompleteSpaces.{complete_space}
 use Rattle.am_every_alert.proofs.StandingChoice.{standing_choice}
 use Rattle.am_every_alert.proofs.UniverseAlerts.{universe_alert}
@@ -105,6 +107,21 @@ alert_choice a u ms s h complete alert =
 abbrev pub IsToldBy : List Condition → (LabelMap → Type 0) → Type 0
 IsToldBy ms Is = (s t : LabelMap) → MeetsTheSame ms s t → Is s → Is t
 
+pub meets_turned : (ms : List Condition) (s t : LabelMap) → MeetsTheSame ms s t
+    → MeetsTheSame ms t s
+meets_turned [] s t h = tt
+meets_turned (m ∷ ms) s t h = (sym h.0, meets_turned ms s t h.1)
+
+-- each label set of a space is an alert, if the space's texts are over the alphabet
+module _ (a : Alphabet) (s : Space) (h : IsUniverse s.labels) (texts : HasTextsOver a s.labels)
+  where
+    pub set_is_alert : (set : LabelMap) → IsSetOf s set → IsAlertOf a s set
+    set_is_alert set is =
+        subst (IsAlertOf a s) (sym is.2) (universe_alert a s.labels is.0 h texts, is.1.1)
+
+    pub some_is : (Is : LabelMap → Type 0) → SomeIs (IsSetOf s) Is → SomeIs (IsAlertOf a s) Is
+    some_is Is some = (some.0, set_is_alert some.0 some.1, some.2)
+
 module _ (a : Alphabet) (s : Space) (ms : List Condition) where
   -- some choice of the space meets the same of the matchers as an alert
   pub choice_of_alert : (alert : LabelMap) → IsUniverse s.labels
@@ -120,25 +137,44 @@ module _ (a : Alphabet) (s : Space) (ms : List Condition) where
 
   module _ (h : StandsFor a s ms) where
     pub alert_of_set : (set : LabelMap) → IsSetOf s set → IsAlertOf a s set
-    alert_of_set set is =
-        subst (IsAlertOf a s) (sym is.2)
-        (universe_alert a s.labels is.0 h.universe h.over, is.1.1)
-
-    pub set_of_alert : (alert : LabelMap) → IsAlertOf a s alert
-        → (set : LabelMap) × IsSetOf s set × MeetsTheSame ms set alert
-    set_of_alert alert is =
-        let r = choice_of_alert alert h.universe h.complete is in
-        (label_set_of s.labels r.0, (r.0, r.1, refl), r.2)
+    alert_of_set = set_is_alert a s h.universe h.over
 
     pub each_over : (Is : LabelMap → Type 0) → IsToldBy ms Is
         → ((set : LabelMap) → IsSetOf s set → Is set)
         → (alert : LabelMap) → IsAlertOf a s alert → Is alert
     each_over Is told each alert is =
-        let r = set_of_alert alert is in told r.0 alert r.2 (each r.0 r.1)
+        let r = choice_of_alert alert h.universe h.complete is in
+        let set = label_set_of s.labels r.0 in told set alert r.2 (each set (r.0, r.1, refl))
 
-    pub some_over : (Is : LabelMap → Type 0) → (set : LabelMap) × IsSetOf s set × Is set
-        → (alert : LabelMap) × IsAlertOf a s alert × Is alert
-    some_over Is some = (some.0, alert_of_set some.0 some.1, some.2)
+    pub some_over : (Is : LabelMap → Type 0) → SomeIs (IsSetOf s) Is → SomeIs (IsAlertOf a s) Is
+    some_over = some_is a s h.universe h.over
+
+-- ---- What no label set of the space reaches, no alert does.
+
+-- what label sets reach depends only on which matchers of the routes they meet
+module _ (c : Configuration) where
+  pub ends_told : (path : List ℕ) → IsToldBy (route_conditions c.root) (EndsAt c path)
+  ends_told path s t met h = subst (λ paths. Contains paths path) (same_ends s t c met) h
+
+  pub enters_told : (path : List ℕ) → IsToldBy (route_conditions c.root) (Enters c path)
+  enters_told path s t met h = (h.0, ends_told h.0 s t met h.1, h.2)
+
+  pub goes_told : (receiver : ℕ) → IsToldBy (route_conditions c.root) (GoesTo c receiver)
+  goes_told receiver s t met h =
+      subst (λ all. Contains all receiver) (same_receivers s t c met) h
+
+module _ (a : Alphabet) (s : Space) (c : Configuration) (h : IsUniverse s.labels)
+    (complete : IsSpaceComplete a s (coverage_conditions s c)) (Is : LabelMap → Type 0)
+    (told : IsToldBy (route_conditions c.root) Is) where
+  pub none_over : NoneIs (IsSetOf s) Is → NoneIs (IsAlertOf a s) Is
+  none_over none alert is has =
+      let r = choice_of_alert a s (route_conditions c.root) alert h complete is in
+      let set = label_set_of s.labels r.0 in
+      none set (r.0, r.1, refl)
+      (told alert set (meets_turned (route_conditions c.root) set alert r.2) has)
+
+  pub none_exactly : HasTextsOver a s.labels → NoneIs (IsSetOf s) Is ↔ NoneIs (IsAlertOf a s) Is
+  none_exactly texts = (none_over, λ none set is. none set (set_is_alert a s h texts set is))
 
 -- ---- One with the same ends, and one that is an answer.
 

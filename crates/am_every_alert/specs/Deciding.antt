@@ -1,10 +1,9 @@
 -- The matchers that decide what a report says about an alert, and whether a question is true of it;
 -- and spaces that stand for every alert, for such matchers.
-use Rattle.std.specs.Prelude.{◌≡◌, ℕ, List, ◌++◌}
+use Rattle.std.specs.Prelude.{List, ◌++◌}
 use Rattle.am_universe.specs.Universe.{Label, IsUniverse}
-use Rattle.am_universe.specs.LabelSet.{LabelMap, label_set_of}
 use Rattle.am_labels.specs.Matcher.{Condition}
-use Rattle.am_labels.specs.Space.{Space, IsChoiceOf}
+use Rattle.am_labels.specs.Space.{Space}
 use Rattle.am_config.specs.ConfigFile.{Configuration}
 use Rattle.am_eval.specs.World.{World}
 use Rattle.am_eval.specs.Question.{Question}
@@ -35,10 +34,6 @@ asked_conditions s w q =
 -- The space with some labels, in which some lists are impossible.
 abbrev pub space_of : List (List Condition) → List Label → Space
 space_of lists u = record { labels = u; impossible = lists }
-
--- A label set of a space: that of one of its choices.
-abbrev pub IsSetOf : Space → LabelMap → Type 0
-IsSetOf s set = (choice : List ℕ) × IsChoiceOf s choice × (set ≡ label_set_of s.labels choice)
 
 -- A space stands for every alert of it over an alphabet, for some matchers: it is complete for them
 -- and for its impossible lists, and its texts are over the alphabet.

@@ -1,13 +1,10 @@
--- Alerts, whether their labels are declared or not: which matchers are true of them, and what is
--- true of all of them.
-use Rattle.std.specs.Prelude.{◌≡◌, ◌≢◌, ℕ, List, [], Some, Contains, IsTrue}
+-- Alerts, whether their labels are declared or not, and which matchers are true of them.
+use Rattle.std.specs.Prelude.{◌≡◌, ◌≢◌, ℕ, List, [], Some, IsTrue}
 use Rattle.std.specs.List.{AllByRecursion}
 use Rattle.std.specs.FinMap.{get}
 use Rattle.am_universe.specs.LabelSet.{LabelMap}
 use Rattle.am_labels.specs.Matcher.{Condition, condition_holds}
 use Rattle.am_labels.specs.Space.{Space, is_possible}
-use Rattle.am_config.specs.ConfigFile.{Configuration}
-use Rattle.am_config.specs.Path.{leads_through}
 use Rattle.am_classes.specs.declared.alphabet.Alphabet.{Alphabet}
 use Rattle.am_classes.specs.Alphabet.{IsOver}
 use Rattle.am_eval.specs.World.{World}
@@ -45,21 +42,3 @@ pub record HaveTheSameFate (w : World) (s t : LabelMap) : Type 0 where
   pub same_receivers : receivers s w.config ≡ receivers t w.config
   pub same_silenced : is_silenced w s ≡ is_silenced w t
   pub same_inhibited : is_inhibited w s ≡ is_inhibited w t
-
--- No possible alert over an alphabet ends at a route; none ends there or below it; and none goes to
--- a receiver.
--- Source: own choice.
--- Example: no alert ends at a route after a sibling without matchers and without `continue`,
--- whatever labels the alert has.
-abbrev pub NoAlertEndsAt : Alphabet → Space → Configuration → List ℕ → Type 0
-NoAlertEndsAt a s c path =
-    (alert : LabelMap) → IsAlertOf a s alert → Contains (ends alert c) path → ⊥
-
-abbrev pub NoAlertEnters : Alphabet → Space → Configuration → List ℕ → Type 0
-NoAlertEnters a s c path =
-    (alert : LabelMap) (end : List ℕ) → IsAlertOf a s alert → Contains (ends alert c) end
-    → IsTrue (leads_through path end) → ⊥
-
-abbrev pub NoAlertGoesTo : Alphabet → Space → Configuration → ℕ → Type 0
-NoAlertGoesTo a s c receiver =
-    (alert : LabelMap) → IsAlertOf a s alert → Contains (receivers alert c) receiver → ⊥

@@ -11,7 +11,7 @@ use Rattle.am_judged_lists.specs.Cube.{IsCubeOf, MaskedLabels, matches}
 use Rattle.am_first_sets.specs.PossibleChoices.{AreFound}
 use Rattle.am_first_sets.proofs.CubeTruth.{matches_where}
 use Rattle.am_first_sets.proofs.SolverLemmas.{some_choice}
-use Rattle.am_every_alert.specs.Deciding.{IsSetOf}
+use Rattle.am_eval.specs.Reaching.{IsSetOf}
 use Rattle.am_idle.specs.Extent.{HasSet, MatchesNone, MatchesEach}
 
 -- what is asked of a choice: that a cube matches it, or that it does not

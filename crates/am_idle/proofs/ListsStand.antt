@@ -7,7 +7,8 @@ use Rattle.am_labels.specs.Matcher.{Condition, all_hold}
 use Rattle.am_labels.specs.Space.{Space}
 use Rattle.am_classes.specs.declared.alphabet.Alphabet.{Alphabet}
 use Rattle.am_every_alert.specs.EveryAlert.{IsAlertOf}
-use Rattle.am_every_alert.specs.Deciding.{IsSetOf, space_of}
+use Rattle.am_every_alert.specs.Deciding.{space_of}
+use Rattle.am_eval.specs.Reaching.{IsSetOf}
 use Rattle.am_every_alert.proofs.SpaceAlerts.{IsToldBy, each_over, some_over}
 use Rattle.am_every_alert.proofs.SameFate.{front_met, all_alike}
 use Rattle.am_idle.specs.declared.extent.Extent.{Extent}

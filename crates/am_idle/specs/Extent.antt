@@ -4,7 +4,7 @@ use Rattle.std.specs.Prelude.{◌≡◌, List, Bool, IsTrue, IsFalse}
 use Rattle.am_universe.specs.LabelSet.{LabelMap}
 use Rattle.am_labels.specs.Matcher.{Condition, all_hold}
 use Rattle.am_labels.specs.Space.{Space}
-use Rattle.am_every_alert.specs.Deciding.{IsSetOf}
+use Rattle.am_eval.specs.Reaching.{IsSetOf}
 use Rattle.am_idle.specs.declared.extent.Extent.{Extent}
 use Rattle.am_idle.specs.declared.extent.Extent.TheVariants as extent_is
 

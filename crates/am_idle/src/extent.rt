@@ -11,7 +11,7 @@ ghost use Rattle.am_judged_lists.specs.Cube.{IsCubeOf};
 ghost use Rattle.am_first_sets.specs.PossibleSets.{possible_space};
 ghost use Rattle.am_every_alert.specs.EveryAlert.{IsAlertOf};
 ghost use Rattle.am_idle.specs.Lists.{StandsForLists, IsRefusalForLists};
-ghost use Rattle.am_every_alert.specs.Deciding.{IsSetOf};
+ghost use Rattle.am_eval.specs.Reaching.{IsSetOf};
 ghost use Rattle.am_idle.specs.Extent.{IsExtent, HasSet};
 
 use crate::lists::universe_for_lists;

@@ -24,7 +24,7 @@ use Rattle.am_lint.specs.declared.literals.Part.TheVariants.{Way, Before, Childr
 use Rattle.am_lint.specs.Places.{stands_before, is_child_of}
 use Rattle.am_lint.specs.Table.{IsRoute}
 use Rattle.am_lint.specs.Literals.{is_wanted, stands_in}
-use Rattle.am_lint.specs.Reaching.{EndsAt, Enters}
+use Rattle.am_eval.specs.Reaching.{EndsAt, Enters}
 use Rattle.am_lint.specs.Reasons.{MatchesWay}
 use Rattle.am_lint.proofs.PlaceSteps.{same_step}
 

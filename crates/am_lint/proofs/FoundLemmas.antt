@@ -20,7 +20,7 @@ use Rattle.am_lint.specs.declared.standing.Standing.TheVariants as standing_is
 use Rattle.am_lint.specs.declared.found.FoundRoute.{FoundRoute}
 use Rattle.am_lint.specs.declared.found.ReceiverFinding.{ReceiverFinding}
 use Rattle.am_lint.specs.declared.found.ReceiverFinding.TheVariants as receiver_is
-use Rattle.am_lint.specs.Reaching.{EndsAt, GoesTo, SomeIs, NoneIs}
+use Rattle.am_eval.specs.Reaching.{EndsAt, GoesTo, SomeIs, IsDead, IsUnmatched}
 use Rattle.am_lint.specs.Standing.{IsStanding}
 use Rattle.am_lint.specs.Findings.{Counts, IsOrdinary, IsRouteFinding, IsReceiverFinding}
 use Rattle.am_lint.specs.FoundView.{finding_by, is_end, is_end_if_any, said_of, IsKnown}
@@ -75,7 +75,7 @@ module _ (u : List Label) (Occurs : LabelMap → Type 0) (c : Configuration) (pa
   some_end (Some (standing_is.NeverEntered reason)) e so = absurd (false≢true e)
 
   no_end : (every : Option Standing) → is_end_if_any every ≡ false
-      → IsKnown u Occurs c path every → NoneIs Occurs (EndsAt c path)
+      → IsKnown u Occurs c path every → IsDead Occurs c path
   no_end None e so = absurd so
   no_end (Some (standing_is.Ends choice)) e so = absurd (false≢true (sym e))
   no_end (Some (standing_is.HandsOn entry children)) e so = so.1
@@ -116,7 +116,7 @@ module _ (ascii : Bool) (s : Space) (u v : List Label) (c : Configuration)
   -- over every alert that counts
   none_counted : (b : Bool) (path : List ℕ) (ordinary : Standing) (every : Option Standing)
       → IsStanding u (IsOrdinary s) c path ordinary → IsFurther b s v c path ordinary every
-      → is_end ordinary ≡ false → is_end_if_any every ≡ false → NoneIs (Counts b s) (EndsAt c path)
+      → is_end ordinary ≡ false → is_end_if_any every ≡ false → IsDead (Counts b s) c path
   none_counted true path ordinary every is further none other =
       no_end u (IsOrdinary s) c path (Some ordinary) none is
   none_counted false path ordinary every is further none other =
@@ -145,8 +145,8 @@ module _ (ascii : Bool) (s : Space) (u v : List Label) (c : Configuration)
     none_goes : (Occurs : LabelMap → Type 0)
         → ((route : List ℕ × RouteTree) (found : FoundRoute) → IsIn routes found
         → IsTrue (found.receiver == receiver) → IsSo route found
-        → NoneIs Occurs (EndsAt c route.0))
-        → NoneIs Occurs (GoesTo c receiver)
+        → IsDead Occurs c route.0)
+        → IsUnmatched Occurs c receiver
     none_goes Occurs each set is goes =
         let end = end_of_receiver set c receiver goes in
         let there = listed c end.0 end.1 end.3 in
@@ -169,7 +169,7 @@ module _ (ascii : Bool) (s : Space) (u v : List Label) (c : Configuration)
         )
 
     none_ordinary : list_any (has_ordinary receiver) routes ≡ false
-        → NoneIs (IsOrdinary s) (GoesTo c receiver)
+        → IsUnmatched (IsOrdinary s) c receiver
     none_ordinary none =
         none_goes (IsOrdinary s) (λ route found i has is.
         no_end u (IsOrdinary s) c route.0 (Some found.ordinary)

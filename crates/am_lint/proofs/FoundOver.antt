@@ -14,7 +14,7 @@ use Rattle.am_lint.specs.declared.standing.Standing.{Standing}
 use Rattle.am_lint.specs.declared.standing.Standing.TheVariants as standing_is
 use Rattle.am_lint.specs.declared.found.FoundRoute.{FoundRoute}
 use Rattle.am_lint.specs.Table.{IsRoute}
-use Rattle.am_every_alert.specs.Deciding.{IsSetOf}
+use Rattle.am_eval.specs.Reaching.{IsSetOf}
 use Rattle.am_lint.specs.Findings.{IsOrdinary}
 use Rattle.am_lint.specs.FoundView.{finding_by, IsFoundIn, IsKnown, IsLookedAt, IsSameButEvery}
 use Rattle.am_lint.specs.FoundView.{IsShownFinding, IsShown}

@@ -28,7 +28,7 @@ use Rattle.am_lint.specs.Places.{stands_before, is_child_of}
 use Rattle.am_lint.specs.Table.{IsTableOf}
 use Rattle.am_lint.specs.Literals.{is_wanted, stands_in, path_if_any, path_of, IsAbout, AddsPart}
 use Rattle.am_lint.specs.Literals.{named_paths}
-use Rattle.am_every_alert.specs.Deciding.{IsSetOf}
+use Rattle.am_eval.specs.Reaching.{IsSetOf}
 use Rattle.am_lint.specs.Reasons.{IsReasonWhy, Matches, Misses, LacksContinue}
 use Rattle.am_lint.proofs.LiteralTruth.{AreSaying, saying}
 

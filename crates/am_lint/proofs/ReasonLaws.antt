@@ -8,7 +8,7 @@ use Rattle.am_labels.specs.Matcher.{all_hold}
 use Rattle.am_config.specs.ConfigFile.{Configuration, matchers_of, continues_of}
 use Rattle.am_config.specs.Path.{leads_through}
 use Rattle.am_lint.specs.Places.{stands_before, is_child_of}
-use Rattle.am_lint.specs.Reaching.{EndsAt, Enters, NoneIs}
+use Rattle.am_eval.specs.Reaching.{Enters, IsDead, IsNeverEntered}
 use Rattle.am_lint.specs.Reasons.{IsReasonWhy, IsExcludedBy, IsTakenBy, IsHandedTo, LacksContinue}
 use Rattle.am_lint.specs.Reasons.{MatchesWay, Matches, Misses}
 use Rattle.am_lint.proofs.EnteringLemmas.{entered, ends_exactly}
@@ -27,12 +27,12 @@ module _ (Occurs : LabelMap → Type 0) (c : Configuration) (path : List ℕ)
             (AllByRecursion-at IsOfKind routes q by.kind (IsIn-from_Contains routes q there)),
       )
 
-  pub excluded_none : IsExcludedBy Occurs c path routes → NoneIs Occurs (Enters c path)
+  pub excluded_none : IsExcludedBy Occurs c path routes → IsNeverEntered Occurs c path
   excluded_none by set is enters =
       none (λ q. IsTrue (leads_through q path)) _ (Matches c) by set is tt
       (entered c path set enters).0
 
-  pub taken_none : IsTakenBy Occurs c path routes → NoneIs Occurs (Enters c path)
+  pub taken_none : IsTakenBy Occurs c path routes → IsNeverEntered Occurs c path
   taken_none by set is enters =
       let met = entered c path set enters in
       none (λ q. IsTrue (stands_before path q) × LacksContinue c q) (MatchesWay c path) (Misses c)
@@ -41,7 +41,7 @@ module _ (Occurs : LabelMap → Type 0) (c : Configuration) (path : List ℕ)
       (missed c set q t before.1.1).0 (met.1 q t before.1.1
       (and_from (not (continues_of t)) (stands_before path q) (ap not before.1.2) before.0)))
 
-  pub handed_none : IsHandedTo Occurs c path routes → NoneIs Occurs (EndsAt c path)
+  pub handed_none : IsHandedTo Occurs c path routes → IsDead Occurs c path
   handed_none by set is ends =
       let met = (ends_exactly c path set).1 ends in
       none (λ q. IsTrue (is_child_of path q)) (Enters c path) (Misses c) by set is met.0

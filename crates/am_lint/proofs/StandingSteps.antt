@@ -11,8 +11,7 @@ use Rattle.am_lint.specs.declared.literals.Part.TheVariants.{Way, Before, Childr
 use Rattle.am_lint.specs.declared.table.TableRoute.{TableRoute}
 use Rattle.am_lint.specs.Table.{IsTableOf, IsRoute}
 use Rattle.am_lint.specs.Literals.{AreLiterals}
-use Rattle.am_every_alert.specs.Deciding.{IsSetOf}
-use Rattle.am_lint.specs.Reaching.{EndsAt, Enters, SomeIs}
+use Rattle.am_eval.specs.Reaching.{EndsAt, Enters, SomeIs, IsSetOf}
 use Rattle.am_lint.specs.Reasons.{IsReasonWhy, MatchesWay, Misses, IsExcludedBy, IsTakenBy}
 use Rattle.am_lint.specs.Reasons.{IsHandedTo}
 use Rattle.am_lint.proofs.EnteringLemmas.{way_exactly, enters_exactly, ends_exactly}

@@ -12,22 +12,19 @@ use Rattle.am_config.specs.Path.{list_of, route_at}
 use Rattle.am_classes.specs.declared.alphabet.Alphabet.{Alphabet}
 use Rattle.am_asked.specs.Asked.{route_conditions, routes_conditions}
 use Rattle.am_every_alert.specs.EveryAlert.{IsAlert, IsAlertOf, MeetsTheSame}
-use Rattle.am_every_alert.specs.Deciding.{IsSetOf, StandsFor}
-use Rattle.am_every_alert.proofs.SpaceAlerts.{IsToldBy, alert_of_set, each_over, some_over}
-use Rattle.am_every_alert.proofs.SameFate.{front_met, rest_met, all_alike, same_ends}
+use Rattle.am_every_alert.specs.Deciding.{StandsFor}
+use Rattle.am_every_alert.proofs.SpaceAlerts.{IsToldBy, meets_turned, alert_of_set, none_over}
+use Rattle.am_every_alert.proofs.SpaceAlerts.{some_over, ends_told, enters_told}
+use Rattle.am_every_alert.proofs.SameFate.{front_met, rest_met, all_alike}
 use Rattle.am_lint.specs.declared.standing.Cause.{Cause}
 use Rattle.am_lint.specs.declared.standing.Cause.TheVariants as cause_is
 use Rattle.am_lint.specs.declared.standing.Standing.{Standing}
 use Rattle.am_lint.specs.declared.standing.Standing.TheVariants as standing_is
-use Rattle.am_lint.specs.Reaching.{EndsAt, Enters, NoneIs}
+use Rattle.am_eval.specs.Reaching.{EndsAt, Enters, NoneIs, IsSetOf}
 use Rattle.am_lint.specs.Reasons.{IsReasonWhy, Matches, Misses, MatchesWay, IsHandedTo}
 use Rattle.am_lint.specs.Standing.{IsSeenBy, IsReasonFor, IsStanding}
 
 -- ---- What meets the same of the matchers of all routes.
-
-meets_turned : (ms : List Condition) (s t : LabelMap) → MeetsTheSame ms s t → MeetsTheSame ms t s
-meets_turned [] s t h = tt
-meets_turned (m ∷ ms) s t h = (sym h.0, meets_turned ms s t h.1)
 
 met_among : (s t : LabelMap) (rs : Routes) (p : ℕ) (r : RouteTree)
     → MeetsTheSame (routes_conditions rs) s t → slice_get (list_of rs) p ≡ Some r
@@ -61,21 +58,12 @@ module _ (c : Configuration) where
   abbrev pub routes : List Condition
   routes = route_conditions c.root
 
-  none_told : (Is : LabelMap → Type 0) → IsToldBy routes Is → IsToldBy routes (λ set. Is set → ⊥)
-  none_told Is told s t met none is = none (told t s (meets_turned routes s t met) is)
-
   matches_told : (q : List ℕ) → IsToldBy routes (Matches c q)
   matches_told q s t met h =
       (h.0, h.1, sym (own_met s t h.0 (met_at s t c.root q h.0 met h.1)) ∙ h.2)
 
   misses_told : (q : List ℕ) → IsToldBy routes (Misses c q)
-  misses_told q = none_told (Matches c q) (matches_told q)
-
-  ends_told : (path : List ℕ) → IsToldBy routes (EndsAt c path)
-  ends_told path s t met h = subst (λ paths. Contains paths path) (same_ends s t c met) h
-
-  enters_told : (path : List ℕ) → IsToldBy routes (Enters c path)
-  enters_told path s t met h = (h.0, ends_told h.0 s t met h.1, h.2)
+  misses_told q s t met none h = none (matches_told q t s (meets_turned routes s t met) h)
 
   way_told : (path : List ℕ) → IsToldBy routes (MatchesWay c path)
   way_told path s t met h q leads = matches_told q s t met (h q leads)
@@ -89,9 +77,9 @@ abbrev pub StandsForAlerts : Alphabet → Space → Configuration → Type 0
 StandsForAlerts a s c = StandsFor a s (routes c)
 
 module _ (a : Alphabet) (s : Space) (c : Configuration) (h : StandsForAlerts a s c) where
-  none_over : (Is : LabelMap → Type 0) → IsToldBy (routes c) Is → NoneIs (IsSetOf s) Is
+  none_so : (Is : LabelMap → Type 0) → IsToldBy (routes c) Is → NoneIs (IsSetOf s) Is
       → NoneIs (IsAlertOf a s) Is
-  none_over Is told = each_over a s (routes c) h (λ set. Is set → ⊥) (none_told c Is told)
+  none_so = none_over a s c h.universe h.complete
 
   -- ---- Reasons.
 
@@ -102,7 +90,7 @@ module _ (a : Alphabet) (s : Space) (c : Configuration) (h : StandsForAlerts a s
       → IsReasonWhy (IsAlertOf a s) IsOfKind First Does blamed
   why_over IsOfKind First Does blamed first does by = record {
     kind = by.kind;
-    enough = none_over (λ set. First set × ((q : List ℕ) → Contains blamed q → Does q set))
+    enough = none_so (λ set. First set × ((q : List ℕ) → Contains blamed q → Does q set))
         (λ x y met so. (first x y met so.0, λ q there. does q x y met (so.1 q there))) by.enough;
     needed = λ q there. some_over a s (routes c) h _ (by.needed q there);
   }
@@ -135,11 +123,11 @@ module _ (a : Alphabet) (s : Space) (c : Configuration) (h : StandsForAlerts a s
   standing_over path (standing_is.Ends choice) so = seen_over (EndsAt c path) choice so
   standing_over path (standing_is.HandsOn entry children) so = (
     seen_over (Enters c path) entry so.0,
-    none_over (EndsAt c path) (ends_told c path) so.1,
+    none_so (EndsAt c path) (ends_told c path) so.1,
     handed_over path children.items so.2,
   )
   standing_over path (standing_is.NeverEntered reason) so = (
-    none_over (Enters c path) (enters_told c path) so.0,
+    none_so (Enters c path) (enters_told c path) so.0,
     reason_over path reason.cause reason.routes.items so.1,
   )
 

@@ -11,7 +11,8 @@ use Rattle.am_every_alert.specs.EveryAlert.{IsAlertOf}
 use Rattle.am_lint.specs.declared.standing.Cause.{Cause}
 use Rattle.am_lint.specs.declared.found.ReceiverFinding.{ReceiverFinding}
 use Rattle.am_lint.specs.declared.found.ReceiverFinding.TheVariants as receiver_is
-use Rattle.am_lint.specs.Reaching.{EndsAt, Enters, GoesTo, SomeIs, NoneIs}
+use Rattle.am_eval.specs.Reaching.{EndsAt, Enters, GoesTo, SomeIs, IsDead, IsNeverEntered}
+use Rattle.am_eval.specs.Reaching.{IsUnmatched}
 use Rattle.am_lint.specs.Reasons.{IsHandedTo}
 use Rattle.am_lint.specs.Standing.{IsReasonFor}
 
@@ -48,13 +49,13 @@ abbrev pub IsRouteFinding :
     Bool → Space → List Label → Configuration → List ℕ → Option Finding → Type 0
 IsRouteFinding ascii s u c path None = SomeIs (IsOrdinary s) (EndsAt c path)
 IsRouteFinding ascii s u c path (Some (Dead cause routes)) =
-    NoneIs (Counts ascii s) (Enters c path) × IsReasonFor (Counts ascii s) c path cause routes
+    IsNeverEntered (Counts ascii s) c path × IsReasonFor (Counts ascii s) c path cause routes
 IsRouteFinding ascii s u c path (Some (Unusual cause routes entry)) =
-    (ascii ≡ false) × NoneIs (IsOrdinary s) (Enters c path)
+    (ascii ≡ false) × IsNeverEntered (IsOrdinary s) c path
     × IsReasonFor (IsOrdinary s) c path cause routes
     × Counts ascii s (label_set_of u entry) × Enters c path (label_set_of u entry)
 IsRouteFinding ascii s u c path (Some (HandsOn children)) =
-    SomeIs (IsOrdinary s) (Enters c path) × NoneIs (IsOrdinary s) (EndsAt c path)
+    SomeIs (IsOrdinary s) (Enters c path) × IsDead (IsOrdinary s) c path
     × IsHandedTo (IsOrdinary s) c path children
 
 -- What is said of the receiver at a position is true. Nothing is said if some ordinary alert goes
@@ -66,7 +67,7 @@ abbrev pub IsReceiverFinding :
     Bool → Space → Configuration → ℕ → Option ReceiverFinding → Type 0
 IsReceiverFinding ascii s c receiver None = SomeIs (IsOrdinary s) (GoesTo c receiver)
 IsReceiverFinding ascii s c receiver (Some receiver_is.Unmatched) =
-    NoneIs (Counts ascii s) (GoesTo c receiver)
+    IsUnmatched (Counts ascii s) c receiver
 IsReceiverFinding ascii s c receiver (Some receiver_is.Unusual) =
-    (ascii ≡ false) × NoneIs (IsOrdinary s) (GoesTo c receiver)
+    (ascii ≡ false) × IsUnmatched (IsOrdinary s) c receiver
     × SomeIs (Counts ascii s) (GoesTo c receiver)

@@ -17,7 +17,7 @@ use Rattle.am_lint.specs.declared.found.ReceiverFinding.{ReceiverFinding}
 use Rattle.am_lint.specs.declared.found.ReceiverFinding.TheVariants as receiver_is
 use Rattle.am_lint.specs.Findings.{Finding, Dead, Unusual, HandsOn}
 use Rattle.am_lint.specs.ReportText.{Said}
-use Rattle.am_every_alert.specs.Deciding.{IsSetOf}
+use Rattle.am_eval.specs.Reaching.{IsSetOf}
 use Rattle.am_lint.specs.Standing.{IsStanding}
 
 -- What is said of a route. `unentered` says it of a route that no ordinary alert enters, by how the

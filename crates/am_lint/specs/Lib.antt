@@ -1,5 +1,4 @@
 pub mod Places
-pub mod Reaching
 pub mod Reasons
 pub mod Table
 pub mod Literals

@@ -7,7 +7,7 @@ use Rattle.am_config.specs.ConfigFile.{Configuration, RouteTree, continues_of}
 use Rattle.am_config.specs.Path.{leads_through, route_at}
 use Rattle.am_eval.specs.Routing.{MatchesAt}
 use Rattle.am_lint.specs.Places.{stands_before, is_child_of}
-use Rattle.am_lint.specs.Reaching.{Enters, SomeIs, NoneIs}
+use Rattle.am_eval.specs.Reaching.{Enters, SomeIs, NoneIs}
 
 -- Some routes of one kind, by their paths, are the reason why no alert that meets a condition also
 -- does something at each of them. They are enough: no alert does. Each of them is needed: without

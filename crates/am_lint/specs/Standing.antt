@@ -8,7 +8,7 @@ use Rattle.am_lint.specs.declared.standing.Cause.{Cause}
 use Rattle.am_lint.specs.declared.standing.Cause.TheVariants as cause_is
 use Rattle.am_lint.specs.declared.standing.Standing.{Standing}
 use Rattle.am_lint.specs.declared.standing.Standing.TheVariants as standing_is
-use Rattle.am_lint.specs.Reaching.{EndsAt, Enters, NoneIs}
+use Rattle.am_eval.specs.Reaching.{EndsAt, Enters, IsDead, IsNeverEntered}
 use Rattle.am_lint.specs.Reasons.{IsExcludedBy, IsTakenBy, IsHandedTo}
 
 -- A whole choice of some labels: its label set occurs and has a property.
@@ -33,6 +33,6 @@ abbrev pub IsStanding :
 IsStanding u Occurs c path (standing_is.Ends choice) = IsSeenBy u Occurs (EndsAt c path) choice
 IsStanding u Occurs c path (standing_is.HandsOn entry children) =
     IsSeenBy u Occurs (Enters c path) entry
-    × NoneIs Occurs (EndsAt c path) × IsHandedTo Occurs c path children.items
+    × IsDead Occurs c path × IsHandedTo Occurs c path children.items
 IsStanding u Occurs c path (standing_is.NeverEntered reason) =
-    NoneIs Occurs (Enters c path) × IsReasonFor Occurs c path reason.cause reason.routes.items
+    IsNeverEntered Occurs c path × IsReasonFor Occurs c path reason.cause reason.routes.items

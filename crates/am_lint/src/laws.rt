@@ -6,11 +6,12 @@ ghost use Rattle.am_labels.specs.MatcherText.{is_name, Spells};
 ghost use Rattle.am_universe.specs.Universe.{IsUniverse};
 ghost use Rattle.am_labels.specs.Space.{Space};
 ghost use Rattle.am_config.specs.ConfigFile.{Configuration};
+ghost use Rattle.am_eval.specs.Reaching.{IsSetOf, IsDead, IsNeverEntered};
 ghost use Rattle.am_classes.specs.declared.alphabet.Alphabet.{Alphabet};
 ghost use Rattle.am_complete.specs.Complete.{IsSpaceComplete};
 ghost use Rattle.am_complete.specs.Covering.{HasTextsOver};
-ghost use Rattle.am_every_alert.specs.EveryAlert.{IsAlertOf, NoAlertEndsAt, NoAlertEnters};
-ghost use Rattle.am_every_alert.specs.Deciding.{coverage_conditions, IsSetOf};
+ghost use Rattle.am_every_alert.specs.EveryAlert.{IsAlertOf};
+ghost use Rattle.am_every_alert.specs.Deciding.{coverage_conditions};
 ghost use Rattle.am_lint.specs.declared.standing.Cause.{Cause};
 ghost use Rattle.am_lint.specs.declared.standing.Standing.{Standing};
 ghost use Rattle.am_lint.specs.Reasons.{IsExcludedBy, IsTakenBy, IsHandedTo};
@@ -30,13 +31,13 @@ pub fn the_text_of_matchers_spells_them()
 pub fn a_reason_keeps_alerts_out()
     ensures excluded { (a : Alphabet) (s : Space) (c : Configuration) (path : List ℕ)
         (routes : List (List ℕ)) → IsExcludedBy (IsAlertOf a s) c path routes
-        → NoAlertEnters a s c path }
+        → IsNeverEntered (IsAlertOf a s) c path }
     ensures taken { (a : Alphabet) (s : Space) (c : Configuration) (path : List ℕ)
         (siblings : List (List ℕ)) → IsTakenBy (IsAlertOf a s) c path siblings
-        → NoAlertEnters a s c path }
+        → IsNeverEntered (IsAlertOf a s) c path }
     ensures handed { (a : Alphabet) (s : Space) (c : Configuration) (path : List ℕ)
         (children : List (List ℕ)) → IsHandedTo (IsAlertOf a s) c path children
-        → NoAlertEndsAt a s c path }
+        → IsDead (IsAlertOf a s) c path }
 {}
 
 /// A route stands over all alerts as it does over the label sets of a complete space, for the same

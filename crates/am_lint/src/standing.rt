@@ -18,7 +18,7 @@ ghost use Rattle.am_first_sets.specs.Literals.{IsUnmet};
 ghost use Rattle.am_first_sets.specs.Reason.{AreSameLiterals, AreNamedBefore, IsReason};
 ghost use Rattle.am_lint.specs.Table.{KnowsRoutes, table_space, table_config, IsRoute};
 ghost use Rattle.am_lint.specs.Literals.{named_paths, AreTagged};
-ghost use Rattle.am_every_alert.specs.Deciding.{IsSetOf};
+ghost use Rattle.am_eval.specs.Reaching.{IsSetOf};
 ghost use Rattle.am_lint.specs.Standing.{IsStanding};
 
 use crate::literals::literals_of;

@@ -1,19 +1,19 @@
-use Rattle.am_universe.specs.LabelSet.{label_set_of}
-use Rattle.am_coverage.proofs.RouteLaws.{first_live, first_entered}
-use Rattle.am_coverage.proofs.ReceiverLaws as of_receiver
-use Rattle.am_commands.proofs.EveryAlert.{choice_is_alert}
+use Rattle.std.proofs.Common.{Some}
+use Rattle.am_eval.specs.Reaching.{EndsAt, Enters, GoesTo}
+use Rattle.am_every_alert.proofs.SpaceAlerts.{some_is}
+use Rattle.am_coverage.specs.declared.coverage.RouteCoverage.TheVariants as route_is
+use Rattle.am_coverage.proofs.FirstFound.{some_first}
+use Rattle.am_coverage.proofs.CoverageLaws.{coverage_exactly, receipt_exactly}
 use Rattle.am_commands.proofs.laws.a_route_is_live_in_any_universe.Goals as goal
 
 pub returns : goal.returns
 returns _ = record {
   live = λ a s c path choice h texts e.
-      let r = first_live s c path choice e in
-      (label_set_of s.labels choice, choice_is_alert a s c h texts choice r.possible, r.has);
+      some_is a s h texts (EndsAt c path) (some_first s (EndsAt c path) choice
+      ((coverage_exactly s c path (route_is.Live choice)).1 e));
   entered = λ a s c path h texts e.
-      let r = first_entered s c path e in
-      let alert = choice_is_alert a s c h texts r.0 r.1.possible in
-      let end = r.1.has in (label_set_of s.labels r.0, end.0, alert, end.1, end.2);
+      some_is a s h texts (Enters c path) ((coverage_exactly s c path route_is.Entered).1 e).1;
   receiver = λ a s c receiver choice h texts e.
-      let r = of_receiver.first_live s c receiver choice e in
-      (label_set_of s.labels choice, choice_is_alert a s c h texts choice r.possible, r.has);
+      some_is a s h texts (GoesTo c receiver) (some_first s (GoesTo c receiver) choice
+      ((receipt_exactly s c receiver (Some choice)).1 e));
 }

@@ -7,8 +7,7 @@ use Rattle.am_eval.specs.declared.reach.Reach.TheVariants.{Ends, Enters}
 use Rattle.am_eval.specs.Question.{Simple, Receiver, Route, satisfies_at, answers}
 use Rattle.am_eval.proofs.RouteConditions.{through}
 use Rattle.am_first_sets.proofs.FirstPossible.{find_first, no_first}
-use Rattle.am_coverage.proofs.RouteLaws.{dead_by_end, never_by_entry}
-use Rattle.am_coverage.proofs.ReceiverLaws.{unmatched_by_receipt}
+use Rattle.am_coverage.proofs.CoverageLaws.{end_exactly, entry_exactly, receipt_exactly}
 use Rattle.am_coverage.proofs.laws.a_dead_routes_question_has_no_answer.Goals as goal
 
 -- there is no answer exactly if there is no first one
@@ -21,9 +20,9 @@ no_answer s w part =
 
 pub returns : goal.returns
 returns _ = record {
-  dead = λ s w path. through (dead_by_end s w.config path) (no_answer s w (Route Ends path));
+  dead = λ s w path. through (end_exactly s w.config path None) (no_answer s w (Route Ends path));
   never_entered = λ s w path.
-      through (never_by_entry s w.config path) (no_answer s w (Route Enters path));
+      through (entry_exactly s w.config path None) (no_answer s w (Route Enters path));
   unmatched = λ s w receiver.
-      through (unmatched_by_receipt s w.config receiver) (no_answer s w (Receiver receiver));
+      through (receipt_exactly s w.config receiver None) (no_answer s w (Receiver receiver));
 }

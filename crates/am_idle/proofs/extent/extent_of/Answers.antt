@@ -1,7 +1,8 @@
 -- What holds over the universe that is made holds over every alert.
 use Rattle.std.proofs.Common.{◌≡◌, subst}
 use Rattle.am_labels.specs.Space.{Space}
-use Rattle.am_every_alert.specs.Deciding.{IsSetOf, space_of}
+use Rattle.am_every_alert.specs.Deciding.{space_of}
+use Rattle.am_eval.specs.Reaching.{IsSetOf}
 use Rattle.am_idle.specs.Extent.{IsExtent}
 use Rattle.am_idle.proofs.ListsStand.{extent_over}
 use Rattle.am_idle.proofs.extent.extent_of.Goals as goal

@@ -11,7 +11,7 @@ use Rattle.am_config.specs.Path.{route_at}
 use Rattle.am_config.specs.ConfigView.{config_view}
 use Rattle.am_config.specs.RoutePaths.{all_routes}
 use Rattle.am_complete.proofs.Pushed.{one_longer, zip_right}
-use Rattle.am_every_alert.specs.Deciding.{IsSetOf}
+use Rattle.am_eval.specs.Reaching.{IsSetOf}
 use Rattle.am_report_texts.proofs.PieceSteps.{item_here}
 use Rattle.am_lint.specs.declared.found.FoundRoute.{FoundRoute}
 use Rattle.am_lint.specs.declared.table.TableRoute.{TableRoute}
