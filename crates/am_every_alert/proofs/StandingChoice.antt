@@ -1,5 +1,5 @@
 -- A choice of a universe that meets the same of some matchers as a label set, label by label.
-use Rattle.std.proofs.Common.{◌≡◌, ℕ, suc, ◌<◌, List, [], ◌∷◌, length, map, Some, true, false, refl}
+use Rattle.std.proofs.Common.{◌≡◌, ℕ, suc, ◌<◌, List, [], ◌∷◌, length, map, Some, true, refl}
 use Rattle.std.proofs.Common.{sym, ap, ◌∙◌, subst, inl, inr, nat_lt, arith}
 use Rattle.std.specs.Prelude.{slice_get, option_and_then, unwrap_or, Contains}
 use Rattle.std.specs.Cmp.Lexicographic.{bytes_decides}
@@ -91,51 +91,37 @@ module _ (u : List Label) (ms : List Condition) (s : LabelMap) (h : IsUniverse u
         )
   ]
 
-  -- a matcher on a label has the same truth on alike texts
-  told : (m : Condition) (name x y : List ℕ) → IsIn ms m → m.name ≡ name
-      → AreAlike (about name ms) x y → holds m.op m.value x ≡ holds m.op m.value y
-  told m name x y i e alike =
-      AllByRecursion-at (λ n. holds n.op n.value x ≡ holds n.op n.value y) (about name ms) m alike
-      (is_about name ms m i e)
-
-  undeclared_met : (c : List ℕ) (m : Condition) → IsIn ms m → is_declared u m.name ≡ false
-      → condition_holds (label_set_of u c) m ≡ condition_holds s m
-  undeclared_met c m i e =
-      let fresh : Contains (names u) m.name → ⊥ = λ there.
-      let l = IsIn-unmap (λ l. l.name) u m.name (IsIn-from_Contains (names u) m.name there) in
-      both_ways (is_declared u m.name) e
-      (in_any (has_name m.name) u l.0 l.1 ((bytes_decides l.0.name m.name).1 l.2)) in
-      let alike = subst (λ texts. HasAlikeIn (about m.name ms) texts (value_of s m.name))
-      (unnamed_texts u m.name fresh) (each m i) in
-      ap (holds m.op m.value) (value_of_undeclared u c m.name fresh ∙ only [] alike.0 alike.1)
-      ∙ told m m.name alike.0 (value_of s m.name) i refl alike.2
-
-  declared_met : (c : List ℕ) (m : Condition) (l : Label) → IsIn ms m → l.name ≡ m.name
-      → StandsIn IsAlikeAt u c l
-      → condition_holds (label_set_of u c) m ≡ condition_holds s m
-  declared_met c m l i named at =
-      let value : value_of (label_set_of u c) m.name ≡ text_at l at.1 =
-      ap (value_of (label_set_of u c)) (sym named)
-      ∙ value_of_declared u c at.0 l at.1 h at.2 at.3 in
-      ap (holds m.op m.value) value
-      ∙ told m l.name (text_at l at.1) (value_of s l.name) i (sym named) at.4
-      ∙ ap (λ name. holds m.op m.value (value_of s name)) named
-
-  met : (c : List ℕ) → ((l : Label) → IsIn u l → StandsIn IsAlikeAt u c l)
+  -- at the label of each matcher, the text of the choice is alike to that of the label set
+  alike_there : (c : List ℕ) → ((l : Label) → IsIn u l → StandsIn IsAlikeAt u c l)
       → (m : Condition) → IsIn ms m
-      → condition_holds (label_set_of u c) m ≡ condition_holds s m
-  met c stands m i = elim (cases_Bool (is_declared u m.name)) [
+      → AreAlike (about m.name ms) (value_of (label_set_of u c) m.name) (value_of s m.name)
+  alike_there c stands m i = elim (cases_Bool (is_declared u m.name)) [
     | inl some ↦
         let l = any_in (has_name m.name) u some in
-        declared_met c m l.0 i ((bytes_decides l.0.name m.name).0 l.2) (stands l.0 l.1)
-    | inr none ↦ undeclared_met c m i none
+        let at = stands l.0 l.1 in
+        let value = value_of_declared u c at.0 l.0 at.1 h at.2 at.3 in
+        subst (λ name. AreAlike (about name ms) (value_of (label_set_of u c) name) (value_of s name))
+        ((bytes_decides l.0.name m.name).0 l.2)
+        (subst (λ x. AreAlike (about l.0.name ms) x (value_of s l.0.name)) (sym value) at.4)
+    | inr none ↦
+        let fresh : Contains (names u) m.name → ⊥ = λ there.
+        let l = IsIn-unmap (λ l. l.name) u m.name (IsIn-from_Contains (names u) m.name there) in
+        both_ways (is_declared u m.name) none
+        (in_any (has_name m.name) u l.0 l.1 ((bytes_decides l.0.name m.name).1 l.2)) in
+        let alike = subst (λ texts. HasAlikeIn (about m.name ms) texts (value_of s m.name))
+        (unnamed_texts u m.name fresh) (each m i) in
+        subst (λ x. AreAlike (about m.name ms) x (value_of s m.name))
+        (sym (value_of_undeclared u c m.name fresh ∙ only [] alike.0 alike.1)) alike.2
   ]
 
   pub standing_choice : (c : List ℕ) × IsWhole (sizes u) c × MeetsTheSame ms (label_set_of u c) s
   standing_choice =
-      let r = choice_of IsAlikeAt u alike_position in (
+      let r = choice_of IsAlikeAt u alike_position in
+      let set = label_set_of u r.0 in (
         r.0,
         r.1,
-        AllByRecursion-each (λ m. condition_holds (label_set_of u r.0) m ≡ condition_holds s m) ms
-            (met r.0 r.2),
+        AllByRecursion-each (λ m. condition_holds set m ≡ condition_holds s m) ms (λ m i.
+            AllByRecursion-at
+            (λ n. holds n.op n.value (value_of set m.name) ≡ holds n.op n.value (value_of s m.name))
+            (about m.name ms) m (alike_there r.0 r.2 m i) (is_about m.name ms m i refl)),
       )

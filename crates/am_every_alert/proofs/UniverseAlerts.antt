@@ -1,5 +1,5 @@
 -- The label sets of a universe are label sets that an alert may have.
-use Rattle.std.proofs.Common.{◌≡◌, ◌⊎◌, ℕ, zero, suc, List, [], ◌∷◌, Option, Some, None, true}
+use Rattle.std.proofs.Common.{◌≡◌, ◌⊎◌, ℕ, zero, suc, List, [], ◌∷◌, Option, Some, None}
 use Rattle.std.proofs.Common.{cond, refl, sym, ap, ◌∙◌, inl, inr}
 use Rattle.std.specs.Prelude.{option_and_then, slice_get, IfSome}
 use Rattle.std.specs.Ordering.{nat_cmp}
@@ -26,18 +26,13 @@ found name pairs = find (slice_cmp nat_cmp) name pairs
 found_behind : (name label : List ℕ) (o : Option (List ℕ)) (pairs : List (List ℕ × List ℕ))
     (text : List ℕ) → found name (with_label label o pairs) ≡ Some text
     → ((label ≡ name) × (o ≡ Some text)) ⊎ (found name pairs ≡ Some text)
-found_behind name label o pairs text e = elim (cases_Bool (same_text label name)) [
-  | inl same ↦ here o e ((bytes_decides label name).0 same) same
-  | inr apart ↦ inr (sym (find_before name label o pairs apart) ∙ e)
+found_behind name label None pairs text e = inr e
+found_behind name label (Some v) pairs text e = elim (cases_Bool (same_text label name)) [
+  | inl same ↦
+      let first = ap (λ b. cond b (Some v) (found name pairs)) (flips name label ∙ same) in
+      inl ((bytes_decides label name).0 same, sym first ∙ e)
+  | inr apart ↦ inr (sym (find_before name label (Some v) pairs apart) ∙ e)
 ]
-  where
-    here : (o : Option (List ℕ)) → found name (with_label label o pairs) ≡ Some text
-        → label ≡ name → same_text label name ≡ true
-        → ((label ≡ name) × (o ≡ Some text)) ⊎ (found name pairs ≡ Some text)
-    here None e named same = inr e
-    here (Some v) e named same =
-        let first = ap (λ b. cond b (Some v) (found name pairs)) (flips name label ∙ same) in
-        inl (named, sym first ∙ e)
 
 -- the text of a label at a position is one of its values
 value_there : (values : Values) (p : ℕ) (text : List ℕ)
