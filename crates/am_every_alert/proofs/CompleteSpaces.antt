@@ -4,7 +4,8 @@ use Rattle.std.proofs.Common.{◌≡◌, ◌≢◌, ℕ, List, [], ◌∷◌, �
 use Rattle.std.proofs.Common.{Contains}
 use Rattle.std.specs.List.{AllByRecursion}
 use Rattle.am_universe.specs.Universe.{Label, IsUniverse}
-use Rattle.am_universe.proofs.ListLemmas.{IsIn, IsIn-from_Contains, AllByRecursion-at}
+use Rattle.am_universe.proofs.ListLemmas.{IsIn, IsIn-from_Contains, IsIn-left, IsIn-right}
+use Rattle.am_universe.proofs.ListLemmas.{AllByRecursion-at}
 use Rattle.am_universe.proofs.Members.{joined_in}
 use Rattle.am_labels.specs.Matcher.{Condition}
 use Rattle.am_labels.specs.Space.{Space}
@@ -24,7 +25,8 @@ use Rattle.am_complete.proofs.CompleteUniverses.{complete_without_matchers, by_n
 use Rattle.am_complete.proofs.CompleteUniverses.{space_complete_without_matchers}
 use Rattle.am_complete.proofs.LabelStates.{covered}
 use Rattle.am_complete.proofs.SameMatchers.{has_alike_among}
-use Rattle.am_every_alert.specs.Deciding.{coverage_conditions, asked_conditions}
+use Rattle.am_every_alert.specs.Deciding.{deciding_conditions, coverage_conditions}
+use Rattle.am_every_alert.specs.Deciding.{asked_conditions}
 
 -- ---- By texts that cover all.
 
@@ -94,37 +96,34 @@ space_complete_by_names a s ms h each =
     (λ name none. space_complete_without_matchers a s ms name h none)
     (λ m i. AllByRecursion-at (λ n. n.name ≢ [] → IsSpaceCompleteAt a s ms n.name) ms m each i)
 
--- ---- What is complete for a world is so for its routes.
+-- ---- What is complete for a world and for questions is so for parts of their matchers.
 
 pub both_among : (ks ns ms : List Condition) → AreAmong ks ms → AreAmong ns ms
     → AreAmong (ks ++ ns) ms
 both_among [] ns ms h k = k
 both_among (m ∷ ks) ns ms h k = (h.0, both_among ks ns ms h.1 k)
 
--- the last of three lists is among all of them
-behind_more : (ms ns ks : List Condition) → AreAmong ks (ms ++ (ns ++ ks))
-behind_more ms ns ks =
-    among_through ks (ns ++ ks) (ms ++ (ns ++ ks)) (last_among ns ks) (last_among ms (ns ++ ks))
-
-pub complete_for_routes : (a : Alphabet) (s : Space) (c : Configuration) (ms ns : List Condition)
-    → AreAmong (route_conditions c.root) ms
-    → IsSpaceComplete a s (ms ++ (ns ++ impossible_conditions s.impossible))
-    → IsSpaceComplete a s (coverage_conditions s c)
-complete_for_routes a s c ms ns among complete =
-    let routes = route_conditions c.root in
+complete_for : (a : Alphabet) (s : Space) (ns ms asked : List Condition)
+    → AreAmong ns (ms ++ (asked ++ impossible_conditions s.impossible))
+    → IsSpaceComplete a s (ms ++ (asked ++ impossible_conditions s.impossible))
+    → IsSpaceComplete a s (deciding_conditions s ns)
+complete_for a s ns ms asked among =
     let lists = impossible_conditions s.impossible in
-    let all = ms ++ (ns ++ lists) in
-    space_complete_for_some a s (coverage_conditions s c) all
-    (both_among routes lists all (among_through routes ms all among (first_among ms (ns ++ lists)))
-    (behind_more ms ns lists)) complete
+    let all = ms ++ (asked ++ lists) in
+    space_complete_for_some a s (ns ++ lists) all
+    (both_among ns lists all among
+    (among_through lists (asked ++ lists) all (last_among asked lists)
+    (last_among ms (asked ++ lists))))
 
 pub complete_for_world : (a : Alphabet) (s : Space) (w : World) (questions : List Question)
     → IsSpaceComplete a s
     (world_conditions w ++ (questions_conditions questions ++ impossible_conditions s.impossible))
     → IsSpaceComplete a s (coverage_conditions s w.config)
 complete_for_world a s w questions =
-    complete_for_routes a s w.config (world_conditions w) (questions_conditions questions)
-    (first_among (route_conditions w.config.root) _)
+    let routes = route_conditions w.config.root in
+    let world = world_conditions w in
+    complete_for a s routes world (questions_conditions questions)
+    (among_through routes world _ (first_among routes _) (first_among world _))
 
 pub complete_for_routes_alone : (a : Alphabet) (s : Space) (c : Configuration)
     (questions : List Question)
@@ -132,35 +131,25 @@ pub complete_for_routes_alone : (a : Alphabet) (s : Space) (c : Configuration)
     ++ (questions_conditions questions ++ impossible_conditions s.impossible))
     → IsSpaceComplete a s (coverage_conditions s c)
 complete_for_routes_alone a s c questions =
-    complete_for_routes a s c (route_conditions c.root) (questions_conditions questions)
-    (among_by (route_conditions c.root) (route_conditions c.root) (λ m i. i))
-
--- ---- What is complete for questions is so for each of them.
-
-in_questions : (questions : List Question) (q : Question) → IsIn questions q
-    → AreAmong (question_conditions q) (questions_conditions questions)
-in_questions questions q i =
-    among_by (question_conditions q) (questions_conditions questions)
-    (λ m j. joined_in question_conditions questions q m i j)
+    let routes = route_conditions c.root in
+    complete_for a s routes routes (questions_conditions questions) (first_among routes _)
 
 pub complete_for_question : (a : Alphabet) (s : Space) (w : World) (questions : List Question)
     (q : Question) → Contains questions q
     → IsSpaceComplete a s
     (world_conditions w ++ (questions_conditions questions ++ impossible_conditions s.impossible))
     → IsSpaceComplete a s (asked_conditions s w q)
-complete_for_question a s w questions q there complete =
+complete_for_question a s w questions q there =
     let world = world_conditions w in
     let asked = questions_conditions questions in
-    let lists = impossible_conditions s.impossible in
-    let all = world ++ (asked ++ lists) in
+    let others = asked ++ impossible_conditions s.impossible in
     let one = question_conditions q in
-    let among = among_through one asked all
-    (in_questions questions q (IsIn-from_Contains questions q there))
-    (among_through asked (asked ++ lists) all (first_among asked lists)
-    (last_among world (asked ++ lists))) in
-    space_complete_for_some a s (asked_conditions s w q) all
-    (both_among world (one ++ lists) all (first_among world (asked ++ lists))
-    (both_among one lists all among (behind_more world asked lists))) complete
+    let in_asked = λ (m : Condition) (i : IsIn one m).
+    joined_in question_conditions questions q m (IsIn-from_Contains questions q there) i in
+    complete_for a s (world ++ one) world asked
+    (both_among world one (world ++ others) (first_among world others)
+    (among_by one (world ++ others) (λ m i.
+    IsIn-right world others m (IsIn-left asked _ m (in_asked m i)))))
 
 -- if nothing is impossible
 pub complete_without_lists : (a : Alphabet) (u : List Label) (c : Configuration)

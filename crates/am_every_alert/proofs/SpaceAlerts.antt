@@ -199,17 +199,13 @@ module _ (a : Alphabet) (s : Space) (alert : LabelMap) (h : IsUniverse s.labels)
       → (choice : List ℕ) × Contains (answers s w q) choice
       × HaveTheSameFate w (set_of choice) alert
   answer_of_alert w q complete true_of_it =
-      let r = space_choice a s (asked_conditions s w q) alert h complete is in
-      let set = set_of r.0 in
       let world = world_conditions w in
       let asked = question_conditions q in
-      let lists = impossible_conditions s.impossible in
-      let fate = same_fate set alert w (front_met set alert world (asked ++ lists) r.2) in
-      let others = rest_met set alert world (asked ++ lists) r.2 in
-      let truth = same_truth set alert w q fate (front_met set alert asked lists others) in
-      let possible = same_possible set alert s.impossible (rest_met set alert asked lists others) in
-      let answer = (answers_exact s w q r.0).1 ((r.1, possible ∙ is.1), truth ∙ true_of_it) in
-      (r.0, answer, fate)
+      let r = choice_of_alert a s (world ++ asked) alert h complete is in
+      let set = set_of r.0 in
+      let fate = same_fate set alert w (front_met set alert world asked r.2) in
+      let truth = same_truth set alert w q fate (rest_met set alert world asked r.2) in
+      (r.0, (answers_exact s w q r.0).1 (r.1, truth ∙ true_of_it), fate)
 
   pub no_alert : (w : World) (q : Question) → IsSpaceComplete a s (asked_conditions s w q)
       → answers s w q ≡ [] → IsFalse (satisfies w q alert)

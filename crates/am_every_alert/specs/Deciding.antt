@@ -28,8 +28,7 @@ coverage_conditions s c = deciding_conditions s (route_conditions c.root)
 -- Source: own choice.
 -- Example: for the question `any`, if nothing is impossible, they are those of the world.
 abbrev pub asked_conditions : Space → World → Question → List Condition
-asked_conditions s w q =
-    world_conditions w ++ (question_conditions q ++ impossible_conditions s.impossible)
+asked_conditions s w q = deciding_conditions s (world_conditions w ++ question_conditions q)
 
 -- The space with some labels, in which some lists are impossible.
 abbrev pub space_of : List (List Condition) → List Label → Space
