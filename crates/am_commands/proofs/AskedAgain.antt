@@ -25,7 +25,6 @@ use Rattle.am_commands.specs.AskOutcome.{answer_page, searched_page, Asked, IsAs
 use Rattle.am_commands.specs.AskOutcome.{AreAskedInARow, AreAskedSoFar}
 use Rattle.am_plans.proofs.Soundness.{question_judges}
 use Rattle.am_commands.proofs.AskedPages.{enough_for, page_unlimited}
-use Rattle.am_universe.specs.Choice.{choices}
 
 -- the lines of the answers from a start on
 abbrev pub lines_left : Space → World → Question → Start → List ℕ
