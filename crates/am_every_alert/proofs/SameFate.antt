@@ -57,7 +57,7 @@ module _ (s t : LabelMap) where
 
   -- ---- Routes.
 
-  own_alike : (r : RouteTree) → MeetsTheSame (route_conditions r) s t
+  pub own_alike : (r : RouteTree) → MeetsTheSame (route_conditions r) s t
       → all_hold s (matchers_of r) ≡ all_hold t (matchers_of r)
   own_alike (route settings children) h =
       all_alike settings.matchers (front_met settings.matchers (routes_conditions children) h)

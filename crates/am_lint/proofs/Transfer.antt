@@ -4,10 +4,10 @@ use Rattle.std.proofs.Common.{subst, ◌∙◌}
 use Rattle.std.specs.Prelude.{IsTrue, slice_get, ⊤}
 use Rattle.std.proofs.lemmas.Option.{option_and_then_some, same_Some}
 use Rattle.am_universe.specs.LabelSet.{LabelMap, label_set_of}
-use Rattle.am_labels.specs.Matcher.{Condition, all_hold}
+use Rattle.am_labels.specs.Matcher.{Condition}
 use Rattle.am_labels.specs.Space.{Space, is_possible}
 use Rattle.am_config.specs.ConfigFile.{Configuration, RouteTree, Routes, route, no_routes}
-use Rattle.am_config.specs.ConfigFile.{next_route, matchers_of}
+use Rattle.am_config.specs.ConfigFile.{next_route}
 use Rattle.am_config.specs.Path.{list_of, route_at}
 use Rattle.am_classes.specs.declared.alphabet.Alphabet.{Alphabet}
 use Rattle.am_asked.specs.Asked.{route_conditions, routes_conditions}
@@ -15,7 +15,7 @@ use Rattle.am_every_alert.specs.EveryAlert.{IsAlert, IsAlertOf, MeetsTheSame}
 use Rattle.am_every_alert.specs.Deciding.{StandsFor}
 use Rattle.am_every_alert.proofs.SpaceAlerts.{IsToldBy, meets_turned, alert_of_set, none_over}
 use Rattle.am_every_alert.proofs.SpaceAlerts.{some_over, ends_told, enters_told}
-use Rattle.am_every_alert.proofs.SameFate.{front_met, rest_met, all_alike}
+use Rattle.am_every_alert.proofs.SameFate.{front_met, rest_met, own_alike}
 use Rattle.am_lint.specs.declared.standing.Cause.{Cause}
 use Rattle.am_lint.specs.declared.standing.Cause.TheVariants as cause_is
 use Rattle.am_lint.specs.declared.standing.Standing.{Standing}
@@ -48,19 +48,13 @@ met_at s t (route settings children) (p ∷ q) r h at =
     (met_among s t children p child
     (rest_met s t settings.matchers (routes_conditions children) h) is) further)
 
-own_met : (s t : LabelMap) (r : RouteTree) → MeetsTheSame (route_conditions r) s t
-    → all_hold s (matchers_of r) ≡ all_hold t (matchers_of r)
-own_met s t (route settings children) h =
-    all_alike s t settings.matchers
-    (front_met s t settings.matchers (routes_conditions children) h)
-
 module _ (c : Configuration) where
   abbrev pub routes : List Condition
   routes = route_conditions c.root
 
   matches_told : (q : List ℕ) → IsToldBy routes (Matches c q)
   matches_told q s t met h =
-      (h.0, h.1, sym (own_met s t h.0 (met_at s t c.root q h.0 met h.1)) ∙ h.2)
+      (h.0, h.1, sym (own_alike s t h.0 (met_at s t c.root q h.0 met h.1)) ∙ h.2)
 
   misses_told : (q : List ℕ) → IsToldBy routes (Misses c q)
   misses_told q s t met none h = none (matches_told q t s (meets_turned routes s t met) h)
