@@ -36,13 +36,8 @@ first_taken test x xs s (Some y) e =
 find_either : (f g : List ℕ → Bool) (xs : List (List ℕ)) → Ascends xs
     → find (λ x. f x || g x) xs ≡ earlier (find f xs) (find g xs)
 find_either f g [] s = refl
-find_either f g (x ∷ xs) s = elim (cases_Bool (f x)) [
-  | inl passes ↦ rw passes (sym (first_kept g x xs s (find g (x ∷ xs)) refl))
-  | inr fails ↦ elim (cases_Bool (g x)) [
-    | inl also ↦ rw (fails, also) (sym (first_taken f x xs s (find f xs) refl))
-    | inr fails_too ↦ rw (fails, fails_too) (find_either f g xs (ascends_rest x xs s))
-  ]
-]
+find_either f g (x ∷ xs) s =
+    grind (arith, common_steps, cases_Bool, first_kept, first_taken, ascends_rest, find_either f g xs)
 
 -- ---- Of many.
 

@@ -1,7 +1,7 @@
 -- What the first ends of all routes tell of each route and receiver, and that it can be shown.
 use Rattle.std.proofs.Common.{◌≡◌, ℕ, zero, suc, ◌+◌, ◌≤◌, List, [], ◌∷◌, map, length, Option, Some}
-use Rattle.std.proofs.Common.{None, Bool, true, false, refl, sym, ap, ◌∙◌, inl, inr, arith}
-use Rattle.std.specs.Prelude.{is_some, ◌&&◌, ◌||◌, ◌==◌, if◌then◌else◌}
+use Rattle.std.proofs.Common.{None, Bool, refl, sym, ap, ◌∙◌, inl, inr, arith}
+use Rattle.std.specs.Prelude.{is_some, ◌&&◌, ◌||◌, ◌==◌}
 use Rattle.std.specs.List.{AllByRecursion, list_any, filter, fold, range_with_len}
 use Rattle.std.proofs.lemmas.Bool.{cases_Bool}
 use Rattle.std.proofs.lemmas.Grind.{common_steps}
@@ -10,12 +10,11 @@ use Rattle.am_universe.specs.Universe.{sizes}
 use Rattle.am_universe.proofs.ListLemmas.{IsIn}
 use Rattle.am_universe.proofs.UniverseLemmas.{list_any-map}
 use Rattle.am_labels.specs.Space.{Space}
-use Rattle.am_config.specs.ConfigFile.{Configuration, RouteTree, receiver_of}
+use Rattle.am_config.specs.ConfigFile.{Configuration, RouteTree}
 use Rattle.am_config.specs.Path.{leads_through, route_at}
 use Rattle.am_config.specs.RoutePaths.{all_routes, paths_of}
 use Rattle.am_config.proofs.RouteLists.{each_at}
 use Rattle.am_eval.specs.Conditions.{is_receiver}
-use Rattle.am_search.specs.Start.{comes_before}
 use Rattle.am_first_sets.proofs.FirstPossible.{found_of_space}
 use Rattle.am_coverage.specs.declared.coverage.RouteCoverage.{RouteCoverage}
 use Rattle.am_coverage.specs.declared.coverage.RouteCoverage.TheVariants as route_is
@@ -34,15 +33,11 @@ use Rattle.am_coverage.proofs.CoverageLaws.{covered}
 
 -- ---- There is an earliest choice exactly if there is some choice.
 
-some_chosen : (b : Bool) (x y : List ℕ) → is_some (if b then Some y else Some x) ≡ true
-some_chosen true x y = refl
-some_chosen false x y = refl
-
 some_of_two : (o other : Option (List ℕ))
     → is_some (earlier o other) ≡ (is_some o || is_some other)
 some_of_two None other = refl
 some_of_two (Some x) None = refl
-some_of_two (Some x) (Some y) = some_chosen (comes_before y x) x y
+some_of_two (Some x) (Some y) = grind (arith, common_steps, cases_Bool)
 
 some_of_all : (o : Option (List ℕ)) (os : List (Option (List ℕ)))
     → is_some (fold earlier o os) ≡ (is_some o || list_any is_some os)
@@ -113,10 +108,7 @@ module _ (s : Space) (c : Configuration) where
   kept_alike receiver [] at = refl
   kept_alike receiver (found ∷ all) at =
       let later = kept_alike receiver all (λ other i. at other (inr i)) in
-      elim (cases_Bool (receiver_of found.1 == receiver)) [
-        | inl own ↦ rw (at found (inl refl), own) (ap (λ os. first_end s c found.0 ∷ os) later)
-        | inr other ↦ rw (at found (inl refl), other) later
-      ]
+      let here = at found (inl refl) in grind (arith, common_steps, cases_Bool)
 
   pub receiver_alike : (receiver : ℕ)
       → earliest_to (first_ends s c) receiver ≡ first_receipt s c receiver

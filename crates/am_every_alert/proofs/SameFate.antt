@@ -1,5 +1,5 @@
 -- Label sets that meet the same of the matchers that decide have the same fate.
-use Rattle.std.proofs.Common.{◌≡◌, ℕ, ◌+◌, List, [], ◌∷◌, ◌++◌, map, Bool, false, cond, not, refl}
+use Rattle.std.proofs.Common.{◌≡◌, ℕ, ◌+◌, List, [], ◌∷◌, ◌++◌, map, Bool, cond, not, refl}
 use Rattle.std.proofs.Common.{sym, ap, ◌∙◌, inl, inr}
 use Rattle.std.specs.Prelude.{◌&&◌, ◌||◌, ◌==◌}
 use Rattle.std.specs.List.{flat_map, filter, filter_map, list_any}
@@ -133,10 +133,6 @@ module _ (s t : LabelMap) where
       sym (same_values firing s names) ∙ all_alike (equal_to_alert names firing) h
       ∙ same_values firing t names
 
-  unfired : (rule : Rule) (firing other : LabelMap) → all_hold firing rule.source ≡ false
-      → inhibits rule firing other ≡ false
-  unfired rule firing other e = rw e refl
-
   inhibits_alike : (rule : Rule) (firing : LabelMap) → MeetsTheSame rule.source s t
       → MeetsTheSame rule.target s t → MeetsTheSame (equal_to_alert rule.equal firing) s t
       → inhibits rule firing s ≡ inhibits rule firing t
@@ -168,7 +164,7 @@ module _ (s t : LabelMap) where
             (rest_met rule.source rule.target own)
             (each_met (equal_to_alert rule.equal) (filter (fires rule) alerts) a
             (kept_from_passes (fires rule) alerts a among fired) asked)
-        | inr not_fired ↦ unfired rule a s not_fired ∙ sym (unfired rule a t not_fired)
+        | inr not_fired ↦ rw not_fired refl
       ]))
 
   pub same_inhibited : (w : World) → MeetsTheSame (rule_conditions w.config.rules) s t

@@ -4,7 +4,7 @@ use Rattle.std.proofs.Common.{false, not, refl, sym, ap, ◌∙◌, subst, inl, 
 use Rattle.std.specs.Prelude.{IsTrue, IsFalse, unwrap_or}
 use Rattle.std.specs.List.{list_any}
 use Rattle.std.specs.FinMap.{get}
-use Rattle.std.proofs.lemmas.Bool.{cases_Bool, and_parts}
+use Rattle.std.proofs.lemmas.Bool.{cases_Bool, and_parts, false_from_ne_true}
 use Rattle.am_universe.specs.Universe.{Label, IsUniverse, sizes}
 use Rattle.am_universe.specs.Choice.{IsWhole}
 use Rattle.am_universe.specs.LabelSet.{LabelMap, value_of, label_set_of}
@@ -209,9 +209,7 @@ module _ (a : Alphabet) (s : Space) (alert : LabelMap) (h : IsUniverse s.labels)
 
   pub no_alert : (w : World) (q : Question) → IsSpaceComplete a s (asked_conditions s w q)
       → answers s w q ≡ [] → IsFalse (satisfies w q alert)
-  no_alert w q complete none = elim (cases_Bool (satisfies w q alert)) [
-    | inl true_of_it ↦
-        let r = answer_of_alert w q complete true_of_it in
-        absurd (subst (λ xs. IsIn xs r.0) none (IsIn-from_Contains (answers s w q) r.0 r.1))
-    | inr false_of_it ↦ false_of_it
-  ]
+  no_alert w q complete none =
+      false_from_ne_true (satisfies w q alert) (λ true_of_it.
+      let r = answer_of_alert w q complete true_of_it in
+      IsIn-from_Contains [] r.0 (subst (λ xs. Contains xs r.0) none r.1))

@@ -1,13 +1,13 @@
 -- The label sets of a universe are label sets that an alert may have.
 use Rattle.std.proofs.Common.{◌≡◌, ◌⊎◌, ℕ, zero, suc, List, [], ◌∷◌, Option, Some, None}
-use Rattle.std.proofs.Common.{cond, refl, sym, ap, ◌∙◌, inl, inr}
+use Rattle.std.proofs.Common.{refl, sym, ◌∙◌, inl, inr, arith}
 use Rattle.std.specs.Prelude.{option_and_then, slice_get, IfSome}
 use Rattle.std.specs.Ordering.{nat_cmp}
 use Rattle.std.specs.Cmp.Lexicographic.{slice_cmp, nat_list_cmp_total, bytes_decides}
 use Rattle.std.specs.FinMap.{find, get-from_entries}
 use Rattle.std.specs.List.{AllByRecursion}
 use Rattle.std.proofs.lemmas.Bool.{cases_Bool}
-use Rattle.am_universe.specs.Text.{same_text}
+use Rattle.std.proofs.lemmas.Grind.{common_steps}
 use Rattle.am_universe.specs.Universe.{Label, Values, IsLabel, IsUniverse}
 use Rattle.am_universe.specs.LabelSet.{with_label, label_pairs, value_at, label_set_of}
 use Rattle.am_universe.proofs.LabelMapLemmas.{flips}
@@ -27,12 +27,8 @@ found_behind : (name label : List ℕ) (o : Option (List ℕ)) (pairs : List (Li
     (text : List ℕ) → found name (with_label label o pairs) ≡ Some text
     → ((label ≡ name) × (o ≡ Some text)) ⊎ (found name pairs ≡ Some text)
 found_behind name label None pairs text e = inr e
-found_behind name label (Some v) pairs text e = elim (cases_Bool (same_text label name)) [
-  | inl same ↦
-      let first = ap (λ b. cond b (Some v) (found name pairs)) (flips name label ∙ same) in
-      inl ((bytes_decides label name).0 same, sym first ∙ e)
-  | inr apart ↦ inr (sym (find_before name label (Some v) pairs apart) ∙ e)
-]
+found_behind name label (Some v) pairs text e =
+    grind (arith, common_steps, cases_Bool, bytes_decides, flips, find_before)
 
 -- the text of a label at a position is one of its values
 value_there : (values : Values) (p : ℕ) (text : List ℕ)
