@@ -39,9 +39,7 @@ equal_exactly names a s =
 
 not_both : (both other : Bool) → (both ≡ true → other ≡ true → ⊥)
     → not (both && (other && true)) ≡ true
-not_both true true h = absurd (h refl refl)
-not_both true false h = refl
-not_both false other h = refl
+not_both both other h = grind (arith, common_steps)
 
 pub as_the_rule_says : (rule : Rule) (firing s : LabelMap) → (IsTrue (inhibits rule firing s)
     ↔ (IsTrue (all_hold firing rule.source) × IsTrue (all_hold s rule.target)

@@ -4,7 +4,7 @@ use Rattle.std.proofs.Common.{◌≡◌, inl, inr, ℕ, ◌+◌, ◌<◌, List, 
 use Rattle.std.proofs.Common.{false, length, get_or, cond, Contains, map, refl, sym, ap, ◌∙◌}
 use Rattle.std.specs.Prelude.{slice_get, IsTrue}
 use Rattle.std.specs.List.{filter, flat_map, enumerate_from}
-use Rattle.std.proofs.lemmas.Bool.{true_from_ne_false, false≢true}
+use Rattle.std.proofs.lemmas.Bool.{and_parts}
 use Rattle.std.proofs.lemmas.List.{map-append}
 use Rattle.std.proofs.lemmas.List.Elements.{filter-append}
 use Rattle.std.proofs.lemmas.Option.{get_or_from_slice_get, same_Some, slice_get_within}
@@ -39,8 +39,7 @@ unmatched rule a s e = rw e refl
 
 matched : (rule : Rule) (a s : LabelMap) → IsTrue (inhibits rule a s)
     → IsTrue (all_hold a rule.source)
-matched rule a s h =
-    true_from_ne_false (all_hold a rule.source) (λ e. false≢true (sym (unmatched rule a s e) ∙ h))
+matched rule a s h = grind (arith, common_steps, and_parts)
 
 -- a rule and an alert that inhibits by it are a pair
 pub inhibiting_pair : (w : World) (s : LabelMap) (i j : ℕ) (rule : Rule) (firing : LabelMap)

@@ -3,8 +3,8 @@
 use Rattle.std.proofs.Common.{◌≡◌, ◌↔◌, ℕ, List, [], ◌∷◌, ◌++◌, map, take, Bool, true, false, arith}
 use Rattle.std.proofs.Common.{◌&&◌, ◌||◌, not, cond, Option, Some, None, refl, sym, ap, rules}
 use Rattle.std.proofs.Common.{◌∙◌}
-use Rattle.std.specs.Prelude.{slice_get, option_map, IsTrue, IsFalse, ◌==◌}
-use Rattle.std.specs.List.{AllByRecursion, list_all, list_any, filter, filter_map, cons_option}
+use Rattle.std.specs.Prelude.{slice_get, IsTrue, IsFalse, ◌==◌}
+use Rattle.std.specs.List.{AllByRecursion, list_all, list_any, filter, filter_map}
 use Rattle.std.proofs.lemmas.Bool.{and_parts, and_from, not-true}
 use Rattle.std.proofs.lemmas.List.{append-nil}
 use Rattle.std.proofs.lemmas.List.Folds.{list_all-map}
@@ -14,7 +14,7 @@ use Rattle.am_universe.specs.Text.{same_text}
 use Rattle.am_universe.proofs.ListLemmas.{Contains-from_IsIn}
 use Rattle.am_labels.specs.Matcher.{all_hold}
 use Rattle.am_config.specs.ConfigFile.{RouteTree, matchers_of, children_of}
-use Rattle.am_config.specs.ConfigFile.{Configuration, receiver_of}
+use Rattle.am_config.specs.ConfigFile.{Configuration}
 use Rattle.am_config.specs.Path.{list_of, route_at}
 use Rattle.am_config.specs.RoutePaths.{paths_of}
 use Rattle.am_eval.specs.World.{World}
@@ -200,15 +200,7 @@ receivers_by_paths : (c : Configuration) (receiver : ℕ) (paths : List (List �
     ≡ list_any (λ path. is_receiver receiver (route_at c.root path)) paths
 receivers_by_paths c receiver [] = refl
 receivers_by_paths c receiver (path ∷ paths) =
-    by (route_at c.root path) ∙ ap (λ b. is_receiver receiver (route_at c.root path) || b)
-    (receivers_by_paths c receiver paths)
-  where
-    by : (o : Option RouteTree) → list_any (λ other. other == receiver)
-        (cons_option (option_map receiver_of o) (filter_map (receiver_at c) paths))
-        ≡ (is_receiver receiver o || list_any (λ other. other == receiver)
-        (filter_map (receiver_at c) paths))
-    by None = refl
-    by (Some t) = refl
+    grind (arith, common_steps, receivers_by_paths c receiver paths)
 
 -- an alert goes to a receiver exactly if it ends at one of the routes that have it
 pub goes_by_ends : (s : LabelMap) (c : Configuration) (receiver : ℕ)

@@ -46,8 +46,7 @@ below_is i zero (next_route u ts) t rest e h =
     let at : i ≡ i + 0 = omega arith in
     let mapped = IsIn-map (λ below. i ∷ below) (paths_at u) rest
     (subst (λ (x : RouteTree). IsIn (paths_at x) rest) same h) in
-    subst (λ (n : ℕ). IsIn (paths_from i (next_route u ts)) (n ∷ rest)) at
-    (subst (λ (paths : List (List ℕ)). IsIn paths (i ∷ rest)) (sym (paths_next i u ts)) (IsIn-left (map (λ below. i ∷ below) (paths_at u)) (paths_from (i + 1) ts) (i ∷ rest) mapped))
+    grind (arith, common_steps, paths_from, paths_next, IsIn-left)
 below_is i (suc k) (next_route u ts) t rest e h =
     grind (arith, common_steps, paths_from, paths_next, IsIn-right, below_is (i + 1) k ts t rest e h)
 

@@ -1,6 +1,6 @@
 -- What holds of silences: which of them hide an alert, and at which instants.
 use Rattle.std.proofs.Common.{◌≡◌, ◌≢◌, ◌↔◌, ℕ, ◌+◌, ℤ, ◌≤ℤ◌, List, [], ◌∷◌, map, Option, Some}
-use Rattle.std.proofs.Common.{None, Bool, false, ◌&&◌, ◌||◌, not, refl, sym, ap, subst, ◌∙◌}
+use Rattle.std.proofs.Common.{None, Bool, ◌&&◌, ◌||◌, not, refl, sym, ap, subst, ◌∙◌}
 use Rattle.std.proofs.Common.{◌<ℤ◌, arith, Contains}
 use Rattle.std.specs.Prelude.{slice_get, IsTrue, IsFalse}
 use Rattle.std.specs.List.{AllByRecursion, filter, list_any, enumerate_from}
@@ -12,9 +12,9 @@ use Rattle.std.proofs.lemmas.List.Kept.{IsStrictlySortedBy-filter}
 use Rattle.std.proofs.lemmas.Grind.{common_steps}
 use Rattle.am_universe.specs.LabelSet.{LabelMap, label_set_of}
 use Rattle.am_universe.proofs.ListLemmas.{IsIn, IsIn-from_Contains, Contains-from_IsIn, IsIn-map}
-use Rattle.am_universe.proofs.ListLemmas.{IsIn-unmap, IsStrictlySortedBy-map}
+use Rattle.am_universe.proofs.ListLemmas.{IsIn-unmap, IsStrictlySortedBy-map, AllByRecursion-each}
 use Rattle.am_universe.proofs.Members.{at_in, in_at, item_at, numbered_at}
-use Rattle.am_labels.specs.Matcher.{condition_holds, all_hold}
+use Rattle.am_labels.specs.Matcher.{condition_holds}
 use Rattle.am_labels.specs.Space.{Space, all_choices}
 use Rattle.am_labels.proofs.Passing.{any_in, in_any, passes_from_kept, kept_from_passes}
 use Rattle.am_list_files.specs.SilencesFile.{Silence}
@@ -94,22 +94,17 @@ hidden_by_none : (w : World) (s : LabelMap) (silences : List Silence)
     → IsFalse (list_any (hides w s) silences)
 hidden_by_none w s [] h = refl
 hidden_by_none w s (silence ∷ silences) h =
-    let fails : hides w s silence ≡ false = ap (λ b. b && all_hold s silence.matchers) h.0 in
-    rw fails (hidden_by_none w s silences h.1)
+    grind (arith, common_steps, hidden_by_none w s silences)
 
 pub inactive : (w : World) (s : LabelMap)
     → AllByRecursion (λ silence. IsFalse (is_active w.instant silence)) w.silences
     → IsFalse (is_silenced w s)
 inactive w s = hidden_by_none w s w.silences
 
-none_active : (instant : Option ℤ) (silences : List Silence) → instant ≡ None
-    → AllByRecursion (λ silence. IsFalse (is_active instant silence)) silences
-none_active instant [] e = tt
-none_active instant (silence ∷ silences) e =
-    (ap (λ i. is_active i silence) e, none_active instant silences e)
-
 pub no_instant : (w : World) (s : LabelMap) → w.instant ≡ None → IsFalse (is_silenced w s)
-no_instant w s e = inactive w s (none_active w.instant w.silences e)
+no_instant w s e =
+    inactive w s (AllByRecursion-each (λ silence. IsFalse (is_active w.instant silence)) w.silences
+    (λ silence there. ap (λ instant. is_active instant silence) e))
 
 abbrev AreSame : World → World → Type 0
 AreSame w v =
@@ -124,12 +119,8 @@ same_truth : (w v : World) (s : LabelMap) (question : Question) → AreSame w v
     → satisfies w question s ≡ satisfies v question s
 same_truth w v s (Part simple) same = same_part w v s simple same
 same_truth w v s (Not q) same = ap not (same_truth w v s q same)
-same_truth w v s (And q r) same =
-    let left = same_truth w v s q same in
-    let right = same_truth w v s r same in λ i. left i && right i
-same_truth w v s (Or q r) same =
-    let left = same_truth w v s q same in
-    let right = same_truth w v s r same in λ i. left i || right i
+same_truth w v s (And q r) same = λ i. same_truth w v s q same i && same_truth w v s r same i
+same_truth w v s (Or q r) same = λ i. same_truth w v s q same i || same_truth w v s r same i
 
 pub same_active : (s : Space) (w v : World) (question : Question) → w.config ≡ v.config
     → w.alerts ≡ v.alerts

@@ -1,9 +1,9 @@
 -- What makes a question true: a joined question depends on its parts, and a simple part on what it
 -- asks for.
 use Rattle.std.proofs.Common.{◌≡◌, ◌↔◌, ℕ, List, [], ◌∷◌, Bool, true, false, Contains, arith}
-use Rattle.std.proofs.Common.{Option, Some, None, refl, sym, ap, subst, ◌∙◌, ◌⊎◌, inl, inr}
+use Rattle.std.proofs.Common.{Option, Some, None, refl, sym, subst, ◌⊎◌, inl, inr}
 use Rattle.std.specs.Prelude.{IsTrue, option_map, ◌==◌, not, ◌||◌}
-use Rattle.std.specs.List.{filter_map, cons_option, list_any, AllByRecursion}
+use Rattle.std.specs.List.{filter_map, list_any, AllByRecursion}
 use Rattle.std.specs.Cmp.Lexicographic.{bytes_decides}
 use Rattle.std.proofs.lemmas.Bool.{eqb-true, eq-eqb, false≢true}
 use Rattle.std.proofs.lemmas.Map.Views.{Contains-from_any}
@@ -46,11 +46,6 @@ test_from_receipt receiver all h =
 
 -- ---- The receivers of an alert are those of the routes at which it ends.
 
-behind_item : {X : Type 0} (o : Option X) (xs : List X) (y : X) → IsIn xs y
-    → IsIn (cons_option o xs) y
-behind_item None xs y h = h
-behind_item (Some x) xs y h = inr h
-
 mapped_from : {X Y : Type 0} (f : X → Option Y) (xs : List X) (y : Y) → IsIn (filter_map f xs) y
     → (x : X) × IsIn xs x × (f x ≡ Some y)
 mapped_from f [] y h = absurd h
@@ -59,10 +54,7 @@ mapped_from f (x ∷ xs) y h = grind (arith, common_steps, mapped_from f xs y)
 mapped_in : {X Y : Type 0} (f : X → Option Y) (xs : List X) (x : X) (y : Y) → IsIn xs x
     → f x ≡ Some y → IsIn (filter_map f xs) y
 mapped_in f [] x y h e = absurd h
-mapped_in f (z ∷ xs) x y (inl same) e =
-    let first : f z ≡ Some y = ap f same ∙ e in rw first (inl refl)
-mapped_in f (z ∷ xs) x y (inr later) e =
-    behind_item (f z) (filter_map f xs) y (mapped_in f xs x y later e)
+mapped_in f (z ∷ xs) x y h e = grind (arith, common_steps, mapped_in f xs x y)
 
 pub receiver_there : (receiver : ℕ) (o : Option RouteTree)
     → option_map receiver_of o ≡ Some receiver

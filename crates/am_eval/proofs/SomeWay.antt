@@ -33,8 +33,7 @@ pub some_way-literal : (holds : Literal → Bool) (l : Literal) (ands : List (Li
     → some_way_holds holds (map (λ way. l ∷ way) ands) ≡ (holds l && some_way_holds holds ands)
 some_way-literal holds l [] = none_is_false (holds l)
 some_way-literal holds l (way ∷ ands) =
-    ap (λ b. (holds l && list_all holds way) || b) (some_way-literal holds l ands)
-    ∙ shared (holds l) (list_all holds way) (some_way_holds holds ands)
+    grind (arith, common_steps, some_way-literal holds l ands, shared)
 
 pub some_way-front : (holds : Literal → Bool) (front : List Literal) (ands : List (List Literal))
     → some_way_holds holds (map (λ way. front ++ way) ands)

@@ -1,6 +1,7 @@
-use Rattle.std.proofs.Common.{◌≡◌, ◌↔◌, List, [], ◌∷◌, Bool, true, false, refl, take}
+use Rattle.std.proofs.Common.{◌≡◌, ◌↔◌, List, [], ◌∷◌, Bool, true, false, take, arith}
 use Rattle.std.specs.Prelude.{IsTrue, IsFalse, not, ◌&&◌}
 use Rattle.std.specs.List.{AllByRecursion}
+use Rattle.std.proofs.lemmas.Grind.{common_steps}
 use Rattle.am_universe.specs.LabelSet.{LabelMap}
 use Rattle.am_labels.specs.Matcher.{all_hold}
 use Rattle.am_config.specs.ConfigFile.{RouteTree, matchers_of, children_of, continues_of}
@@ -12,18 +13,13 @@ use Rattle.am_eval.proofs.laws.a_child_is_tried_where_each_match_before_it_conti
 -- a route does not stop an alert exactly if it has `continue` or does not match
 goes_on : (matches continues : Bool)
     → (matches && not continues) ≡ false ↔ (matches ≡ true → continues ≡ true)
-goes_on true true = (λ e matched. refl, λ h. refl)
-goes_on true false = (λ e matched. absurd (cc), λ h. let no : false ≡ true = h refl in absurd (cc))
-goes_on false continues = (λ e matched. absurd (cc), λ h. refl)
+goes_on matches continues = grind (arith, common_steps)
 
 each_goes_on : (s : LabelMap) (ts : List RouteTree)
     → AllByRecursion (λ t. IsFalse (is_last s t)) ts
     ↔ AllByRecursion (λ t. IsTrue (all_hold s (matchers_of t)) → IsTrue (continues_of t)) ts
 each_goes_on s [] = (λ h. tt, λ h. tt)
-each_goes_on s (t ∷ ts) =
-    let here = goes_on (all_hold s (matchers_of t)) (continues_of t) in
-    let later = each_goes_on s ts in
-    (λ h. (here.0 h.0, later.0 h.1), λ h. (here.1 h.0, later.1 h.1))
+each_goes_on s (t ∷ ts) = grind (arith, common_steps, each_goes_on s ts, goes_on)
 
 pub returns : goal.returns
 returns _ = record {
