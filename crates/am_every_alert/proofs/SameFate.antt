@@ -1,9 +1,10 @@
 -- Label sets that meet the same of the matchers that decide have the same fate.
 use Rattle.std.proofs.Common.{◌≡◌, ℕ, ◌+◌, List, [], ◌∷◌, ◌++◌, map, Bool, cond, not, refl}
-use Rattle.std.proofs.Common.{sym, ap, ◌∙◌, inl, inr}
+use Rattle.std.proofs.Common.{sym, ap, ◌∙◌, inl, inr, arith}
 use Rattle.std.specs.Prelude.{◌&&◌, ◌||◌, ◌==◌}
 use Rattle.std.specs.List.{flat_map, filter, filter_map, list_any}
 use Rattle.std.proofs.lemmas.Bool.{cases_Bool}
+use Rattle.std.proofs.lemmas.Grind.{common_steps}
 use Rattle.am_universe.specs.LabelSet.{LabelMap}
 use Rattle.am_universe.proofs.ListLemmas.{IsIn, AllByRecursion-each, AllByRecursion-at}
 use Rattle.am_universe.proofs.Members.{joined_in}
@@ -207,13 +208,9 @@ module _ (s t : LabelMap) where
   same_truth w (Part simple) fate h = part_alike w simple fate h
   same_truth w (Not q) fate h = ap not (same_truth w q fate h)
   same_truth w (And q r) fate h =
-      let one = same_truth w q fate (front_met (question_conditions q) (question_conditions r) h) in
-      let two = same_truth w r fate (rest_met (question_conditions q) (question_conditions r) h) in
-      λ i. one i && two i
+      grind (arith, common_steps, same_truth w q, same_truth w r, front_met, rest_met)
   same_truth w (Or q r) fate h =
-      let one = same_truth w q fate (front_met (question_conditions q) (question_conditions r) h) in
-      let two = same_truth w r fate (rest_met (question_conditions q) (question_conditions r) h) in
-      λ i. one i || two i
+      grind (arith, common_steps, same_truth w q, same_truth w r, front_met, rest_met)
 
 -- ---- All of it.
 

@@ -1,10 +1,10 @@
 -- The alerts of a space, and the choices that stand for them.
-use Rattle.std.proofs.Common.{◌≡◌, ◌↔◌, ℕ, List, [], ◌∷◌, ◌++◌, Contains, Option, Some, None, true}
-use Rattle.std.proofs.Common.{false, not, refl, sym, ap, ◌∙◌, subst, inl, inr}
+use Rattle.std.proofs.Common.{◌≡◌, ◌↔◌, ℕ, List, [], ◌∷◌, ◌++◌, Contains, Option, Some, None}
+use Rattle.std.proofs.Common.{not, refl, sym, ap, ◌∙◌, subst, inl}
 use Rattle.std.specs.Prelude.{IsTrue, IsFalse, unwrap_or}
 use Rattle.std.specs.List.{list_any}
 use Rattle.std.specs.FinMap.{get}
-use Rattle.std.proofs.lemmas.Bool.{cases_Bool, and_parts, false_from_ne_true}
+use Rattle.std.proofs.lemmas.Bool.{and_parts, both_ways, false_from_ne_true, not-true}
 use Rattle.am_universe.specs.Universe.{Label, IsUniverse, sizes}
 use Rattle.am_universe.specs.Choice.{IsWhole}
 use Rattle.am_universe.specs.LabelSet.{LabelMap, value_of, label_set_of}
@@ -63,16 +63,15 @@ possible_value : (impossible : List (List Condition)) (alert : LabelMap) (name :
     → IsTrue (is_possible impossible alert)
     → IsTrue (may_have impossible name (value_of alert name))
 possible_value impossible alert name possible =
-    elim (cases_Bool (list_any (takes_away name (value_of alert name)) impossible)) [
-      | inl some ↦
-          let found = any_in (takes_away name (value_of alert name)) impossible some in
-          let parts = and_parts (asks_only_of name found.0)
-          (matches_text (value_of alert name) found.0) found.2 in
-          let matched = in_any (all_hold alert) impossible found.0 found.1
-          (alone_truth alert name found.0 parts.0 ∙ parts.1) in
-          let both : true ≡ false = sym possible ∙ ap not matched in absurd (cc)
-      | inr none ↦ ap not none
-    ]
+    let takes = takes_away name (value_of alert name) in
+    ap not (false_from_ne_true (list_any takes impossible) (λ some.
+    let found = any_in takes impossible some in
+    let parts = and_parts (asks_only_of name found.0)
+    (matches_text (value_of alert name) found.0) found.2 in
+    both_ways (list_any (all_hold alert) impossible)
+    (not-true (list_any (all_hold alert) impossible) possible)
+    (in_any (all_hold alert) impossible found.0 found.1
+    (alone_truth alert name found.0 parts.0 ∙ parts.1))))
 
 alert_alike : (a : Alphabet) (s : Space) (ms : List Condition) (alert : LabelMap)
     → IsUniverse s.labels → IsSpaceComplete a s ms → IsAlertOf a s alert → (name : List ℕ)
