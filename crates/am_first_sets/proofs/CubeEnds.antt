@@ -31,8 +31,9 @@ use Rattle.am_eval.proofs.SomeWay.{some_way-literal, some_way-front}
 use Rattle.am_first_sets.specs.declared.route_cubes.RouteCubes.{RouteCubes}
 use Rattle.am_first_sets.specs.declared.route_cubes.RouteCubes.TheViews.{out-RouteCubes}
 use Rattle.am_first_sets.specs.ChoiceEnds.{is_end_at}
-use Rattle.am_first_sets.specs.Meeting.{all_match}
-use Rattle.am_first_sets.specs.RouteCubes.{AreCubesOf, AreCubesOfEach, none_before, none_stops}
+use Rattle.am_first_sets.specs.Meeting.{all_match, meets_cubes}
+use Rattle.am_first_sets.specs.Solving.{avoids}
+use Rattle.am_first_sets.specs.RouteCubes.{AreCubesOf, AreCubesOfEach, none_stops}
 use Rattle.am_first_sets.specs.RouteCubes.{gets_past, goes_into, reaches_by, ends_by}
 use Rattle.am_first_sets.proofs.CubeTruth.{matches_where}
 
@@ -174,11 +175,7 @@ pub left_of_path : (path : List ℕ) (i p : ℕ) → i < length path → p ≡ g
     → drop i path ≡ p ∷ drop (i + 1) path
 left_of_path path i p within is = rw (is, add-one, drop-cons path i 0 within) refl
 
--- ---- Truth, in other orders.
-
-pub and_in : (a b c : Bool) → (a && (b && c)) ≡ ((a && b) && c)
-and_in true b c = refl
-and_in false b c = refl
+-- ---- The way down, step by step.
 
 in_order : (first others unwanted wanted rest : Bool)
     → (((first && wanted) && (others && unwanted)) && rest)
@@ -188,37 +185,36 @@ in_order true true false false rest = refl
 in_order true false unwanted false rest = refl
 in_order first others unwanted wanted rest = refl
 
--- ---- The way down, step by step.
+and_in : (a b c : Bool) → (a && (b && c)) ≡ ((a && b) && c)
+and_in true b c = refl
+and_in false b c = refl
 
 module _ (choice : List ℕ) where
   -- a choice ends there if the cubes so far let it pass and it gets down the rest of the path
-  abbrev pub on_way : List (Bor MaskedLabels) → List (Bor (List RouteCubes)) → RouteCubes
-      → List ℕ → Bool
-  on_way wanted before r left =
-      (all_match wanted choice && none_before choice before) && ends_by choice r left
+  abbrev pub on_way : List (Bor MaskedLabels) → List (Bor MaskedLabels) → RouteCubes → List ℕ
+      → Bool
+  on_way wanted unwanted r left = meets_cubes wanted unwanted choice && ends_by choice r left
 
-  pub begun : (path : List ℕ) (r : RouteCubes) (none wanted : List (Bor MaskedLabels))
-      (before : List (Bor (List RouteCubes))) (ref : Bor MaskedLabels)
-      → ref.now ≡ (out-RouteCubes r).cube → none ≡ [] → wanted ≡ none ++ ref ∷ [] → before ≡ []
-      → on_way wanted before r path
+  pub begun : (path : List ℕ) (r : RouteCubes) (none wanted unwanted : List (Bor MaskedLabels))
+      (ref : Bor MaskedLabels) → ref.now ≡ (out-RouteCubes r).cube → none ≡ []
+      → wanted ≡ none ++ ref ∷ [] → unwanted ≡ []
+      → on_way wanted unwanted r path
       ≡ (matches (out-RouteCubes r).cube choice && ends_by choice r path)
-  begun path r none wanted before ref is empty adds no_more =
+  begun path r none wanted unwanted ref is empty adds no_more =
       let top = matches ref.now choice in
       let first = adds ∙ ap (λ refs. refs ++ ref ∷ []) empty in
       ap (λ b. b && ends_by choice r path)
-      ((λ i. all_match (first i) choice && none_before choice (no_more i))
-      ∙ and_true (top && true) ∙ and_true top
+      ((λ i. meets_cubes (first i) (no_more i) choice) ∙ and_true (top && true) ∙ and_true top
       ∙ ap (λ (cube : MaskedLabels). matches cube choice) is)
 
-  module _ (end : Bool) (r : RouteCubes) (wanted : List (Bor MaskedLabels))
-      (before : List (Bor (List RouteCubes))) (left : List ℕ)
-      (on : on_way wanted before r left ≡ end)
-      (rs : List RouteCubes) (same : rs ≡ (out-RouteCubes r).routes.items) where
+  module _ (end : Bool) (r : RouteCubes) (wanted unwanted : List (Bor MaskedLabels))
+      (left : List ℕ) (on : on_way wanted unwanted r left ≡ end) (rs : List RouteCubes)
+      (same : rs ≡ (out-RouteCubes r).routes.items) where
     abbrev first : Bool
     first = all_match wanted choice
 
     abbrev others : Bool
-    others = none_before choice before
+    others = avoids unwanted choice
 
     abbrev into : List ℕ → Option RouteCubes → Bool
     into rest o =
@@ -234,33 +230,28 @@ module _ (choice : List ℕ) where
         && into rest ((ap (λ xs. slice_get xs p) (sym same) ∙ there) i))))
         ∙ on
 
-    pub one_step : (longer : List (Bor MaskedLabels)) (more : List (Bor (List RouteCubes)))
-        (ref : Bor MaskedLabels) (siblings : Bor (List RouteCubes)) (p : ℕ) (rest : List ℕ)
-        (child : RouteCubes) → left ≡ p ∷ rest → slice_get rs p ≡ Some child
+    pub one_step : (longer more : List (Bor MaskedLabels)) (ref : Bor MaskedLabels) (p : ℕ)
+        (rest : List ℕ) (child : RouteCubes) → left ≡ p ∷ rest → slice_get rs p ≡ Some child
         → ref.now ≡ (out-RouteCubes child).cube → longer ≡ wanted ++ ref ∷ []
-        → siblings.now ≡ take p rs → more ≡ before ++ siblings ∷ []
+        → avoids more choice ≡ (others && none_stops false choice (take p rs))
         → on_way longer more child rest ≡ end
-    one_step longer more ref siblings p rest child goes there is adds are_before adds_them =
+    one_step longer more ref p rest child goes there is adds also_none =
         let matched = matches (out-RouteCubes child).cube choice in
-        let closed = none_stops false choice (take p rs) in
         let also : all_match longer choice ≡ (first && matched) =
         ap (λ (cubes : List (Bor MaskedLabels)). all_match cubes choice) adds
         ∙ list_all-append (λ (cube : Bor MaskedLabels). matches cube.now choice) wanted (ref ∷ [])
         ∙ ap (λ b. first && b) (and_true (matches ref.now choice)
         ∙ ap (λ (cube : MaskedLabels). matches cube choice) is) in
-        let none : none_before choice more ≡ (others && closed) =
-        ap (none_before choice) adds_them
-        ∙ list_all-append (λ (s : Bor (List RouteCubes)). none_stops false choice s.now) before
-        (siblings ∷ [])
-        ∙ ap (λ b. others && b) (and_true (none_stops false choice siblings.now)
-        ∙ ap (none_stops false choice) are_before) in
-        (λ i. (also i && none i) && ends_by choice child rest)
-        ∙ in_order first others closed matched (ends_by choice child rest)
+        (λ i. (also i && also_none i) && ends_by choice child rest)
+        ∙ in_order first others (none_stops false choice (take p rs)) matched
+        (ends_by choice child rest)
         ∙ down p rest (Some child) goes there
 
-    pub last_step : left ≡ [] → (first && (others && none_stops true choice rs)) ≡ end
-    last_step ends =
-        and_in first others (none_stops true choice rs)
+    pub last_step : (more : List (Bor MaskedLabels)) → left ≡ []
+        → avoids more choice ≡ (others && none_stops true choice rs)
+        → meets_cubes wanted more choice ≡ end
+    last_step more ends also_none =
+        ap (λ b. first && b) also_none ∙ and_in first others (none_stops true choice rs)
         ∙ ap (λ b. (first && others) && b)
         (ap (none_stops true choice) same ∙ sym (ap (ends_by choice r) ends))
         ∙ on

@@ -11,7 +11,7 @@ use Rattle.std.proofs.Math.Nat.{eq-or-lt_of_le}
 use Rattle.std.specs.Borrow.{Bor}
 use Rattle.am_judged_lists.specs.Cube.{MaskedLabels, matches}
 use Rattle.am_first_sets.specs.declared.candidate.Candidate.{Candidate}
-use Rattle.am_first_sets.specs.Literals.{holds_at, hold_all, meets, IsMet, IsUnmet}
+use Rattle.am_first_sets.specs.Literals.{holds_at, meets, IsMet, IsUnmet}
 use Rattle.am_first_sets.specs.Literals.{wanted_of, unwanted_of}
 use Rattle.am_first_sets.specs.PossibleChoices.{AreFound}
 use Rattle.am_first_sets.proofs.SolverLemmas.{some_choice}

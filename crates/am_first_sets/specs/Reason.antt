@@ -1,5 +1,5 @@
 -- Reasons: which of some literals are to blame if no choice meets all of them.
-use Rattle.std.specs.Prelude.{◌≡◌, ◌<◌, ◌≤◌, ◌+◌, ℕ, zero, suc, List, [], ◌∷◌, Bool, true, false}
+use Rattle.std.specs.Prelude.{◌≡◌, ◌<◌, ◌≤◌, ◌+◌, ℕ, zero, suc, List, [], ◌∷◌, Bool, false}
 use Rattle.std.specs.Prelude.{not, ◌&&◌, ◌||◌, nat_lt, get_or, Some, slice_get, IsTrue}
 use Rattle.std.specs.Prelude.{if◌then◌else◌}
 use Rattle.std.specs.List.{AllZip}

@@ -1,7 +1,6 @@
 -- The routes of a configuration as a tree of cubes, and the way to end at one of them.
 use Rattle.std.specs.Prelude.{◌≡◌, ℕ, List, [], ◌∷◌, Bool, true, false, not, ◌&&◌, ◌||◌, Option}
 use Rattle.std.specs.Prelude.{Some, None, slice_get, take, ⊤}
-use Rattle.std.specs.Borrow.{Bor}
 use Rattle.std.specs.List.{list_all}
 use Rattle.std.proofs.Props.{props}
 use Rattle.am_universe.specs.Universe.{Label, sizes}
@@ -15,7 +14,7 @@ use Rattle.am_eval.specs.declared.reach.Reach.TheVariants.{Ends, Enters}
 use Rattle.am_first_sets.specs.declared.route_cubes.RouteCubes.{RouteCubes}
 use Rattle.am_first_sets.specs.declared.route_cubes.RouteCubes.TheViews.{out-RouteCubes}
 use Rattle.am_first_sets.specs.declared.route_cubes.RouteWay.{RouteWay}
-use Rattle.am_first_sets.specs.Meeting.{all_match}
+use Rattle.am_first_sets.specs.Meeting.{meets_cubes}
 
 -- The cubes are those of a route and of all routes below it, or those of the children of a route.
 -- At a choice, each cube says what the matchers of its route say; `continue` and the receiver are
@@ -82,27 +81,17 @@ abbrev pub ends_by : List ℕ → RouteCubes → List ℕ → Bool
 ends_by choice r path =
     reaches_by (λ cube. matches cube choice) (λ cube. not (matches cube choice)) Ends r path
 
--- What cubes say at a choice. None of some siblings matches; those with `continue` are ignored
--- unless all count. No route matches that stops an alert on a way.
+-- None of some siblings matches a choice; those with `continue` are ignored unless all count.
 abbrev pub none_stops : Bool → List ℕ → List RouteCubes → Bool
 none_stops all choice siblings =
     list_all (λ r. (not all && (out-RouteCubes r).continues)
     || not (matches (out-RouteCubes r).cube choice)) siblings
 
-abbrev pub none_before : List ℕ → List (Bor (List RouteCubes)) → Bool
-none_before choice before = list_all (λ siblings. none_stops false choice siblings.now) before
-
-abbrev pub nothing_stops : List ℕ → RouteWay → Bool
-nothing_stops choice way =
-    none_before choice way.before.items && none_stops true choice way.children.now
-
--- A choice goes a way, by the cubes of the way. Or there is a way, and the choice goes this way.
-abbrev pub goes : List ℕ → RouteWay → Bool
-goes choice way = all_match way.wanted.items choice && nothing_stops choice way
-
+-- There is a way, and a choice goes it: it matches each route that must match, and none of those
+-- that must not.
 abbrev pub is_gone : List ℕ → Option RouteWay → Bool
 is_gone choice None = false
-is_gone choice (Some way) = goes choice way
+is_gone choice (Some way) = meets_cubes way.wanted.items way.unwanted.items choice
 
 -- This is the way to end at the route at a path: a choice goes the way exactly if it matches the
 -- first route and gets down from there.

@@ -1,6 +1,6 @@
 //! The matchers of routes as cubes, in a tree of the same shape.
 //!
-//! The way to end at a route borrows its cubes and the groups of siblings from that tree.
+//! The way to end at a route borrows its cubes from that tree.
 
 ghost use Rattle.std.specs.Prelude.{◌≡◌, ℕ, List, map, ◌&&◌, IfOk, OnOk, IsTrue};
 ghost use Rattle.am_universe.specs.Universe.{sizes};
@@ -9,7 +9,7 @@ ghost use Rattle.am_config.specs.RouteView.{route_view};
 ghost use Rattle.am_config.specs.ConfigFile.{routes_of};
 ghost use Rattle.am_first_sets.specs.Solving.{avoids};
 ghost use Rattle.am_first_sets.specs.RouteCubes.{AreCubesOf, AreCubesOfEach, IsWayToEnd};
-ghost use Rattle.am_first_sets.specs.RouteCubes.{none_stops, nothing_stops};
+ghost use Rattle.am_first_sets.specs.RouteCubes.{none_stops};
 
 use am_config::{Path, Route};
 use am_judged_lists::Cube;
@@ -19,7 +19,7 @@ use std::alloc::{AllocError, Global};
 /// The matchers of a route as a cube, with its receiver and its `continue`, and the same for all
 /// routes below it.
 ///
-/// The fields are public because `am_outcomes` walks the tree itself. The type has no invariant:
+/// The fields are public because `am_plans` walks the tree itself. The type has no invariant:
 /// only [`RouteCubes::of`] promises that the cubes are those of routes.
 #[derive(Drop)]
 pub struct RouteCubes {
@@ -29,14 +29,12 @@ pub struct RouteCubes {
     pub routes: Vec<RouteCubes>,
 }
 
-/// The way to end at a route. It has the cubes of the routes that must match. For each of these
-/// routes but the first it has the earlier siblings; those of them that lack `continue` must not
-/// match. It also has the children of the last route, and none of these may match.
+/// The way to end at a route. It has the cubes of the routes that must match, and of those that
+/// must not: the earlier siblings of these that lack `continue`, and the children of the last.
 #[derive(Drop)]
 pub(crate) struct RouteWay<'a> {
     pub wanted: Vec<&'a Cube>,
-    before: Vec<&'a [RouteCubes]>,
-    children: &'a [RouteCubes],
+    pub unwanted: Vec<&'a Cube>,
 }
 
 impl RouteCubes {
@@ -67,7 +65,7 @@ impl RouteCubes {
         ensures way { IfOk result (IsWayToEnd self.now path.now) }
     {
         let mut wanted = Vec::new(alloc);
-        let mut before = Vec::new(alloc);
+        let mut unwanted = Vec::new(alloc);
         let mut route = self;
         wanted.push(&route.cube)?;
         for i in 0..path.len() {
@@ -76,15 +74,12 @@ impl RouteCubes {
             if position >= children.len() {
                 return Ok(None);
             }
-            before.push(&children[..position])?;
+            push_stops(&mut unwanted, &children[..position], false)?;
             route = &children[position];
             wanted.push(&route.cube)?;
         }
-        Ok(Some(RouteWay {
-            wanted,
-            before,
-            children: route.routes.as_slice(),
-        }))
+        push_stops(&mut unwanted, route.routes.as_slice(), true)?;
+        Ok(Some(RouteWay { wanted, unwanted }))
     }
 }
 
@@ -104,22 +99,6 @@ fn cubes_of_routes(
         cubes.push(RouteCubes::of(alloc, universe, route)?)?;
     }
     Ok(cubes)
-}
-
-impl<'a> RouteWay<'a> {
-    /// The cubes of the routes that stop an alert on the way. It must match none of them. Fails
-    /// only if memory runs out.
-    pub(crate) fn stops(&self, alloc: Global) -> Result<Vec<&'a Cube>, AllocError>
-        ensures { IfOk result (λ cubes. (choice : List ℕ)
-            → avoids cubes.items choice ≡ nothing_stops choice self.now) }
-    {
-        let mut cubes = Vec::new(alloc);
-        for siblings in self.before.as_slice() {
-            push_stops(&mut cubes, siblings, false)?;
-        }
-        push_stops(&mut cubes, self.children, true)?;
-        Ok(cubes)
-    }
 }
 
 /// Adds the cubes of some siblings. Those with `continue` are added only if `all` is true. Fails

@@ -65,8 +65,7 @@ impl<'a> RouteEnds<'a> {
         let Some(way) = self.routes.way_to_end(alloc, path)? else {
             return Ok(None);
         };
-        let stops = way.stops(alloc)?;
         self.possible
-            .first_meeting(alloc, way.wanted.as_slice(), stops.as_slice())
+            .first_meeting(alloc, way.wanted.as_slice(), way.unwanted.as_slice())
     }
 }

@@ -1,9 +1,8 @@
-use Rattle.std.proofs.Common.{ap, subst, false, ◌∙◌}
-use Rattle.std.specs.Prelude.{◌&&◌}
+use Rattle.std.proofs.Common.{subst, false, ◌∙◌}
 use Rattle.am_labels.specs.Space.{all_choices}
 use Rattle.am_first_sets.specs.RouteEnds.{ends_space, ends_config}
 use Rattle.am_first_sets.specs.ChoiceEnds.{is_end_at}
-use Rattle.am_first_sets.specs.Meeting.{all_match, meets_cubes}
+use Rattle.am_first_sets.specs.Meeting.{meets_cubes}
 use Rattle.am_first_sets.specs.RouteCubes.{IsWayToEnd}
 use Rattle.am_first_sets.proofs.CubeEnds.{ends_as}
 use Rattle.am_first_sets.proofs.FirstPossible.{find_none, found_alike, found_of_space}
@@ -20,10 +19,9 @@ returns-clause-first c =
     if_ok_more c.first_meeting.result _ _
     (λ found first.
     first
-    ∙ found_alike s (meets_cubes way.wanted.items c.in_ok-stops.stops.items)
+    ∙ found_alike s (meets_cubes way.wanted.items way.unwanted.items)
     (is_end_at s.labels (ends_config self) path)
-    (λ d is.
-    ap (λ b. all_match way.wanted.items d && b) (c.in_ok-stops.ensures d) ∙ to_end d
+    (λ d is. to_end d
     ∙ ends_as s.labels (ends_config self) self.routes path d is.0 (self.knows_routes d is.0)))
     (rw (c.as_slice.ensures.value, c.as_slice-2.ensures.value) at c.first_meeting.ensures.first)
 
