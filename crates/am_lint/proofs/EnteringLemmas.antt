@@ -2,11 +2,11 @@
 -- of the siblings before these that lack `continue`. It ends there exactly if it also matches no
 -- child of the route.
 use Rattle.std.proofs.Common.{◌≡◌, ◌↔◌, inl, inr, ℕ, zero, suc, ◌<◌, List, [], ◌∷◌, take}
-use Rattle.std.proofs.Common.{Some, Bool, true, false, not, refl, sym, ap, subst, ◌∙◌, arith}
+use Rattle.std.proofs.Common.{Some, Bool, true, false, not, refl, sym, ap, subst, ◌∙◌, arith, ◌+◌, length}
 use Rattle.std.specs.Prelude.{IsTrue, IsFalse, slice_get, option_and_then, ◌==◌, ◌&&◌, nat_lt, ⊤}
 use Rattle.std.specs.List.{AllByRecursion}
 use Rattle.std.proofs.lemmas.Bool.{false≢true, both_ways, and_parts, and_from, cases_Bool}
-use Rattle.std.proofs.lemmas.Bool.{lt-ltb, ltb-true, eqb-true, eq-eqb, and_left, and_right}
+use Rattle.std.proofs.lemmas.Bool.{lt-ltb, ltb-true, eqb-true, and_left, and_right}
 use Rattle.std.proofs.lemmas.Option.{option_and_then_some, same_Some}
 use Rattle.am_universe.specs.LabelSet.{LabelMap}
 use Rattle.am_universe.proofs.ListLemmas.{AllByRecursion-at, Contains-from_IsIn}
@@ -26,7 +26,7 @@ use Rattle.am_lint.specs.Table.{IsRoute}
 use Rattle.am_lint.specs.Literals.{is_wanted, stands_in}
 use Rattle.am_eval.specs.Reaching.{EndsAt, Enters}
 use Rattle.am_lint.specs.Reasons.{MatchesWay}
-use Rattle.am_lint.proofs.PlaceSteps.{same_step}
+use Rattle.am_lint.proofs.PlaceSteps.{same_step, same_child}
 
 -- ---- The first items of a list.
 
@@ -121,15 +121,21 @@ module _ (s : LabelMap) where
       (and_from (not (continues_of u)) (stands_before path (o ∷ q)) parts.0 inner.1)
 
   none_below : (t : RouteTree) (path : List ℕ) → EndsThere s t path → Meets s t path Children
-  none_below t path h [] u at stands = absurd (false≢true stands)
+  none_below t [] h [] u at stands = absurd (false≢true stands)
   none_below t [] h (k ∷ []) u at stands =
       AllByRecursion-at (λ v. IsFalse (all_hold s (matchers_of v))) (list_of (children_of t)) u h.1
       (in_at (list_of (children_of t)) k u (child_at t u k at))
-  none_below t [] h (k ∷ r ∷ q) u at stands = absurd (false≢true stands)
+  none_below t [] h (k ∷ r ∷ q) u at stands =
+      let many = eqb-true (length (k ∷ r ∷ q)) (0 + 1) (and_parts _ true stands).0 in
+      absurd (omega (arith, many))
+  none_below t (p ∷ path) h [] u at stands =
+      absurd (false≢true (and_parts (0 == length (p ∷ path) + 1) false stands).1)
   none_below t (p ∷ path) h (k ∷ q) u at stands =
-      let parts = and_parts (p == k) (is_child_of path q) stands in
-      let is = ap (slice_get (list_of (children_of t))) (sym (eqb-true p k parts.0)) ∙ h.2 in
-      none_below h.1 path h.4 q u (sym (down t h.1 k q is) ∙ at) parts.1
+      let same = (begins_parts k p q path
+      (and_parts _ (leads_through (p ∷ path) (k ∷ q)) stands).1).0 in
+      let is = ap (slice_get (list_of (children_of t))) same ∙ h.2 in
+      none_below h.1 path h.4 q u (sym (down t h.1 k q is) ∙ at)
+      (sym (ap (λ n. is_child_of (p ∷ path) (n ∷ q)) same ∙ same_child p path q) ∙ stands)
 
   -- ---- Where an alert goes that meets what is asked.
 
@@ -181,8 +187,7 @@ module _ (s : LabelMap) where
         is,
         subst (λ n. AllByRecursion GoesPast (take n children)) lead.0 h.3,
         stops_here h.1 path end h.4 lead.1 (λ q v at child.
-            none (p ∷ q) v (down t h.1 p q is ∙ at)
-            (and_from (p == p) (is_child_of path q) (eq-eqb p p refl) child)),
+            none (p ∷ q) v (down t h.1 p q is ∙ at) (same_child p path q ∙ child)),
       )
 
 -- there is a route at each path on the way to a route

@@ -1,18 +1,16 @@
 -- The literals of a part, as they are added one after another.
 use Rattle.std.proofs.Common.{◌≡◌, ◌+◌, ℕ, List, [], ◌∷◌, ◌++◌, Some, refl, sym, ap, ◌∙◌}
-use Rattle.std.proofs.Common.{slice_get, append_assoc, append-nil, Bool, true, false, zero}
-use Rattle.std.proofs.Common.{suc, cond, drop, take, map, arith}
-use Rattle.std.specs.List.{AllByRecursion, filter}
+use Rattle.std.proofs.Common.{slice_get, append_assoc, append-nil, Bool, true, false}
+use Rattle.std.proofs.Common.{cond, take, map}
+use Rattle.std.specs.List.{filter}
 use Rattle.std.proofs.lemmas.List.{map-append}
 use Rattle.std.proofs.lemmas.List.Elements.{filter-append}
 use Rattle.am_universe.proofs.DistinctLists.{all_push}
 use Rattle.am_complete.proofs.Pushed.{one_longer}
-use Rattle.am_first_sets.specs.Reason.{AreSameLiterals}
 use Rattle.am_first_sets.specs.declared.candidate.Candidate.{Candidate}
 use Rattle.am_lint.specs.declared.literals.Part.{Part}
 use Rattle.am_lint.specs.declared.table.TableRoute.{TableRoute}
 use Rattle.am_lint.specs.Literals.{is_wanted, has_route, path_if_any, path_of, IsAbout, AddsPart}
-use Rattle.am_lint.specs.Literals.{AreTagged}
 
 -- ---- What passes a test, with one more item.
 
@@ -70,20 +68,3 @@ module _ (routes : List TableRoute) (part : Part) (path : List ℕ) where
             ∙ ap (λ b. map (λ (r : TableRoute). r.path)
             (filter (has_route part path) (take n routes)) ++ cond b (route.path ∷ []) []) has);
       }
-
--- ---- The tags of literals.
-
-pub tagged_alike : (routes : List TableRoute) (ks ls : List Candidate) → AreSameLiterals ks ls
-    → AreTagged routes ks → AreTagged routes ls
-tagged_alike routes [] [] same are = tt
-tagged_alike routes (k ∷ ks) (l ∷ ls) same are =
-    let is = same.0.2 in
-    let lt = are.0 in
-    (omega (arith, is, lt), tagged_alike routes ks ls same.1 are.1)
-tagged_alike routes ks ls same are = absurd same
-
-pub all_behind : {X : Type 0} (P : X → Type 0) (xs : List X) (n : ℕ) → AllByRecursion P xs
-    → AllByRecursion P (drop n xs)
-all_behind P xs zero all = all
-all_behind P [] (suc n) all = tt
-all_behind P (x ∷ xs) (suc n) all = all_behind P xs n all.1

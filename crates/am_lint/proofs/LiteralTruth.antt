@@ -1,13 +1,13 @@
 -- What literals say of the label set of a choice, and what a search for a choice that meets them
 -- finds.
-use Rattle.std.proofs.Common.{◌≡◌, ◌↔◌, ◌<◌, ℕ, List, [], ◌++◌, length, Bool, true, false, not}
+use Rattle.std.proofs.Common.{◌≡◌, ◌↔◌, ℕ, List, [], ◌++◌, Bool, true, false, not}
 use Rattle.std.proofs.Common.{cond, ◌&&◌, Option, Some, None, refl, sym, ap, ◌∙◌, subst}
 use Rattle.std.proofs.Common.{IsTrue, ◌∷◌}
 use Rattle.std.specs.Prelude.{⊤}
 use Rattle.std.specs.List.{AllByRecursion, filter, find}
 use Rattle.std.proofs.lemmas.Bool.{and_parts, and_from, both_ways, not-true}
 use Rattle.std.proofs.lemmas.List.Folds.{list_all-append}
-use Rattle.std.proofs.lemmas.Option.{slice_get_within, same_Some}
+use Rattle.std.proofs.lemmas.Option.{same_Some}
 use Rattle.am_universe.proofs.ListLemmas.{IsIn, IsIn-map, IsIn-unmap, AllByRecursion-at}
 use Rattle.am_universe.proofs.ListLemmas.{AllByRecursion-each}
 use Rattle.am_universe.proofs.Members.{in_at}
@@ -121,32 +121,28 @@ module _ (s : Space) (c : Configuration) (routes : List TableRoute)
 
 -- ---- Literals of several parts.
 
--- literals that are named, whose tags are positions in the table, and that say of a choice what its
--- label set has
-pub record AreFront (s : Space) (routes : List TableRoute) (ks : List Candidate)
-    (Is : LabelMap → Type 0) : Type 0 where
+-- literals that are named, and that say of a choice what its label set has
+pub record AreFront (s : Space) (ks : List Candidate) (Is : LabelMap → Type 0) : Type 0 where
   pub say : AreSaying s ks Is
   pub named : AreNamed ks
-  pub tagged : AllByRecursion (λ k. k.tag < length routes) ks
 
 all_and : {X : Type 0} (P : X → Type 0) (xs ys : List X) → AllByRecursion P xs
     → AllByRecursion P ys → AllByRecursion P (xs ++ ys)
 all_and P [] ys all more = more
 all_and P (x ∷ xs) ys all more = (all.0, all_and P xs ys all.1 more)
 
-pub nothing_said : (s : Space) (routes : List TableRoute) → AreFront s routes [] (λ set. ⊤)
-nothing_said s routes =
-    record { say = λ choice possible. (λ h. tt, λ h. refl); named = tt; tagged = tt }
+pub nothing_said : (s : Space) → AreFront s [] (λ set. ⊤)
+nothing_said s = record { say = λ choice possible. (λ h. tt, λ h. refl); named = tt }
 
 pub more_said : (s : Space) (c : Configuration) (routes : List TableRoute)
     (known : IsTableOf s.labels c routes) (path : List ℕ) (part : Part)
     (old new : List Candidate) (adds : AddsPart routes part path routes old new)
-    (First Is : LabelMap → Type 0) → AreFront s routes old First
+    (First Is : LabelMap → Type 0) → AreFront s old First
     → ((set : LabelMap) → (First set × Meets set c.root path part) ↔ Is set)
-    → AreFront s routes new Is
+    → AreFront s new Is
 more_said s c routes known path part old new adds First Is front both =
     let about = about_each s c routes known path part old new adds in
-    subst (λ (ks : List Candidate). AreFront s routes ks Is) (sym adds.adds) (record {
+    subst (λ (ks : List Candidate). AreFront s ks Is) (sym adds.adds) (record {
       say = λ choice possible.
           let set = label_set_of s.labels choice in
           let one = front.say choice possible in
@@ -163,15 +159,12 @@ more_said s c routes known path part old new adds First Is front both =
           );
       named = all_and (λ k. IsTrue k.named) old adds.more front.named
           (AllByRecursion-each (λ k. IsTrue k.named) adds.more (λ k there. (about k there).5));
-      tagged = all_and (λ k. k.tag < length routes) old adds.more front.tagged
-          (AllByRecursion-each (λ k. k.tag < length routes) adds.more (λ k there.
-          slice_get_within routes k.tag (about k there).0 (about k there).1));
     })
 
 -- ---- What a search for a choice that meets them finds.
 
-module _ (s : Space) (routes : List TableRoute) (ks : List Candidate) (Is : LabelMap → Type 0)
-    (front : AreFront s routes ks Is) (found : Option (List ℕ))
+module _ (s : Space) (ks : List Candidate) (Is : LabelMap → Type 0) (front : AreFront s ks Is)
+    (found : Option (List ℕ))
     (first : found ≡ find (λ d. meets d ks) (all_choices s)) where
   pub seen : (choice : List ℕ) → found ≡ Some choice → IsSeenBy s.labels (IsSetOf s) Is choice
   seen choice is =
@@ -193,7 +186,7 @@ module _ (s : Space) (routes : List TableRoute) (ks : List Candidate) (Is : Labe
       (meets_all occurs.0 ks front.named
       ∙ (front.say occurs.0 occurs.1).1 (subst Is occurs.2 is))
 
-pub all_named : (s : Space) (routes : List TableRoute) (ks : List Candidate)
-    (Is : LabelMap → Type 0) (n : ℕ) → AreFront s routes ks Is → AreNamedBefore n ks
-all_named s routes ks Is n front i k at lt =
+pub all_named : (s : Space) (ks : List Candidate) (Is : LabelMap → Type 0) (n : ℕ)
+    → AreFront s ks Is → AreNamedBefore n ks
+all_named s ks Is n front i k at lt =
     AllByRecursion-at (λ (l : Candidate). IsTrue l.named) ks k front.named (in_at ks i k at)

@@ -1,9 +1,9 @@
 -- Routes that are looked at over a second space, one after another.
-use Rattle.std.proofs.Common.{◌≡◌, ◌<◌, ◌≤◌, ◌+◌, ℕ, zero, suc, List, [], ◌∷◌, length, take, set}
+use Rattle.std.proofs.Common.{◌≡◌, ◌<◌, ◌+◌, ℕ, zero, suc, List, [], ◌∷◌, length, take, set}
 use Rattle.std.proofs.Common.{Some, refl}
 use Rattle.std.proofs.Common.{◌∙◌, subst, slice_get}
 use Rattle.std.specs.List.{AllByRecursion, AllZip}
-use Rattle.std.proofs.lemmas.List.{take_all, take_more_set}
+use Rattle.std.proofs.lemmas.List.{take_more_set}
 use Rattle.am_universe.proofs.DistinctLists.{all_push}
 use Rattle.am_lint.specs.declared.found.FoundRoute.{FoundRoute}
 use Rattle.am_lint.specs.FoundView.{IsSameButEvery}
@@ -29,7 +29,3 @@ pub looked_more : {X : Type 0} (P : X → Type 0) (xs : List X) (i : ℕ) (x : X
     → AllByRecursion P (take i xs) → P x → AllByRecursion P (take (i + 1) (set xs i x))
 looked_more P xs i x lt before here =
     rw (take_more_set xs i x lt) (all_push P (take i xs) x before here)
-
-pub looked_all : {X : Type 0} (P : X → Type 0) (xs : List X) (i : ℕ) → length xs ≤ i
-    → AllByRecursion P (take i xs) → AllByRecursion P xs
-looked_all P xs i past so = subst (AllByRecursion P) (take_all i xs past) so

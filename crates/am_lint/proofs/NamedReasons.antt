@@ -10,6 +10,7 @@ use Rattle.std.proofs.lemmas.Option.{same_Some}
 use Rattle.am_universe.proofs.ListLemmas.{IsIn, IsIn-from_Contains, IsIn-map, IsIn-unmap}
 use Rattle.am_universe.proofs.ListLemmas.{AllByRecursion-at, AllByRecursion-each}
 use Rattle.am_universe.proofs.ListLemmas.{Contains-from_IsIn}
+use Rattle.am_universe.proofs.Members.{at_in}
 use Rattle.am_universe.specs.LabelSet.{label_set_of, LabelMap}
 use Rattle.am_labels.specs.Matcher.{all_hold}
 use Rattle.am_labels.specs.Space.{Space, IsChoiceOf}
@@ -35,14 +36,11 @@ use Rattle.am_lint.proofs.LiteralTruth.{AreSaying, saying}
 -- ---- Lists of literals, of which the first `n` are given.
 
 behind : {X : Type 0} (n : ℕ) (xs : List X) (x : X) → IsIn (drop n xs) x
-    → (i : ℕ) × (slice_get xs i ≡ Some x) × (n ≤ i) × IsIn xs x
-behind zero [] x there = absurd there
-behind zero (y ∷ xs) x (inl same) = (0, ap Some same, omega arith, inl same)
-behind zero (y ∷ xs) x (inr there) =
-    let r = behind zero xs x there in (suc r.0, r.1, omega arith, inr r.3)
+    → (i : ℕ) × (slice_get xs i ≡ Some x) × (n ≤ i)
+behind zero xs x there = let r = at_in xs x there in (r.0, r.1, omega arith)
 behind (suc n) [] x there = absurd there
 behind (suc n) (y ∷ xs) x there =
-    let r = behind n xs x there in (suc r.0, r.1, omega (arith, r.2), inr r.3)
+    let r = behind n xs x there in (suc r.0, r.1, omega (arith, r.2))
 
 -- all named literals are met if the first ones are and the named ones behind them
 all_met : (choice : List ℕ) (n : ℕ) (ks : List Candidate) → hold_all choice (take n ks) ≡ true
@@ -63,7 +61,7 @@ all_met choice (suc n) (k ∷ ks) first rest =
     ]) (all_met choice n ks parts.1 rest)
 
 -- if the named ones are met without one of them behind the first ones, the first ones are met, and
--- so are the others
+-- the others are the same
 first_met : (choice : List ℕ) (n i : ℕ) (ks : List Candidate) → n ≤ i → AreNamedBefore n ks
     → meets choice (without i ks) ≡ true → hold_all choice (take n ks) ≡ true
 first_met choice zero i ks le named met = refl
@@ -76,20 +74,13 @@ first_met choice (suc n) (suc i) (k ∷ ks) le named met =
     (λ j l at lt. named (suc j) l at (omega (arith, lt)))
     (and_parts (not k.named || holds_at choice k) (meets choice (without i ks)) met).1)
 
-others_met : (choice : List ℕ) (i : ℕ) (ks : List Candidate) (k l : Candidate)
-    → slice_get ks i ≡ Some k → meets choice (without i ks) ≡ true → IsIn ks l → IsTrue l.named
-    → (k ≡ l → ⊥) → holds_at choice l ≡ true
-others_met choice i [] k l at met there named other = absurd there
-others_met choice zero (m ∷ ks) k l at met (inl same) named other =
-    absurd (other (sym (same_Some m k at) ∙ same))
-others_met choice zero (m ∷ ks) k l at met (inr there) named other =
-    let r = behind 0 ks l there in met_at choice ks r.0 l met r.1 named
-others_met choice (suc i) (m ∷ ks) k l at met (inl same) named other =
-    met_at choice (m ∷ without i ks) 0 l met (ap Some same) named
-others_met choice (suc i) (m ∷ ks) k l at met (inr there) named other =
-    others_met choice i ks k l at
-    (and_parts (not m.named || holds_at choice m) (meets choice (without i ks)) met).1 there named
-    other
+others : (i j : ℕ) (ks : List Candidate) → (i ≡ j → ⊥)
+    → slice_get (without i ks) j ≡ slice_get ks j
+others i j [] other = refl
+others zero zero (k ∷ ks) other = absurd (other refl)
+others zero (suc j) (k ∷ ks) other = refl
+others (suc i) zero (k ∷ ks) other = refl
+others (suc i) (suc j) (k ∷ ks) other = others i j ks (λ same. other (ap suc same))
 
 -- ---- The same literals, whichever of them are named.
 
@@ -186,11 +177,15 @@ module _ (s : Space) (routes : List TableRoute) (IsOfKind : List ℕ → Type 0)
                   ∙ first_met met.0 n place.0 ks place.2 reason.first met.2),
               λ o among other.
                   let l = blamed_at o (IsIn-from_Contains blamed o among) in
+                  let at = behind n ks l.0 l.1 in
+                  let apart : place.0 ≡ at.0 → ⊥ = λ same.
+                  let alike = same_Some l.0 k.0
+                  (sym at.1 ∙ ap (slice_get ks) (sym same) ∙ place.1) in
+                  other (sym l.3 ∙ ap (path_of routes) alike ∙ k.3) in
                   subst (λ r. Does r (label_set_of s.labels met.0)) l.3
                   (((asked l.0 l.1).1 met.0 met.1).0
-                  (others_met met.0 place.0 ks k.0 l.0 place.1 met.2
-                  (behind n ks l.0 l.1).3 l.2
-                  (λ alike. other (sym l.3 ∙ ap (path_of routes) (sym alike) ∙ k.3)))),
+                  (met_at met.0 (without place.0 ks) at.0 l.0 met.2
+                  (others place.0 at.0 ks apart ∙ at.1) l.2)),
             ),
           );
     }

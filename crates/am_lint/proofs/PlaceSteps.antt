@@ -1,6 +1,7 @@
 -- How routes stand relative to each other, step by step.
-use Rattle.std.proofs.Common.{◌≡◌, ◌<◌, ℕ, List, [], ◌∷◌, length, true, false, refl, arith}
-use Rattle.std.specs.Prelude.{◌==◌}
+use Rattle.std.proofs.Common.{◌≡◌, ◌<◌, ◌+◌, ℕ, List, [], ◌∷◌, length, true, false, refl, arith}
+use Rattle.std.specs.Prelude.{◌==◌, ◌&&◌}
+use Rattle.am_search.proofs.PrefixOrder.{begins_same}
 use Rattle.std.proofs.lemmas.Bool.Decides.{nat_tests}
 use Rattle.am_lint.specs.Places.{stands_before, is_child_of}
 
@@ -26,14 +27,9 @@ pub ruleset before_nowhere = (no_way, no_other)
 
 -- ---- Children.
 
-pub no_child : (path other : List ℕ) → length other < 1 → is_child_of path other ≡ false
-no_child path [] none = refl
-no_child path (q ∷ other) none = absurd (omega arith)
-
-pub child_of_top : (path : List ℕ) (q : ℕ) (other : List ℕ) → length path ≡ 0
-    → is_child_of path (q ∷ other) ≡ (length other == 0)
-child_of_top [] q [] none = refl
-child_of_top [] q (r ∷ other) none = grind (arith, nat_tests)
-child_of_top (p ∷ path) q other none = absurd (omega arith)
-
-pub ruleset children = (no_child, child_of_top)
+pub same_child : (p : ℕ) (path other : List ℕ)
+    → is_child_of (p ∷ path) (p ∷ other) ≡ is_child_of path other
+same_child p path other =
+    let shorter : (length (p ∷ other) == length (p ∷ path) + 1) ≡ (length other == length path + 1) =
+    grind (arith, nat_tests) in
+    λ i. shorter i && begins_same p other path i

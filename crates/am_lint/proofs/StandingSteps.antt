@@ -21,9 +21,9 @@ use Rattle.am_lint.proofs.NamedReasons.{AreNamedFrom, IsOfPart, part_reason}
 -- what is known of the literals for a route, and of the first of them
 pub record AreKnown (s : Space) (c : Configuration) (routes : List TableRoute) (path : List ℕ)
     (on_way to_enter : ℕ) (all : List Candidate) : Type 0 where
-  pub ending : AreFront s routes all (EndsAt c path)
-  pub entering : AreFront s routes (take to_enter all) (Enters c path)
-  pub matching : AreFront s routes (take on_way all) (MatchesWay c path)
+  pub ending : AreFront s all (EndsAt c path)
+  pub entering : AreFront s (take to_enter all) (Enters c path)
+  pub matching : AreFront s (take on_way all) (MatchesWay c path)
   pub handed : (paths : List (List ℕ)) → AreNamedFrom s routes to_enter all paths
       → IsHandedTo (IsSetOf s) c path paths
   pub taken : (paths : List (List ℕ)) → AreNamedFrom s routes on_way (take to_enter all) paths
@@ -36,17 +36,17 @@ module _ (s : Space) (c : Configuration) (routes : List TableRoute)
     (found : Literals) (are : AreLiterals routes path found) where
   -- ---- What an alert has to meet.
 
-  on_way : AreFront s routes are.on_way (MatchesWay c path)
+  on_way : AreFront s are.on_way (MatchesWay c path)
   on_way =
       more_said s c routes known path Way [] are.on_way are.way (λ set. ⊤) (MatchesWay c path)
-      (nothing_said s routes) (λ set. way_exactly c path set there)
+      (nothing_said s) (λ set. way_exactly c path set there)
 
-  to_enter : AreFront s routes are.to_enter (Enters c path)
+  to_enter : AreFront s are.to_enter (Enters c path)
   to_enter =
       more_said s c routes known path Before are.on_way are.to_enter are.before
       (MatchesWay c path) (Enters c path) on_way (λ set. enters_exactly c path set there)
 
-  to_end : AreFront s routes found.all.items (EndsAt c path)
+  to_end : AreFront s found.all.items (EndsAt c path)
   to_end =
       more_said s c routes known path Children are.to_enter found.all.items are.children
       (Enters c path) (EndsAt c path) to_enter (ends_exactly c path)
@@ -89,5 +89,5 @@ module _ (s : Space) (c : Configuration) (routes : List TableRoute)
         (MatchesWay c path) on_way.say paths (rw (enter_first, are.many_on_way) at named));
     excluded = λ paths named.
         part_reason s c routes known path Way [] are.on_way are.way (λ set. ⊤)
-        (nothing_said s routes).say paths (rw way_first at named);
+        (nothing_said s).say paths (rw way_first at named);
   }

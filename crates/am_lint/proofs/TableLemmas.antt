@@ -1,11 +1,11 @@
 -- How the routes of a table correspond to the routes of the configuration.
-use Rattle.std.proofs.Common.{◌≡◌, ℕ, List, [], ◌∷◌, Some, refl, subst, sym, ap, ◌∙◌, slice_get}
-use Rattle.std.proofs.Common.{inl, inr}
+use Rattle.std.proofs.Common.{◌≡◌, ℕ, List, [], Some, refl, subst, sym, ap, ◌∙◌, slice_get}
 use Rattle.std.specs.List.{AllZip}
 use Rattle.std.proofs.lemmas.Option.{same_Some}
 use Rattle.am_universe.proofs.ListLemmas.{IsIn, IsIn-unmap}
-use Rattle.am_universe.proofs.Members.{in_at}
+use Rattle.am_universe.proofs.Members.{at_in, in_at}
 use Rattle.am_universe.specs.Universe.{Label}
+use Rattle.am_complete.proofs.Pushed.{zip_left as left_at, zip_right as right_at}
 use Rattle.am_config.specs.ConfigFile.{RouteTree, Configuration}
 use Rattle.am_config.specs.Path.{route_at}
 use Rattle.am_config.specs.RoutePaths.{all_routes}
@@ -18,19 +18,15 @@ use Rattle.am_lint.specs.Table.{IsTabled, IsTableOf}
 
 pub zip_left : {X Y : Type 0} (R : X → Y → Type 0) (xs : List X) (ys : List Y) (x : X)
     → AllZip R xs ys → IsIn xs x → (y : Y) × IsIn ys y × R x y
-zip_left R [] ys x h i = absurd i
-zip_left R (z ∷ xs) [] x h i = absurd h
-zip_left R (z ∷ xs) (y ∷ ys) x h (inl same) = (y, inl refl, subst (λ w. R w y) same h.0)
-zip_left R (z ∷ xs) (y ∷ ys) x h (inr later) =
-    let r = zip_left R xs ys x h.1 later in (r.0, inr r.1, r.2)
+zip_left R xs ys x h i =
+    let k = at_in xs x i in
+    let r = left_at R xs ys k.0 x h k.1 in (r.0, in_at ys k.0 r.0 r.1, r.2)
 
 pub zip_right : {X Y : Type 0} (R : X → Y → Type 0) (xs : List X) (ys : List Y) (y : Y)
     → AllZip R xs ys → IsIn ys y → (x : X) × IsIn xs x × R x y
-zip_right R xs [] y h i = absurd i
-zip_right R [] (z ∷ ys) y h i = absurd h
-zip_right R (x ∷ xs) (z ∷ ys) y h (inl same) = (x, inl refl, subst (λ w. R x w) same h.0)
-zip_right R (x ∷ xs) (z ∷ ys) y h (inr later) =
-    let r = zip_right R xs ys y h.1 later in (r.0, inr r.1, r.2)
+zip_right R xs ys y h i =
+    let k = at_in ys y i in
+    let r = right_at R xs ys k.0 y h k.1 in (r.0, in_at xs k.0 r.0 r.1, r.2)
 
 -- ---- The routes of a configuration.
 

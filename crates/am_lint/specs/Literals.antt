@@ -1,5 +1,5 @@
 -- The literals for a route. Each of them is about a route of the table.
-use Rattle.std.specs.Prelude.{◌≡◌, ◌<◌, ℕ, List, [], ◌++◌, map, length, Bool, true, false, not}
+use Rattle.std.specs.Prelude.{◌≡◌, ℕ, List, [], ◌++◌, map, length, Bool, true, false, not}
 use Rattle.std.specs.Prelude.{◌&&◌, Option, Some, None, IsTrue, slice_get}
 use Rattle.std.specs.List.{AllByRecursion, filter}
 use Rattle.am_config.specs.Path.{leads_through}
@@ -60,10 +60,6 @@ pub record AreLiterals (routes : List TableRoute) (path : List ℕ) (found : Lit
   pub many_on_way : found.on_way ≡ length on_way
   pub many_to_enter : found.to_enter ≡ length to_enter
 
--- The tags of literals are positions in the table. `named_paths` has the paths of the routes there,
--- for the literals that are named.
-abbrev pub AreTagged : List TableRoute → List Candidate → Type 0
-AreTagged routes ks = AllByRecursion (λ k. k.tag < length routes) ks
-
+-- The paths of the routes whose literals are named.
 abbrev pub named_paths : List TableRoute → List Candidate → List (List ℕ)
 named_paths routes ks = map (path_of routes) (filter (λ k. k.named) ks)

@@ -1,6 +1,7 @@
 -- How routes stand relative to each other in the tree, by their paths. `leads_through` says whether
 -- a route is on the way to another.
-use Rattle.std.specs.Prelude.{ℕ, List, [], ◌∷◌, Bool, true, false, ◌&&◌, ◌==◌, nat_lt}
+use Rattle.std.specs.Prelude.{ℕ, ◌+◌, List, [], ◌∷◌, length, Bool, false, ◌&&◌, ◌==◌, nat_lt}
+use Rattle.am_config.specs.Path.{leads_through}
 
 -- The route at the second path is an earlier sibling of the route at the first, or of a route on
 -- the way to it.
@@ -17,7 +18,4 @@ stands_before (p ∷ path) (q ∷ r ∷ other) = p == q && stands_before path (r
 -- Source: own choice.
 -- Example: for `/2` this is true of `/2/0`, and false of `/2`, `/2/0/1` and `/1`.
 abbrev pub is_child_of : List ℕ → List ℕ → Bool
-is_child_of path [] = false
-is_child_of [] (q ∷ []) = true
-is_child_of [] (q ∷ r ∷ other) = false
-is_child_of (p ∷ path) (q ∷ other) = p == q && is_child_of path other
+is_child_of path other = length other == length path + 1 && leads_through path other

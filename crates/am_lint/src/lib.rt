@@ -8,9 +8,8 @@
 //! [`laws`] say that.
 #![tactic(auto)]
 
-// How routes stand relative to each other, and what they ask of an alert.
+// The routes, and what they ask of an alert.
 mod literals;
-mod places;
 mod table;
 
 // How a route stands over a space.

@@ -1,9 +1,9 @@
 //! What an alert must meet to enter a route or to end there, as literals that name routes.
 
 ghost use Rattle.std.specs.Prelude.{◌≡◌, IfOk, OnOk};
+ghost use Rattle.am_lint.specs.Places.{stands_before};
 ghost use Rattle.am_lint.specs.Literals.{stands_in, is_wanted, AddsPart, AreLiterals};
 
-use crate::places::{is_child_of, stands_before};
 use crate::table::{Table, TableRoute};
 use am_config::Path;
 use am_first_sets::Candidate;
@@ -36,7 +36,7 @@ impl Part {
         match self {
             Part::Way => path.leads_through(&route.path),
             Part::Before => !route.continues && stands_before(path.steps(), route.path.steps()),
-            Part::Children => is_child_of(path.steps(), route.path.steps()),
+            Part::Children => route.path.len() == path.len() + 1 && route.path.leads_through(path),
         }
     }
 }
@@ -95,4 +95,17 @@ fn add_part<'t>(
         }
     }
     Ok(())
+}
+
+/// Whether the route at `other` is an earlier sibling of the route at `path`, or of one on the way
+/// to it.
+#[tactic(auto, using(crate::proofs::PlaceSteps::before_nowhere))]
+fn stands_before(path: &[u16], other: &[u16]) -> bool
+    ensures { result ≡ stands_before path.now other.now }
+{
+    match (path, other) {
+        ([step, ..], [last]) => last < step,
+        ([step, path @ ..], [first, other @ ..]) => step == first && stands_before(path, other),
+        _ => false,
+    }
 }

@@ -17,7 +17,7 @@ ghost use Rattle.am_first_sets.specs.declared.candidate.Candidate.{Candidate};
 ghost use Rattle.am_first_sets.specs.Literals.{IsUnmet};
 ghost use Rattle.am_first_sets.specs.Reason.{AreSameLiterals, AreNamedBefore, IsReason};
 ghost use Rattle.am_lint.specs.Table.{KnowsRoutes, table_space, table_config, IsRoute};
-ghost use Rattle.am_lint.specs.Literals.{named_paths, AreTagged};
+ghost use Rattle.am_lint.specs.Literals.{named_paths};
 ghost use Rattle.am_eval.specs.Reaching.{IsSetOf};
 ghost use Rattle.am_lint.specs.Standing.{IsStanding};
 
@@ -103,7 +103,6 @@ fn named_by_reason(
 ) -> Result<Vec<Path>, AllocError>
     requires named { AreNamedBefore (length literals.old) literals.old }
     requires none { IsUnmet (IsChoiceOf (table_space table.now)) literals.old }
-    requires tagged { AreTagged table.now.routes.items literals.old }
     requires within { fixed ≤ length literals.old }
     ensures reason { IfOk result (λ routes. (ks : List Candidate)
         × AreSameLiterals literals.old ks
@@ -120,14 +119,13 @@ fn named_routes(
     table: &Table<'_>,
     literals: &[Candidate<'_>],
 ) -> Result<Vec<Path>, AllocError>
-    requires { AreTagged table.now.routes.items literals.now }
     ensures { IfOk result (λ routes.
         routes.items ≡ named_paths table.now.routes.items literals.now) }
 {
     let mut routes = Vec::new(alloc);
     for literal in literals {
         if literal.named {
-            routes.push(table.routes[literal.tag].path)?;
+            routes.push(table.path_at(literal.tag))?;
         }
     }
     Ok(routes)

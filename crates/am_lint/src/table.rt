@@ -1,7 +1,8 @@
 //! The routes of a configuration over a space, each with the cube of its matchers.
 
-ghost use Rattle.std.specs.Prelude.{◌≡◌, IfOk};
+ghost use Rattle.std.specs.Prelude.{◌≡◌, slice_get, IfOk};
 ghost use Rattle.am_config.specs.ConfigView.{config_view};
+ghost use Rattle.am_lint.specs.Literals.{path_if_any};
 ghost use Rattle.am_lint.specs.Table.{KnowsRoutes, table_space, table_config};
 
 use am_config::{Config, Path};
@@ -55,5 +56,16 @@ impl<'a> Table<'a> {
             config,
             routes,
         })
+    }
+
+    /// The path of the route at a position of the table; that of the top-level route if there is no
+    /// such position.
+    pub(crate) fn path_at(&self, position: usize) -> Path
+        ensures path { result ≡ path_if_any (slice_get self.now.routes.items position) }
+    {
+        match self.routes.get(position) {
+            Some(route) => route.path,
+            None => Path::root(),
+        }
     }
 }

@@ -5,7 +5,6 @@ use Rattle.std.specs.List.{AllByRecursion, AllZip}
 use Rattle.std.proofs.lemmas.List.{take_all}
 use Rattle.std.proofs.lemmas.Slice.Zip.{all_zipped_more, AllZip-long}
 use Rattle.am_universe.proofs.DistinctLists.{all_push}
-use Rattle.am_labels.specs.Space.{Space}
 use Rattle.am_config.specs.ConfigFile.{Configuration, RouteTree}
 use Rattle.am_config.specs.Path.{route_at}
 use Rattle.am_config.specs.ConfigView.{config_view}
@@ -20,17 +19,23 @@ use Rattle.am_lint.specs.Standing.{IsStanding}
 use Rattle.am_lint.specs.Table.{IsTabled, IsTableOf, table_space, table_config}
 use Rattle.am_lint.proofs.TableLemmas.{its_route}
 use Rattle.am_lint.proofs.finding.found_routes.Goals as goal
+use Rattle.am_lint.proofs.finding.found_routes.Goals.{After-route-item}
+
+-- the next route of the table
+next : (c : After-route-item) → slice_get c.in_ok-table.table.routes.items c.loop-route.route-index
+    ≡ Some c.route-item.result
+next c =
+    ap (λ (xs : List TableRoute). slice_get xs c.loop-route.route-index)
+    (sym c.deref-route-items.ensures.value)
+    ∙ item_here c.deref-route-items.result.now c.loop-route.route-index c.route-item.result
+    c.loop-route-test.true c.route-item.is
 
 pub standing_of-requires-clause-there : goal.standing_of-requires-clause-there
 standing_of-requires-clause-there c =
     let table = c.in_ok-table.table in
-    let i = c.loop-route.route-index in
-    let route = c.route-item.result in
-    let at : slice_get table.routes.items i ≡ Some route =
-    ap (λ (xs : List TableRoute). slice_get xs i) (sym c.deref-route-items.ensures.value)
-    ∙ item_here c.deref-route-items.result.now i route c.loop-route-test.true c.route-item.is in
     let own = its_route (table_space table).labels (table_config table) table.routes.items
-    c.in_ok-table.ensures.knows i route at in
+    c.in_ok-table.ensures.knows c.loop-route.route-index c.route-item.result
+    (next (goal.at.standing_of-requires-clause-there c).After-route-item) in
     (own.0.1, ap (route_at (table_config table).root) own.2.0 ∙ own.1)
 
 pub loop-route-preserved : goal.loop-route-preserved
@@ -41,14 +46,11 @@ loop-route-preserved c =
     let tabled = c.in_ok-table.table.routes.items in
     let i = c.loop-route.route-index in
     let route = c.route-item.result in
-    let at : slice_get tabled i ≡ Some route =
-    ap (λ (xs : List TableRoute). slice_get xs i) (sym c.deref-route-items.ensures.value)
-    ∙ item_here c.deref-route-items.result.now i route c.loop-route-test.true c.route-item.is in
     let known : IsTableOf s.labels config tabled =
     subst (λ (d : Configuration). IsTableOf s.labels d tabled) c.in_ok-table.ensures.config
-    (subst (λ (o : Space). IsTableOf o.labels (table_config c.in_ok-table.table) tabled)
-    c.in_ok-table.ensures.space c.in_ok-table.ensures.knows) in
-    let own = zip_right (IsTabled s.labels) all tabled i route known at in
+    (rw c.in_ok-table.ensures.space at c.in_ok-table.ensures.knows) in
+    let own = zip_right (IsTabled s.labels) all tabled i route known
+    (next (goal.at.loop-route-preserved c).After-route-item) in
     let found : FoundRoute = record {
       path = route.path;
       receiver = route.receiver;

@@ -1,6 +1,8 @@
 -- One more route is looked at.
 use Rattle.std.proofs.Common.{◌≡◌, ◌<◌, length, Some, refl, sym, ap, ◌∙◌, subst, slice_get, arith}
 use Rattle.std.proofs.Common.{ℕ, List}
+use Rattle.std.specs.List.{AllByRecursion}
+use Rattle.std.proofs.lemmas.List.{take_all}
 use Rattle.std.proofs.lemmas.Option.{slice_get_read}
 use Rattle.am_universe.proofs.ListLemmas.{AllByRecursion-at}
 use Rattle.am_universe.proofs.Members.{in_at}
@@ -10,7 +12,7 @@ use Rattle.am_lint.specs.declared.found.FoundRoute.{FoundRoute}
 use Rattle.am_lint.specs.FoundView.{IsSameButEvery, IsLookedAt}
 use Rattle.am_lint.specs.Table.{IsRoute, table_config}
 use Rattle.am_lint.proofs.TableLemmas.{zip_right}
-use Rattle.am_lint.proofs.LookingSteps.{same_all, one_set, looked_more, looked_all}
+use Rattle.am_lint.proofs.LookingSteps.{same_all, one_set, looked_more}
 use Rattle.am_lint.proofs.finding.look_further.Goals as goal
 
 pub loop-i-init : goal.loop-i-init
@@ -66,7 +68,8 @@ returns c =
     let config = config_view c.args.config.now in
     record {
       same = c.loop-i.invariant.same;
-      looked = looked_all (λ (r : FoundRoute). IsLookedAt s config r.path r.ordinary r.every)
-          c.loop-i.found c.loop-i.i
-          (omega (arith, c.loop-i-test.false, c.loop-i.auto.found)) c.loop-i.invariant.looked;
+      looked = subst
+          (AllByRecursion (λ (r : FoundRoute). IsLookedAt s config r.path r.ordinary r.every))
+          (take_all c.loop-i.i c.loop-i.found
+          (omega (arith, c.loop-i-test.false, c.loop-i.auto.found))) c.loop-i.invariant.looked;
     }

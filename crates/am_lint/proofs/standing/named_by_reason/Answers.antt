@@ -1,7 +1,6 @@
 -- The literals behind the first ones.
-use Rattle.std.proofs.Common.{◌≡◌, ◌-◌, ◌<◌, ℕ, length, take, drop, List, subst, sym, ap, ◌∙◌}
+use Rattle.std.proofs.Common.{◌≡◌, ◌-◌, ℕ, length, take, drop, List, ap, ◌∙◌}
 use Rattle.std.proofs.Common.{arith, length-drop}
-use Rattle.std.specs.List.{AllByRecursion}
 use Rattle.std.proofs.lemmas.List.{take_all}
 use Rattle.am_labels.specs.Space.{IsChoiceOf}
 use Rattle.am_first_sets.specs.PossibleChoices.{IsPossible}
@@ -10,7 +9,6 @@ use Rattle.am_first_sets.proofs.ReasonLemmas.{reason_alike}
 use Rattle.am_first_sets.specs.declared.candidate.Candidate.{Candidate}
 use Rattle.am_lint.specs.Literals.{named_paths}
 use Rattle.am_lint.specs.Table.{table_space}
-use Rattle.am_lint.proofs.LiteralLemmas.{tagged_alike, all_behind}
 use Rattle.am_lint.proofs.standing.named_by_reason.Goals as goal
 
 left : (n : ℕ) (ks : List Candidate) → take (length ks - n) (drop n ks) ≡ drop n ks
@@ -23,16 +21,6 @@ leave_out-requires-clause-first c = λ i k at lt.
 pub leave_out-requires-clause-enough : goal.leave_out-requires-clause-enough
 leave_out-requires-clause-enough c = λ d possible.
     c.requires.none d ((c.choices.ensures d).0 possible)
-
-pub named_routes-requires : goal.named_routes-requires
-named_routes-requires c =
-    let routes = c.args.table.now.routes.items in
-    let ks = c.leave_out.new.candidates in
-    let n = c.args.fixed in
-    let IsTagged = λ (k : Candidate). k.tag < length routes in
-    subst (AllByRecursion IsTagged) (sym (left n ks))
-    (all_behind IsTagged ks n
-    (tagged_alike routes c.args.literals.now ks c.leave_out.ensures.same c.requires.tagged))
 
 pub returns : goal.returns
 returns c =

@@ -1,11 +1,9 @@
 -- The next literal is named, or it is not.
-use Rattle.std.proofs.Common.{◌≡◌, ◌<◌, length, Some, refl, sym, ap, ◌∙◌, ◌++◌, ◌∷◌, [], List, ℕ}
+use Rattle.std.proofs.Common.{◌≡◌, length, Some, refl, sym, ap, ◌∙◌, ◌++◌, ◌∷◌, [], List, ℕ}
 use Rattle.std.proofs.Common.{slice_get, append-nil}
 use Rattle.std.proofs.lemmas.Option.{slice_get_read}
-use Rattle.am_universe.proofs.ListLemmas.{AllByRecursion-at}
-use Rattle.am_universe.proofs.Members.{in_at}
 use Rattle.am_first_sets.specs.declared.candidate.Candidate.{Candidate}
-use Rattle.am_lint.specs.Literals.{path_if_any, path_of}
+use Rattle.am_lint.specs.Literals.{path_of}
 use Rattle.am_lint.proofs.LiteralLemmas.{kept_more}
 use Rattle.am_lint.proofs.standing.named_routes.Goals as goal
 use Rattle.am_lint.proofs.standing.named_routes.Goals.{then-literal+in_ok-push, else-literal}
@@ -18,17 +16,11 @@ loop-literal-preserved c =
     let k = c.literal-item.result in
     let at : slice_get ks i ≡ Some k =
     slice_get_read ks (length ks) i k refl c.loop-literal-test.true c.literal-item.is in
-    let tagged : k.tag < length routes =
-    AllByRecursion-at (λ (l : Candidate). l.tag < length routes) ks k c.requires (in_at ks i k at)
-    in
     let more = kept_more (λ (l : Candidate). l.named) (path_of routes) ks i k at in
     elim c.if-literal.branch [
       | then-literal+in_ok-push w ↦
-          let route = w.index.result.now in
-          let there : slice_get routes k.tag ≡ Some route =
-          slice_get_read routes (length routes) k.tag route refl tagged w.index.ensures in
           ap (λ v. v.items) w.routes-is ∙ w.in_ok-push.ensures.items
-          ∙ ap (λ (r : List ℕ). c.loop-literal.routes.items ++ r ∷ []) (sym (ap path_if_any there))
+          ∙ ap (λ (r : List ℕ). c.loop-literal.routes.items ++ r ∷ []) w.path_at.ensures.path
           ∙ ap (λ (xs : List (List ℕ)). xs ++ path_of routes k ∷ []) c.loop-literal.invariant
           ∙ sym (more ∙ rw w.if-literal.true refl)
       | else-literal w ↦

@@ -18,57 +18,47 @@ known c =
 
 pub returns-in-Some : goal.returns-in-Some
 returns-in-Some c = record {
-  standing = seen _ _ _ _ (known (goal.at.returns-in-Some c).After-as_mut_slice-all).ending _
+  standing = seen _ _ _ (known (goal.at.returns-in-Some c).After-as_mut_slice-all).ending _
       c.in_ok-choice.ensures.first c.in-Some.choice c.in-Some.is;
 }
 
 pub named_by_reason-requires-clause-none : goal.named_by_reason-requires-clause-none
 named_by_reason-requires-clause-none c =
-    none_met _ _ _ _ (known (goal.at.named_by_reason-requires-clause-none c).After-as_mut_slice-all).ending _
+    none_met _ _ _ (known (goal.at.named_by_reason-requires-clause-none c).After-as_mut_slice-all).ending _
     c.in_ok-choice.ensures.first c.in_default.is
 
 pub named_by_reason-requires-clause-named : goal.named_by_reason-requires-clause-named
 named_by_reason-requires-clause-named c =
-    all_named _ _ _ _ _ (known (goal.at.named_by_reason-requires-clause-named c).After-as_mut_slice-all).ending
-
-pub named_by_reason-requires-clause-tagged : goal.named_by_reason-requires-clause-tagged
-named_by_reason-requires-clause-tagged c =
-    (known (goal.at.named_by_reason-requires-clause-tagged c).After-as_mut_slice-all).ending.tagged
+    all_named _ _ _ _ (known (goal.at.named_by_reason-requires-clause-named c).After-as_mut_slice-all).ending
 
 pub returns-in-Some-2 : goal.returns-in-Some-2
 returns-in-Some-2 c =
     let are = known (goal.at.returns-in-Some-2 c).After-as_mut_slice-all in
     record {
       standing = (
-        seen _ _ _ _ are.entering _ c.in_ok-entry.ensures.first c.in-Some-2.entry c.in-Some-2.is,
-        none_seen _ _ _ _ are.ending _ c.in_ok-choice.ensures.first c.in_default.is,
+        seen _ _ _ are.entering _ c.in_ok-entry.ensures.first c.in-Some-2.entry c.in-Some-2.is,
+        none_seen _ _ _ are.ending _ c.in_ok-choice.ensures.first c.in_default.is,
         are.handed _ c.in_ok-children.ensures.reason,
       );
     }
 
 pub named_by_reason-requires-in-Some-3-clause-none : goal.named_by_reason-requires-in-Some-3-clause-none
 named_by_reason-requires-in-Some-3-clause-none c =
-    none_met _ _ _ _ (known (goal.at.named_by_reason-requires-in-Some-3-clause-none c).After-as_mut_slice-all).entering _
+    none_met _ _ _ (known (goal.at.named_by_reason-requires-in-Some-3-clause-none c).After-as_mut_slice-all).entering _
     c.in_ok-entry.ensures.first c.in_default-2.is
 
 pub named_by_reason-requires-in-Some-3-clause-named : goal.named_by_reason-requires-in-Some-3-clause-named
 named_by_reason-requires-in-Some-3-clause-named c =
-    all_named _ _ _ _ _ (known (goal.at.named_by_reason-requires-in-Some-3-clause-named c).After-as_mut_slice-all).entering
-
-pub named_by_reason-requires-in-Some-3-clause-tagged :
-    goal.named_by_reason-requires-in-Some-3-clause-tagged
-named_by_reason-requires-in-Some-3-clause-tagged c =
-    let at = goal.at.named_by_reason-requires-in-Some-3-clause-tagged c in
-    (known at.After-as_mut_slice-all).entering.tagged
+    all_named _ _ _ _ (known (goal.at.named_by_reason-requires-in-Some-3-clause-named c).After-as_mut_slice-all).entering
 
 pub returns-in-Some-3 : goal.returns-in-Some-3
 returns-in-Some-3 c =
     let are = known (goal.at.returns-in-Some-3 c).After-as_mut_slice-all in
-    let way = seen _ _ _ _ are.matching _ c.in_ok-first_meeting.ensures.first c.in-Some-3.field-0
+    let way = seen _ _ _ are.matching _ c.in_ok-first_meeting.ensures.first c.in-Some-3.field-0
     c.in-Some-3.is in
     record {
       standing = (
-        none_seen _ _ _ _ are.entering _ c.in_ok-entry.ensures.first c.in_default-2.is,
+        none_seen _ _ _ are.entering _ c.in_ok-entry.ensures.first c.in_default-2.is,
         are.taken _ c.in_ok-named_by_reason-in-Some-3.ensures.reason
             (label_set_of (table_space c.args.table.now).labels c.in-Some-3.field-0, way.1, way.2),
       );
@@ -76,25 +66,19 @@ returns-in-Some-3 c =
 
 pub named_by_reason-requires-in-None-clause-none : goal.named_by_reason-requires-in-None-clause-none
 named_by_reason-requires-in-None-clause-none c =
-    none_met _ _ _ _ (known (goal.at.named_by_reason-requires-in-None-clause-none c).After-as_mut_slice-all).matching _
+    none_met _ _ _ (known (goal.at.named_by_reason-requires-in-None-clause-none c).After-as_mut_slice-all).matching _
     c.in_ok-first_meeting.ensures.first c.in-None.is
 
 pub named_by_reason-requires-in-None-clause-named : goal.named_by_reason-requires-in-None-clause-named
 named_by_reason-requires-in-None-clause-named c =
-    all_named _ _ _ _ _ (known (goal.at.named_by_reason-requires-in-None-clause-named c).After-as_mut_slice-all).matching
-
-pub named_by_reason-requires-in-None-clause-tagged :
-    goal.named_by_reason-requires-in-None-clause-tagged
-named_by_reason-requires-in-None-clause-tagged c =
-    let at = goal.at.named_by_reason-requires-in-None-clause-tagged c in
-    (known at.After-as_mut_slice-all).matching.tagged
+    all_named _ _ _ _ (known (goal.at.named_by_reason-requires-in-None-clause-named c).After-as_mut_slice-all).matching
 
 pub returns : goal.returns
 returns c =
     let are = known (goal.at.returns c).After-as_mut_slice-all in
     record {
       standing = (
-        none_seen _ _ _ _ are.entering _ c.in_ok-entry.ensures.first c.in_default-2.is,
+        none_seen _ _ _ are.entering _ c.in_ok-entry.ensures.first c.in_default-2.is,
         are.excluded _ c.in_ok-named_by_reason-in-None.ensures.reason,
       );
     }

@@ -1,5 +1,5 @@
 use Rattle.std.proofs.Common.{length}
-use Rattle.am_lint.proofs.places.+stands_before.Given as goal
+use Rattle.am_lint.proofs.literals.+stands_before.Given as goal
 
 abbrev pub decreases-stands_before : goal.decreases-stands_before
 decreases-stands_before l = length l.path.now
