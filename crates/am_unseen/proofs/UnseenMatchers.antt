@@ -19,7 +19,8 @@ use Rattle.am_unseen.specs.declared.limits.TheConstants.{MOST_EDITS}
 use Rattle.am_unseen.specs.Unseen.{seen_values, is_missing, names_unseen_value}
 use Rattle.am_unseen.specs.Unseen.{most_similar, edits_between, is_similar, is_nearest}
 use Rattle.am_unseen.proofs.EachOnce.{once_in, in_once}
-use Rattle.am_unseen.proofs.Found.{found_in, all_each}
+use Rattle.am_complete.proofs.LabelTexts.{found}
+use Rattle.am_complete.proofs.PossibleTexts.{all_pass}
 use Rattle.am_unseen.proofs.Nearest.{all_too_far}
 
 -- ---- The values of a label.
@@ -132,13 +133,13 @@ pub similar_is_nearest : (text : List ℕ) (values : List (List ℕ)) (similar :
     × AllByRecursion (λ v. edits_between text similar ≤ edits_between text v) values
 similar_is_nearest text values similar e =
     let test : List ℕ → Bool = λ v. is_similar text v && is_nearest text values v in
-    let r = found_in test values similar e in
+    let r = found test values similar e in
     let p = and_parts (is_similar text similar) (is_nearest text values similar) r.1 in
     let d = edits_between text in (
       Contains-from_IsIn values similar r.0,
       leb-true (d similar) MOST_EDITS p.0,
       AllByRecursion-each (λ v. d similar ≤ d v) values (λ v i.
-          leb-true (d similar) (d v) (all_each (λ u. nat_le (d similar) (d u)) values v p.1 i)),
+          leb-true (d similar) (d v) (all_pass (λ u. nat_le (d similar) (d u)) values v p.1 i)),
     )
 
 pub none_is_similar : (text : List ℕ) (values : List (List ℕ)) → most_similar text values ≡ None
