@@ -11,11 +11,8 @@ use Rattle.am_universe.proofs.ListLemmas.{Contains-from_IsIn, AllByRecursion-eac
 use Rattle.am_universe.proofs.DistinctLists.{distinct_none, distinct_push}
 use Rattle.am_labels.specs.Matcher.{Condition}
 use Rattle.am_labels.proofs.Passing.{any_in, in_any, passes_from_kept, kept_from_passes}
-use Rattle.am_config.specs.ConfigFile.{Configuration}
-use Rattle.am_eval.specs.World.{World}
-use Rattle.am_eval.specs.Question.{Question}
 use Rattle.am_complete.specs.declared.origin.Origin.{Origin}
-use Rattle.am_complete.specs.Complete.{about, HaveSameMatchers, impossible_conditions}
+use Rattle.am_complete.specs.Complete.{about, HaveSameMatchers}
 use Rattle.am_complete.specs.AskedLabel.{AskedLabel, asked_names, and_asked, label_of, with_asked}
 use Rattle.am_complete.specs.AskedLabel.{asks_same, with_matcher, asked_labels, IsAskedOf}
 use Rattle.am_complete.specs.FoundState.{begins}
@@ -23,11 +20,8 @@ use Rattle.am_complete.proofs.Alike.{about_is, is_about}
 use Rattle.am_complete.proofs.GatheringLemmas.{with_matcher_name}
 use Rattle.am_complete.proofs.Pushed.{in_pushed}
 use Rattle.am_complete.proofs.SameMatchers.{equal_is, same_by}
-use Rattle.am_asked.specs.Asked.{route_conditions, world_conditions, questions_conditions}
-use Rattle.am_asked.specs.Placed.{is_named, placed_in_routes, placed_in_world}
-use Rattle.am_asked.specs.Placed.{placed_in_questions, placed_in_lists}
-use Rattle.am_asked.proofs.PlacedConditions.{conditions_of, Places, both_placed, of_routes}
-use Rattle.am_asked.proofs.PlacedConditions.{of_questions, of_impossible, of_world}
+use Rattle.am_asked.specs.Placed.{is_named}
+use Rattle.am_asked.proofs.PlacedConditions.{conditions_of, Places}
 
 -- a label has exactly those of some matchers that are on it
 record HasThoseOn (ms : List Condition) (l : AskedLabel) : Type 0 where
@@ -210,41 +204,3 @@ asked_of {placed} {ms} places =
           (λ m i some. Contains-from_IsIn (asked_names labels) m.name
           (all.every m (in_other ms cs (sym places.same) m i some)));
     }
-
-pub asked_from_gathered : (placed : List (Origin × Condition)) (ms : List Condition)
-    → filter is_named (conditions_of placed) ≡ filter is_named ms
-    → IsAskedOf (asked_labels placed) ms
-asked_from_gathered placed ms same =
-    asked_of {placed = placed} {ms = ms} (record { same = same })
-
--- ---- The labels of a call.
-
-pub routes_asked : (c : Configuration) (questions : List Question) (lists : List (List Condition))
-    (labels : List AskedLabel)
-    → labels ≡ asked_labels
-    (placed_in_routes c ++ (placed_in_questions questions ++ placed_in_lists lists))
-    → IsAskedOf labels
-    (route_conditions c.root ++ (questions_conditions questions ++ impossible_conditions lists))
-routes_asked c questions lists labels is =
-    rw is (asked_of (both_placed (of_routes [] c.root)
-    (both_placed (of_questions questions) (of_impossible lists))))
-
-pub both_asked : (old new : Configuration) (lists : List (List Condition))
-    (labels : List AskedLabel)
-    → labels ≡ asked_labels
-    (placed_in_routes old ++ (placed_in_routes new ++ placed_in_lists lists))
-    → IsAskedOf labels
-    (route_conditions old.root ++ (route_conditions new.root ++ impossible_conditions lists))
-both_asked old new lists labels is =
-    rw is (asked_of (both_placed (of_routes [] old.root)
-    (both_placed (of_routes [] new.root) (of_impossible lists))))
-
-pub world_asked : (w : World) (questions : List Question) (lists : List (List Condition))
-    (labels : List AskedLabel)
-    → labels ≡ asked_labels
-    (placed_in_world w ++ (placed_in_questions questions ++ placed_in_lists lists))
-    → IsAskedOf labels
-    (world_conditions w ++ (questions_conditions questions ++ impossible_conditions lists))
-world_asked w questions lists labels is =
-    rw is (asked_of (both_placed (of_world w)
-    (both_placed (of_questions questions) (of_impossible lists))))

@@ -120,21 +120,10 @@ of_questions questions =
     of_things placed_in_question question_conditions
     (λ p. at_one_place (origin_is.Question p.0) (question_conditions p.1)) 0 questions
 
-lists_without_origins : (i : ℕ) (lists : List (List Condition))
-    → conditions_of (flat_map placed_in_list (enumerate_from i lists)) ≡ impossible_conditions lists
-lists_without_origins i [] = refl
-lists_without_origins i (ms ∷ lists) =
-    map-append (λ p. p.1) (placed_in_list (i, ms))
-    (flat_map placed_in_list (enumerate_from (i + 1) lists))
-    ∙ (λ j. without_origin (origin_is.Impossible i) ms j ++ lists_without_origins (i + 1) lists j)
-
-pub of_lists : (lists : List (List Condition))
-    → conditions_of (placed_in_lists lists) ≡ impossible_conditions lists
-of_lists lists = lists_without_origins 0 lists
-
 pub of_impossible : (lists : List (List Condition))
     → Places (placed_in_lists lists) (impossible_conditions lists)
-of_impossible lists = record { same = ap (filter is_named) (of_lists lists) }
+of_impossible lists =
+    of_things placed_in_list (λ ms. ms) (λ p. at_one_place (origin_is.Impossible p.0) p.1) 0 lists
 
 pub of_world : (w : World) → Places (placed_in_world w) (world_conditions w)
 of_world w =

@@ -1,2 +1,4 @@
 pub mod Asked
+pub mod Made
+pub mod OriginPointer
 pub mod Placed

@@ -103,6 +103,39 @@ pub fn asked_in_world<'m>(
     Ok(gathering.into_labels())
 }
 
+/// Gathers the labels that some lists of matchers ask about, and then those that impossible lists
+/// ask about. They are in the order in which they are first asked about. Each has all of these
+/// matchers on it, without repeats. As the origin of a matcher, each list counts as an impossible
+/// one. Fails only if memory runs out.
+pub fn asked_by_lists<'m>(
+    alloc: Global,
+    lists: &[&'m Matchers],
+    impossible: &'m [Matchers],
+) -> Result<Vec<AskedLabel<'m>>, AllocError>
+    ensures asked { IfOk result (λ labels. IsAskedOf labels.items
+        (impossible_conditions (map (λ list. list.now) lists.now)
+        ++ impossible_conditions impossible.now)) }
+    ensures labels { IfOk result (λ labels. labels.items
+        ≡ asked_labels (placed_in_lists (map (λ list. list.now) lists.now)
+        ++ placed_in_lists impossible.now)) }
+{
+    let mut gathering = Gathering::empty(alloc);
+    add_lists(&mut gathering, lists)?;
+    visit_lists(&mut gathering, impossible)?;
+    Ok(gathering.into_labels())
+}
+
+/// Adds the matchers of some lists.
+fn add_lists<'m>(gathering: &mut Gathering<'m>, lists: &[&'m Matchers]) -> Result<(), AllocError>
+    ensures { OnOk result (gathering.new ≡ fold with_asked gathering.old
+        (placed_in_lists (map (λ list. list.now) lists.now))) }
+{
+    for (i, list) in lists.iter().enumerate() {
+        visit_matchers(gathering, &Origin::Impossible(i), *list)?;
+    }
+    Ok(())
+}
+
 /// Adds the matchers that `equal` stands for.
 fn add_equal_matchers<'m>(
     gathering: &mut Gathering<'m>,

@@ -1,8 +1,6 @@
-pub mod ListsAsked
 pub mod FoundSets
 pub mod ListsStand
 pub mod SilenceSteps
 pub mod RuleAlerts
 pub mod RuleLiterals
 pub mod RuleTextSteps
-pub mod MadeUniverses

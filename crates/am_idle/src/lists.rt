@@ -4,19 +4,15 @@
 //! matchers and of the impossible lists alone. One universe for all might have no room: the routes
 //! may ask about 64 labels, and a rule for others.
 
-ghost use Rattle.std.specs.Prelude.{◌≡◌, ◌≢◌, [], map, IfOk, IfErr, OnOk, fold};
+ghost use Rattle.std.specs.Prelude.{◌≡◌, ◌≢◌, [], map, IfOk, IfErr};
 ghost use Rattle.am_universe.specs.declared.kind.Kind.TheVariants as kinds;
-ghost use Rattle.am_complete.specs.AskedLabel.{IsAskedOf, with_asked};
-ghost use Rattle.am_every_alert.specs.Deciding.{deciding_conditions};
-ghost use Rattle.am_idle.specs.Lists.{listed_conditions, placed_by_lists, labels_of_lists};
 ghost use Rattle.am_idle.specs.Lists.{StandsForLists, IsRefusalForLists};
 
-use am_asked::{visit_lists, visit_matchers};
+use am_asked::{asked_by_lists, universe_for};
 use am_classes::Alphabet;
-use am_complete::{AskedLabel, Gathering, Origin, universe_beside};
 use am_labels::{Matchers, Space};
 use am_universe::{Kind, Universe};
-use std::alloc::{AllocError, Global};
+use std::alloc::Global;
 
 /// Makes a universe that stands for every alert over an alphabet, for some lists of matchers and
 /// the impossible lists of a space that declares no label.
@@ -36,39 +32,10 @@ pub fn universe_for_lists(
     ensures refused { IfErr result (λ kind. kind ≢ kinds.Memory
         → IsRefusalForLists alphabet space.now (map (λ list. list.now) lists.now) kind) }
 {
-    let asked = asked_by_lists(alloc, lists, space)?;
-    let made = universe_beside(alloc, alphabet, space, asked.as_slice(), None)?;
-    if !made.unproved.is_empty() {
-        return Err(Kind::Unproved);
+    let asked = asked_by_lists(alloc, lists, space.impossible())?;
+    match universe_for(alloc, alphabet, false, space, asked.as_slice(), None) {
+        Ok(Ok(universe)) => Ok(universe),
+        Ok(Err(_)) => Err(Kind::Unproved),
+        Err(fault) => Err(fault.kind),
     }
-    Ok(made.universe)
-}
-
-/// Returns the labels that some lists of matchers ask about, followed by those that the impossible
-/// lists of a space ask about. Fails only if memory runs out.
-fn asked_by_lists<'m>(
-    alloc: Global,
-    lists: &[&'m Matchers],
-    space: &'m Space,
-) -> Result<Vec<AskedLabel<'m>>, AllocError>
-    ensures asked { IfOk result (λ labels. IsAskedOf labels.items
-        (deciding_conditions space.now (listed_conditions (map (λ list. list.now) lists.now)))) }
-    ensures labels { IfOk result (λ labels. labels.items
-        ≡ labels_of_lists space.now (map (λ list. list.now) lists.now)) }
-{
-    let mut gathering = Gathering::empty(alloc);
-    add_lists(&mut gathering, lists)?;
-    visit_lists(&mut gathering, space.impossible())?;
-    Ok(gathering.into_labels())
-}
-
-/// Adds the matchers of some lists.
-fn add_lists<'m>(gathering: &mut Gathering<'m>, lists: &[&'m Matchers]) -> Result<(), AllocError>
-    ensures { OnOk result (gathering.new ≡ fold with_asked gathering.old
-        (placed_by_lists (map (λ list. list.now) lists.now))) }
-{
-    for (i, list) in lists.iter().enumerate() {
-        visit_matchers(gathering, &Origin::Rule(i), *list)?;
-    }
-    Ok(())
 }

@@ -1,5 +1,5 @@
 -- The outcomes of a space that stands for the alerts that count are those of these alerts.
-use Rattle.std.proofs.Common.{◌≡◌, Bool, ℕ, List, [], ◌∷◌, ◌++◌, map, Contains, refl}
+use Rattle.std.proofs.Common.{◌≡◌, Bool, ℕ, List, [], ◌∷◌, map, Contains, refl}
 use Rattle.std.proofs.Common.{sym, subst, ◌∙◌}
 use Rattle.std.specs.Cmp.Lexicographic.{bytes_decides}
 use lib.Pointwise.{pointwise_decides}
@@ -9,12 +9,10 @@ use Rattle.am_universe.proofs.ListLemmas.{IsIn, IsIn-map, IsIn-unmap, IsIn-from_
 use Rattle.am_universe.proofs.ListLemmas.{Contains-from_IsIn, AllByRecursion-each}
 use Rattle.am_labels.specs.Space.{Space, all_choices}
 use Rattle.am_labels.proofs.SpaceLaws.{space_choices}
-use Rattle.am_complete.specs.Complete.{impossible_conditions}
 use Rattle.am_asked.specs.Asked.{route_conditions}
 use Rattle.am_every_alert.specs.EveryAlert.{MeetsTheSame}
-use Rattle.am_every_alert.proofs.UniverseAlerts.{universe_alert}
-use Rattle.am_every_alert.proofs.SpaceAlerts.{space_choice}
-use Rattle.am_every_alert.proofs.SameFate.{front_met, rest_met, same_receivers, same_possible}
+use Rattle.am_every_alert.proofs.SpaceAlerts.{choice_of_alert, alert_of_set}
+use Rattle.am_every_alert.proofs.SameFate.{front_met, rest_met, same_receivers}
 use Rattle.am_lint.specs.Findings.{alphabet_of, Counts}
 use Rattle.am_outcomes.specs.Outcomes.{fate, same_fate, with_fate, outcomes_of}
 use Rattle.am_outcomes.proofs.FirstsLemmas.{Decides, first_is_one, first_of_key, firsts_apart}
@@ -50,8 +48,9 @@ module _ (ascii : Bool) (s : Space) (k : Configurations) (u : List Label)
   choice_counts : (choice : List ℕ) → IsIn (all_choices made) choice
       → Counts ascii s (label_set_of u choice)
   choice_counts choice there =
-      let is = (space_choices made choice).0 (Contains-from_IsIn (all_choices made) choice there) in
-      (universe_alert (alphabet_of ascii) u choice stands.universe stands.over, is.1)
+      alert_of_set (alphabet_of ascii) made (conditions_of_routes k) stands.stands
+      (label_set_of u choice)
+      (choice, (space_choices made choice).0 (Contains-from_IsIn (all_choices made) choice there), refl)
 
   is_outcome : (outcome : List (List ℕ) × List ℕ) → IsIn (outcomes_of made (each_of k)) outcome
       → IsOutcome ascii s u (each_of k) outcome
@@ -64,16 +63,11 @@ module _ (ascii : Bool) (s : Space) (k : Configurations) (u : List Label)
       → (choice : List ℕ) × IsIn (all_choices made) choice
       × (fate (each_of k) (label_set_of u choice) ≡ fate (each_of k) alert)
   choice_of alert counts =
-      let routes = conditions_of_routes k in
-      let lists = impossible_conditions s.impossible in
-      let r = space_choice (alphabet_of ascii) made (routes ++ lists) alert stands.universe
-      stands.complete counts in
-      let set = label_set_of u r.0 in
-      let possible = same_possible set alert s.impossible (rest_met set alert routes lists r.2) in
-      let there = (space_choices made r.0).1 (r.1, possible ∙ counts.1) in (
+      let r = choice_of_alert (alphabet_of ascii) made (conditions_of_routes k) alert
+      stands.stands.universe stands.stands.complete counts in (
         r.0,
-        IsIn-from_Contains (all_choices made) r.0 there,
-        fate_met k set alert (front_met set alert routes lists r.2),
+        IsIn-from_Contains (all_choices made) r.0 ((space_choices made r.0).1 r.1),
+        fate_met k (label_set_of u r.0) alert r.2,
       )
 
   has_fate : (alert : LabelMap) → Counts ascii s alert

@@ -37,8 +37,7 @@ stands : (a : Alphabet) (s o : Space) (c : Configuration) (u : List Label)
 stands a s o c u h is =
     let same : space_of s.impossible u ≡ o =
     λ i. record { labels = sym is.0 i; impossible = sym is.1 i } in
-    subst (λ (t : Space). StandsForAlerts a t c) same
-    (record { universe = h.universe; complete = h.complete; over = h.over })
+    subst (λ (t : Space). StandsForAlerts a t c) same h.stands
 
 module _ (s o : Space) (c : Configuration) (u : List Label)
     (over : StandsForAll Ascii s.impossible (One c) u) (is : IsSpaceWith s u o) where

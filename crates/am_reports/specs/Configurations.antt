@@ -13,7 +13,7 @@ use Rattle.am_complete.specs.AskedLabel.{AskedLabel, asked_labels}
 use Rattle.am_complete.specs.Complete.{impossible_conditions}
 use Rattle.am_asked.specs.Asked.{route_conditions}
 use Rattle.am_asked.specs.Placed.{placed_in_routes, placed_in_lists}
-use Rattle.am_universe_command.specs.Universes.{origin_place}
+use Rattle.am_asked.specs.OriginPointer.{origin_place}
 
 -- One configuration, or an old one and a new one that is compared with it.
 pub data Configurations : Type 0 where

@@ -10,7 +10,7 @@ use Rattle.am_config.specs.ConfigFile.{Rule}
 use Rattle.am_eval.specs.World.{World}
 use Rattle.am_classes.specs.declared.alphabet.Alphabet.{Alphabet}
 use Rattle.am_complete.specs.declared.origin.Origin.TheVariants as origin_is
-use Rattle.am_universe_command.specs.CheckText.{origin_pointer}
+use Rattle.am_asked.specs.OriginPointer.{origin_pointer}
 use Rattle.am_idle.specs.Rules.{IsRuleFinding}
 use Rattle.am_idle.specs.RuleText.{rule_line}
 use Rattle.am_idle.specs.RuleFindings.{IsFirstRefusedRule, count_idle_rules}

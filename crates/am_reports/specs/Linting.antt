@@ -5,12 +5,13 @@ use Rattle.am_labels.specs.Space.{Space}
 use Rattle.am_json.specs.Pointer.{Refusal}
 use Rattle.am_eval.specs.World.{World}
 use Rattle.am_files.specs.Promise.{Promise}
+use Rattle.am_asked.specs.Made.{undeclared}
 use Rattle.am_lint.specs.Findings.{alphabet_of}
 use Rattle.am_lint.specs.Report.{SaysOfRoutes}
 use Rattle.am_reports.specs.Configurations.{One}
 use Rattle.am_reports.specs.LintInputs.{LintInputs, AcceptsLintInputs, lint_input_stages}
 use Rattle.am_universe_command.specs.Universes.{later_stages}
-use Rattle.am_reports.specs.Made.{undeclared, AreDeclaredWhole, IsDeclaredRefusal, IsRoutesRefusal}
+use Rattle.am_reports.specs.Made.{AreDeclaredWhole, IsDeclaredRefusal, IsRoutesRefusal}
 use Rattle.am_reports.specs.Sections.{Section, report_text, all_findings}
 use Rattle.am_reports.specs.LintSections.{SaysOfRules, SaysOfSilences, values_section}
 use Rattle.am_reports.specs.LintSections.{IsRulesRefusal, IsSilencesRefusal}

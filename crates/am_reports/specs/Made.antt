@@ -6,7 +6,7 @@ use Rattle.std.specs.List.{AllByRecursion}
 use Rattle.am_universe.specs.declared.kind.Kind.TheVariants as kinds
 use Rattle.am_universe.specs.declared.place.Place.{Place}
 use Rattle.am_universe.specs.declared.place.Place.TheVariants as places
-use Rattle.am_universe.specs.Universe.{Label, IsUniverse}
+use Rattle.am_universe.specs.Universe.{Label}
 use Rattle.am_labels.specs.Matcher.{Condition}
 use Rattle.am_labels.specs.Space.{Space}
 use Rattle.am_json.specs.Pointer.{Refusal}
@@ -17,19 +17,16 @@ use Rattle.am_complete.specs.declared.origin.Origin.{Origin}
 use Rattle.am_complete.specs.declared.label_state.Completeness.{Completeness}
 use Rattle.am_complete.specs.declared.label_state.Completeness.TheVariants as state_is
 use Rattle.am_complete.specs.AskedLabel.{AskedLabel}
-use Rattle.am_complete.specs.Complete.{about, IsSpaceComplete, IsSpaceCompleteAt}
-use Rattle.am_complete.specs.Covering.{HasTextsOver, AddsNeeded}
+use Rattle.am_complete.specs.Complete.{about, IsSpaceCompleteAt}
+use Rattle.am_complete.specs.Covering.{AddsNeeded}
 use Rattle.am_classes.specs.Alike.{HasPattern}
-use Rattle.am_every_alert.specs.Deciding.{space_of}
-use Rattle.am_universe_command.specs.CheckText.{origin_pointer}
-use Rattle.am_universe_command.specs.Universes.{NoRoomFor, UnprovedFor}
+use Rattle.am_every_alert.specs.Deciding.{StandsFor, space_of}
+use Rattle.am_asked.specs.OriginPointer.{origin_pointer}
+use Rattle.am_asked.specs.Made.{NoRoomFor, UnprovedFor}
 use Rattle.am_lint.specs.Findings.{alphabet_of}
 use Rattle.am_reports.specs.Configurations.{Configurations, One}
-use Rattle.am_reports.specs.Configurations.{routing_conditions, labels_of_routes, first_place}
-
--- A space in which the same is impossible as in the given one, and no label is declared.
-abbrev pub undeclared : Space → Space
-undeclared s = space_of s.impossible []
+use Rattle.am_reports.specs.Configurations.{conditions_of_routes, routing_conditions}
+use Rattle.am_reports.specs.Configurations.{labels_of_routes, first_place}
 
 -- A universe stands for every alert over an alphabet that no impossible list matches: it is
 -- complete for the matchers of the routes and of these lists, its texts are over the alphabet, and
@@ -39,9 +36,7 @@ undeclared s = space_of s.impossible []
 -- so over each alphabet. It does not if `team` may also be `web`.
 pub record StandsForAll (a : Alphabet) (lists : List (List Condition)) (k : Configurations)
     (u : List Label) : Type 0 where
-  pub universe : IsUniverse u
-  pub complete : IsSpaceComplete a (space_of lists u) (routing_conditions (space_of lists u) k)
-  pub over : HasTextsOver a u
+  pub stands : StandsFor a (space_of lists u) (conditions_of_routes k)
   pub adds : AddsNeeded a (space_of lists []) (routing_conditions (space_of lists u) k) u
 
 -- No universe is made, since there is no room for the labels that are asked about, or since some of

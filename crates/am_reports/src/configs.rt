@@ -11,12 +11,11 @@ ghost use Rattle.am_reports.specs.Configurations.{routing_conditions, labels_of_
 ghost use Rattle.am_reports.specs.ConfigsView.{configurations_of};
 ghost use Rattle.am_reports.specs.Made.{IsUnprovedAt};
 
-use am_asked::{asked_by_both, asked_by_routes};
+use am_asked::{asked_by_both, asked_by_routes, unproved_fault};
 use am_complete::{AskedLabel, Origin};
 use am_config::Config;
 use am_labels::Space;
 use am_universe::{Fault, Place};
-use am_universe_command::unproved_fault;
 use std::alloc::{AllocError, Global};
 
 /// One configuration, or an old one and a new one that is compared with it.

@@ -7,13 +7,14 @@ ghost use Rattle.std.specs.Prelude.{◌≡◌, ◌≢◌, [], length, string_byt
 ghost use Rattle.std.specs.List.{AllZip};
 ghost use Rattle.am_universe.specs.declared.kind.Kind.TheVariants as kinds;
 ghost use Rattle.am_json.specs.Reading.{refusal_of};
-ghost use Rattle.am_universe_command.specs.CheckText.{origin_pointer};
+ghost use Rattle.am_asked.specs.OriginPointer.{origin_pointer};
 ghost use Rattle.am_idle.specs.RuleText.{rule_line, HasPositionsIfAny};
 ghost use Rattle.am_idle.specs.SilenceText.{silence_line};
 ghost use Rattle.am_reports.specs.LintSections.{SaysOfRules, SaysOfSilences, values_section};
 ghost use Rattle.am_reports.specs.LintSections.{IsRulesRefusal, IsSilencesRefusal, each_line};
 
 use crate::section::Section;
+use am_asked::pointer_to;
 use am_classes::Alphabet;
 use am_complete::Origin;
 use am_config::Rule;
@@ -25,7 +26,6 @@ use am_idle::{
 use am_labels::Space;
 use am_list_files::Silences;
 use am_universe::{Fault, Kind, Place};
-use am_universe_command::pointer_to;
 use am_unseen::{push_unseen, unseen_values};
 use std::alloc::{AllocError, Global};
 

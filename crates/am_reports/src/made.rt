@@ -12,11 +12,11 @@ ghost use Rattle.am_reports.specs.Made.{StandsForAll, AreDeclaredWhole, IsMadeRe
 ghost use Rattle.am_reports.specs.Made.{IsDeclaredRefusal, IsStateRefusal};
 
 use crate::configs::{Configs, labels_asked, unproved_label};
+use am_asked::universe_for;
 use am_classes::Alphabet;
 use am_complete::{Completeness, LabelState, label_states};
 use am_labels::Space;
 use am_universe::{Fault, Kind, Place, Universe};
-use am_universe_command::universe_for;
 use std::alloc::Global;
 
 /// The alphabet of the alerts that count.

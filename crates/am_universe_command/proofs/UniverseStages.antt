@@ -12,10 +12,11 @@ use Rattle.am_eval.specs.World.{World}
 use Rattle.am_files.proofs.FirstFaults.{first_behind_timeless}
 use Rattle.am_complete.specs.declared.origin.Origin.{Origin}
 use Rattle.am_complete.specs.declared.origin.Origin.TheVariants as origin_is
+use Rattle.am_asked.specs.OriginPointer.{origin_place}
 use Rattle.am_universe_command.specs.declared.universe_form.UniverseForm.{UniverseForm}
 use Rattle.am_universe_command.specs.UniverseInputs.{UniverseInputs, AcceptsUniverseInputs}
 use Rattle.am_universe_command.specs.UniverseInputs.{questions_stage}
-use Rattle.am_universe_command.specs.Universes.{origin_place, matcher_places, later_stages}
+use Rattle.am_universe_command.specs.Universes.{matcher_places, later_stages}
 use Rattle.am_universe_command.specs.Universes.{IsMakingRefusal, RefusesMaking, universe_promise}
 
 -- the first matcher on a label stands in an input

@@ -7,24 +7,8 @@ use Rattle.am_universe.specs.Universe.{is_label_name}
 use Rattle.am_complete.specs.declared.label_state.Completeness.{Completeness}
 use Rattle.am_complete.specs.declared.label_state.Completeness.TheVariants as state_is
 use Rattle.am_complete.specs.declared.label_state.LabelState.{LabelState}
-use Rattle.am_complete.specs.declared.origin.Origin.{Origin}
-use Rattle.am_complete.specs.declared.origin.Origin.TheVariants as origin_is
 use Rattle.am_complete.specs.LabelState.{is_settled}
-
--- The pointer to what a matcher stands in: a route, a rule, a silence, or an impossible list, in
--- its file; or a question, among those of the call.
--- Source: RFC 6901, over the forms of the files.
--- Example: for the second child of the first child of the top-level route it is
--- `/route/routes/0/routes/1`, and for the third rule it is `/inhibit_rules/2`.
-abbrev pub child_pointer : ℕ → List ℕ
-child_pointer position = codes "/routes/" ++ decimal position
-
-abbrev pub origin_pointer : Origin → List ℕ
-origin_pointer (origin_is.Route path) = codes "/route" ++ flat_map child_pointer path
-origin_pointer (origin_is.Rule position) = codes "/inhibit_rules/" ++ decimal position
-origin_pointer (origin_is.Silence position) = codes "/" ++ decimal position
-origin_pointer (origin_is.Question position) = codes "/" ++ decimal position
-origin_pointer (origin_is.Impossible position) = codes "/impossible/" ++ decimal position
+use Rattle.am_asked.specs.OriginPointer.{origin_pointer}
 
 -- The name of a label: as it is if it is a label name, and else in quotes. And a text that the
 -- label lacks: in quotes, or `absent` for the empty text.

@@ -1,13 +1,13 @@
 -- What `universe` makes, and what it says about a universe. (This project's own.)
 use Rattle.std.specs.Prelude.{◌≡◌, ◌⊎◌, ◌<◌, ℕ, List, [], ◌∷◌, ◌++◌, length, map, Bool, false, ⊤}
 use Rattle.std.specs.Prelude.{IsTrue, string_bytes, if◌then◌else◌, Option, Some, None, is_some}
-use Rattle.std.specs.Prelude.{slice_get, ◌↔◌}
+use Rattle.std.specs.Prelude.{◌↔◌}
 use Rattle.std.specs.List.{AllByRecursion, list_all}
 use Rattle.am_universe.specs.declared.kind.Kind.TheVariants as kinds
 use Rattle.am_universe.specs.declared.place.Place.{Place}
 use Rattle.am_universe.specs.declared.place.Place.TheVariants as places
 use Rattle.am_universe.specs.LabelSet.{LabelMap}
-use Rattle.am_universe.specs.Universe.{Label, IsUniverse, sizes}
+use Rattle.am_universe.specs.Universe.{Label, sizes}
 use Rattle.am_labels.specs.Matcher.{Condition}
 use Rattle.am_labels.specs.Space.{Space, all_choices}
 use Rattle.am_json.specs.declared.limits.TheConstants.{MAX_FILE_BYTES}
@@ -20,18 +20,16 @@ use Rattle.am_files.specs.Faults.{Stage}
 use Rattle.am_files.specs.Promise.{Promise}
 use Rattle.am_classes.specs.declared.alphabet.Alphabet.{Alphabet}
 use Rattle.am_complete.specs.declared.label_state.LabelState.{LabelState}
-use Rattle.am_complete.specs.declared.origin.Origin.{Origin}
-use Rattle.am_complete.specs.declared.origin.Origin.TheVariants as origin_is
 use Rattle.am_complete.specs.Complete.{IsSpaceComplete, impossible_conditions}
 use Rattle.am_complete.specs.AskedLabel.{AskedLabel, asked_labels}
 use Rattle.am_asked.specs.Asked.{route_conditions, world_conditions, questions_conditions}
 use Rattle.am_asked.specs.Placed.{placed_in_routes, placed_in_world, placed_in_questions}
 use Rattle.am_asked.specs.Placed.{placed_in_lists}
-use Rattle.am_complete.specs.Covering.{CoversEachBut, KeepsLabels, AddsNeeded, HasTextsOver}
-use Rattle.am_complete.specs.Room.{HaveNoRoom, AreUnproved}
+use Rattle.am_asked.specs.OriginPointer.{origin_place}
+use Rattle.am_asked.specs.Made.{IsMadeBeside, NoRoomFor, UnprovedFor}
 use Rattle.am_complete.specs.LabelState.{IsSoIfNamed, is_settled, reported_names}
 use Rattle.am_complete.specs.FoundState.{is_unseen}
-use Rattle.am_universe_command.specs.CheckText.{check_text, origin_pointer}
+use Rattle.am_universe_command.specs.CheckText.{check_text}
 use Rattle.am_universe_command.specs.UniverseText.{universe_text}
 use Rattle.am_universe_command.specs.declared.universe_form.UniverseForm.{UniverseForm}
 use Rattle.am_universe_command.specs.UniverseInputs.{UniverseInputs, AcceptsUniverseInputs}
@@ -62,22 +60,8 @@ deciding_labels routes w questions impossible =
 
 -- ---- A universe that is made.
 
--- A universe is made for matchers, from the labels of a space. With the impossible lists of the
--- space it is complete for the matchers, unless it may lack values. It keeps the labels and values
--- of the space, and adds only what is needed. If the texts of the space are over the alphabet, so
--- are its own.
--- Source: own choice.
--- Example: from a space without labels, for `team="db"`, it has `team` with absence and `db`.
-pub record IsMadeBeside (a : Alphabet) (may_lack : Bool) (s : Space) (ms : List Condition)
-    (u : List Label) : Type 0 where
-  pub universe : IsUniverse u
-  pub complete : may_lack ≡ false
-      → IsSpaceComplete a (record { labels = u; impossible = s.impossible }) ms
-  pub keeps : KeepsLabels s.labels u
-  pub adds : AddsNeeded a s ms u
-  pub over : HasTextsOver a s.labels → HasTextsOver a u
-
--- The same, of the form that is wanted, for the matchers that decide.
+-- A universe is made from the labels of a space, for the matchers that decide, of the form that is
+-- wanted.
 abbrev pub IsMadeFor : UniverseForm → Space → World → List Question → List Label → Type 0
 IsMadeFor form s w questions u =
     IsMadeBeside form.alphabet form.open s
@@ -111,56 +95,6 @@ pub record MakesUniverse (inputs : UniverseInputs) (form : UniverseForm) (text :
   pub made : IsMadeUniverse form space lists world questions text
 
 -- ---- Why no universe is made.
-
--- The file in which a matcher stands, or `Question` if it stands in a question.
-abbrev pub origin_place : Origin → Place
-origin_place (origin_is.Route path) = places.Config
-origin_place (origin_is.Rule position) = places.Config
-origin_place (origin_is.Silence position) = places.Silences
-origin_place (origin_is.Question position) = places.Question
-origin_place (origin_is.Impossible position) = places.Universe
-
--- There is no room for the labels that are asked about: one of them needs more values than a label
--- may have, or, together with those of the space, more labels have to be declared than a universe
--- may have.
--- Source: own choice.
--- Example: this is so if 65 routes ask about 65 labels, each with one matcher `=`.
-abbrev pub NoRoomFor : Alphabet → Space → List AskedLabel → Place → Refusal → Type 0
-NoRoomFor a s asked place r =
-    (place ≡ places.Universe) × HaveNoRoom a s asked × (r ≡ refusal_here kinds.Limit)
-
--- Some universe keeps the labels of a space and covers each label that is asked about, except those
--- at some positions.
--- Source: own choice.
--- Example: if 65 labels are asked about, and one of them is at such a position, there may be one.
-abbrev pub HaveRoomBut : Alphabet → Space → List AskedLabel → List ℕ → Type 0
-HaveRoomBut a s asked unproved =
-    (u : List Label) × IsUniverse u × KeepsLabels s.labels u
-    × CoversEachBut a s.impossible u asked unproved
-
--- A label is the first of those that are unproved, and there is room for the others.
--- Source: own choice.
--- Example: over Unicode, if a route has `team=~"\bdb"` and no label before `team` has a pattern,
--- `team` may be the first.
-pub record IsFirstUnproved (a : Alphabet) (s : Space) (asked : List AskedLabel)
-    (label : AskedLabel) : Type 0 where
-  pub unproved : List ℕ
-  pub labels : AreUnproved a s asked unproved
-  pub room : HaveRoomBut a s asked unproved
-  pub position : ℕ
-  pub first : slice_get unproved 0 ≡ Some position
-  pub there : slice_get asked position ≡ Some label
-
--- Some labels are unproved, though there is room for the others. The refusal is at the place of the
--- first matcher on the first of these labels, and points to what that matcher stands in.
--- Source: own choice.
--- Example: over Unicode, if the first child of the top-level route has `team=~"\bdb"`, and no
--- matcher before it is on `team`, the pointer is `/route/routes/0`.
-abbrev pub UnprovedFor : Alphabet → Space → List AskedLabel → (AskedLabel → Place) → Place
-    → Refusal → Type 0
-UnprovedFor a s asked place_of place r =
-    (label : AskedLabel) × IsFirstUnproved a s asked label × (place ≡ place_of label)
-    × (r ≡ record { kind = kinds.Unproved; pointer = origin_pointer label.first })
 
 -- The file of the universe would have more bytes than a file may have. This is checked last.
 -- Source: own choice.

@@ -10,7 +10,7 @@ ghost use Rattle.am_universe_command.specs.CheckText.{name_text, lacking_text, u
 ghost use Rattle.am_universe_command.specs.CheckText.{label_sets, count_text, label_sets_text};
 ghost use Rattle.am_universe_command.specs.CheckText.{all_impossible_text, verdict_text};
 
-use crate::pointer_to;
+use am_asked::pointer_to;
 use am_complete::{Completeness, LabelState, is_label_name};
 use am_report_texts::push_quoted;
 use am_universe::Universe;

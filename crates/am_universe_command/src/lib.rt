@@ -14,19 +14,16 @@ pub use read_inputs::read_universe_if_any;
 pub use universe_form::UniverseForm;
 pub use universe_inputs::UniverseInputs;
 
-// The text of a universe file, the pointer to a matcher, and the text of a check.
+// The text of a universe file, and the text of a check.
 mod check_text;
-mod origin_pointer;
 mod universe_file;
-
-pub use origin_pointer::pointer_to;
 
 // The calls.
 mod checking;
 mod making;
 
 pub use checking::check_universe;
-pub use making::{universe, universe_for, unproved_fault};
+pub use making::universe;
 
 // Facts about the definitions alone.
 pub mod laws;

@@ -1,4 +1,4 @@
-use Rattle.std.proofs.Common.{◌≡◌, [], ◌++◌, ap, ◌∙◌, refl, fold, map}
+use Rattle.std.proofs.Common.{◌≡◌, [], ◌++◌, ap, ◌∙◌, fold, map}
 use Rattle.std.proofs.lemmas.List.Sums.{fold-append}
 use Rattle.am_config.specs.ConfigFile.{Configuration}
 use Rattle.am_eval.specs.QuestionView.{question_view}
@@ -6,7 +6,8 @@ use Rattle.am_complete.specs.AskedLabel.{with_asked}
 use Rattle.am_asked.specs.Placed.{placed_in_routes, placed_in_rules, placed_in_equal}
 use Rattle.am_asked.specs.Placed.{placed_in_silences, placed_in_lists, placed_in_world}
 use Rattle.am_asked.specs.Placed.{placed_in_questions}
-use Rattle.am_asked.proofs.AskedLemmas.{world_asked}
+use Rattle.am_asked.proofs.AskedLemmas.{asked_of}
+use Rattle.am_asked.proofs.PlacedConditions.{both_placed, of_world, of_questions, of_impossible}
 use Rattle.am_asked.proofs.asked.asked_in_world.Goals as goal
 
 pub returns-clause-asked : goal.returns-clause-asked
@@ -21,7 +22,7 @@ returns-clause-asked c =
     let silences = placed_in_silences w.silences in
     let sides : c.rules.result.now ≡ w.config.rules =
     c.rules.ensures.rules ∙ ap (λ (k : Configuration). k.rules) c.config-2.ensures.config in
-    world_asked w questions lists c.into_labels.result.items (rw (
+    rw (
       c.into_labels.ensures,
       c.in_ok-visit_lists.ensures.visit,
       c.in_ok-add_questions.ensures,
@@ -34,9 +35,10 @@ returns-clause-asked c =
       sides,
       c.silences.ensures.silences,
       c.requires,
-      fold-append with_asked [] (placed_in_world w) (asked ++ placed_in_lists lists),
-      fold-append with_asked (fold with_asked [] (placed_in_world w)) asked (placed_in_lists lists),
-      fold-append with_asked [] routes (rules ++ (equal ++ silences)),
-      fold-append with_asked (fold with_asked [] routes) rules (equal ++ silences),
-      fold-append with_asked (fold with_asked (fold with_asked [] routes) rules) equal silences,
-    ) refl)
+      ← fold-append with_asked (fold with_asked (fold with_asked [] routes) rules) equal silences,
+      ← fold-append with_asked (fold with_asked [] routes) rules (equal ++ silences),
+      ← fold-append with_asked [] routes (rules ++ (equal ++ silences)),
+      ← fold-append with_asked (fold with_asked [] (placed_in_world w)) asked (placed_in_lists lists),
+      ← fold-append with_asked [] (placed_in_world w) (asked ++ placed_in_lists lists),
+    ) (asked_of (both_placed (of_world w)
+    (both_placed (of_questions questions) (of_impossible lists))))

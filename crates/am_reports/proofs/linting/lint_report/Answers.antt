@@ -10,7 +10,8 @@ use Rattle.am_lint.specs.Findings.{alphabet_of}
 use Rattle.am_reports.specs.Configurations.{One}
 use Rattle.am_reports.specs.Linting.{IsLintRefusal}
 use Rattle.am_reports.specs.Sections.{Section, report_text, all_findings}
-use Rattle.am_reports.specs.Made.{undeclared, IsRoutesRefusal, AreDeclaredWhole}
+use Rattle.am_asked.specs.Made.{undeclared}
+use Rattle.am_reports.specs.Made.{IsRoutesRefusal, AreDeclaredWhole}
 use Rattle.am_reports.proofs.linting.lint_report.Goals as goal
 use Rattle.am_reports.proofs.linting.lint_report.Goals.{After-alphabet_of-alphabet, After-declare, In_ok-routes}
 use Rattle.am_reports.proofs.linting.lint_report.Goals.{In_ok-rules, In_ok-check_declared}

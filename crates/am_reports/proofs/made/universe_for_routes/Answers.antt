@@ -1,5 +1,5 @@
 -- What is made for the labels that the routes ask about, and the faults.
-use Rattle.std.proofs.Common.{◌≡◌, ◌≢◌, [], inl, inr, refl, ◌∙◌, subst}
+use Rattle.std.proofs.Common.{◌≡◌, ◌≢◌, inl, inr, refl, ◌∙◌, subst}
 use Rattle.am_universe.specs.declared.kind.Kind.TheVariants as kinds
 use Rattle.am_labels.specs.Space.{Space}
 use Rattle.am_json.specs.Reading.{refusal_of}
@@ -8,17 +8,14 @@ use Rattle.am_complete.specs.AskedLabel.{IsAskedOf}
 use Rattle.am_complete.specs.Covering.{AddsNeeded}
 use Rattle.am_complete.specs.Complete.{impossible_conditions}
 use Rattle.am_complete.proofs.AmongMatchers.{last_among}
-use Rattle.am_universe_command.specs.Universes.{NoRoomFor, IsFirstUnproved}
+use Rattle.am_asked.specs.Made.{NoRoomFor, IsFirstUnproved}
+use Rattle.am_asked.proofs.Undeclared.{undeclared_is}
 use Rattle.am_reports.specs.Configurations.{conditions_of_routes, routing_conditions}
 use Rattle.am_reports.specs.Configurations.{labels_of_routes}
 use Rattle.am_reports.specs.ConfigsView.{configurations_of}
-use Rattle.am_reports.specs.Made.{undeclared, IsMadeRefusal}
+use Rattle.am_reports.specs.Made.{IsMadeRefusal}
 use Rattle.am_reports.proofs.made.universe_for_routes.Goals as goal
 use Rattle.am_reports.proofs.made.universe_for_routes.Goals.{After-as_slice}
-
--- a space that declares no label is the same without labels
-undeclared_is : (s : Space) → s.labels ≡ [] → s ≡ undeclared s
-undeclared_is s none = λ i. record { labels = none i; impossible = s.impossible }
 
 is_asked : (c : After-as_slice) → IsAskedOf c.as_slice.result.now
     (routing_conditions c.args.space.now (configurations_of c.args.configs))
@@ -79,9 +76,11 @@ returns-in-Ok-found-clause-stands c =
     let made = (rw c.in-Ok-found.is at c.in_ok-found.ensures.made) ms
     (is_asked (goal.at.returns-in-Ok-found-clause-stands c).After-as_slice) in
     record {
-      universe = made.universe;
-      complete = made.complete refl;
-      over = made.over (rw c.requires tt);
+      stands = record {
+        universe = made.universe;
+        complete = made.complete refl;
+        over = made.over (rw c.requires tt);
+      };
       adds = subst (λ (t : Space). AddsNeeded c.args.alphabet t ms c.in-Ok-found.universe)
           (undeclared_is s c.requires) made.adds;
     }

@@ -1,7 +1,7 @@
 use Rattle.std.proofs.Common.{◌≡◌, ◌++◌, codes, string_bytes, take}
 use Rattle.std.specs.List.{flat_map}
-use Rattle.am_universe_command.specs.CheckText.{child_pointer}
-use Rattle.am_universe_command.proofs.origin_pointer.route_pointer.Given as goal
+use Rattle.am_asked.specs.OriginPointer.{child_pointer}
+use Rattle.am_asked.proofs.origin_pointer.route_pointer.Given as goal
 
 abbrev pub invariant-loop-position : goal.invariant-loop-position
 invariant-loop-position l =

@@ -2,7 +2,7 @@
 
 ghost use Rattle.std.specs.Prelude.{◌≡◌, ◌++◌, string_bytes, decimal, codes, IfOk, OnOk};
 ghost use Rattle.std.specs.List.{flat_map};
-ghost use Rattle.am_universe_command.specs.CheckText.{origin_pointer, child_pointer};
+ghost use Rattle.am_asked.specs.OriginPointer.{origin_pointer, child_pointer};
 
 use am_complete::Origin;
 use am_config::Path;

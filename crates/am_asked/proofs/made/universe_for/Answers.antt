@@ -1,6 +1,6 @@
 -- What is made is complete, unless a label is unproved.
 use Rattle.std.proofs.Common.{sym, ◌∙◌}
-use Rattle.am_universe_command.proofs.making.universe_for.Goals as goal
+use Rattle.am_asked.proofs.made.universe_for.Goals as goal
 
 pub returns-in-Some-clause-unproved : goal.returns-in-Some-clause-unproved
 returns-in-Some-clause-unproved c =
