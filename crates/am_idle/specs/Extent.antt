@@ -1,16 +1,10 @@
 -- Which of the label sets that occur a list of matchers matches. A parameter says which occur:
 -- those of the choices of a space, or those that alerts may have. (This project's own.)
-use Rattle.std.specs.Prelude.{◌≡◌, List, Bool, IsTrue, IsFalse}
+use Rattle.std.specs.Prelude.{List, IsTrue, IsFalse}
 use Rattle.am_universe.specs.LabelSet.{LabelMap}
 use Rattle.am_labels.specs.Matcher.{Condition, all_hold}
-use Rattle.am_labels.specs.Space.{Space}
-use Rattle.am_eval.specs.Reaching.{IsSetOf}
 use Rattle.am_idle.specs.declared.extent.Extent.{Extent}
 use Rattle.am_idle.specs.declared.extent.Extent.TheVariants as extent_is
-
--- A space has a label set that a list matches, or one that it does not match.
-abbrev pub HasSet : Space → List Condition → Bool → Type 0
-HasSet s ms wanted = (set : LabelMap) × IsSetOf s set × (all_hold set ms ≡ wanted)
 
 -- A list matches none of the label sets that occur, or each of them, or at least one. Or there is
 -- one that it does not match.

@@ -3,16 +3,13 @@
 //! Two searches decide this: one for a label set that the list matches, and one for a label set
 //! that it does not match.
 
-ghost use Rattle.std.specs.Prelude.{◌≡◌, ◌≢◌, [], ◌∷◌, List, false, IfOk, IfErr, OnOk, IsTrue};
+ghost use Rattle.std.specs.Prelude.{◌≡◌, ◌≢◌, [], ◌∷◌, List, IfOk, IfErr, OnOk};
 ghost use Rattle.am_universe.specs.declared.kind.Kind.TheVariants as kinds;
-ghost use Rattle.am_labels.specs.Matcher.{Condition};
 ghost use Rattle.am_universe.specs.Universe.{Label};
-ghost use Rattle.am_judged_lists.specs.Cube.{IsCubeOf};
-ghost use Rattle.am_first_sets.specs.PossibleSets.{possible_space};
 ghost use Rattle.am_every_alert.specs.EveryAlert.{IsAlertOf};
 ghost use Rattle.am_idle.specs.Lists.{StandsForLists, IsRefusalForLists};
 ghost use Rattle.am_eval.specs.Reaching.{IsSetOf};
-ghost use Rattle.am_idle.specs.Extent.{IsExtent, HasSet};
+ghost use Rattle.am_idle.specs.Extent.{IsExtent};
 
 use crate::lists::universe_for_lists;
 use am_classes::Alphabet;
@@ -64,36 +61,13 @@ fn extent_in(alloc: Global, space: &Space, matchers: &Matchers) -> Result<Extent
     ensures { IfOk result (IsExtent (IsSetOf space.now) matchers.now) }
 {
     let possible = PossibleSets::of(alloc, space)?;
-    let cube = Cube::of(alloc, matchers, space.universe())?;
-    let matches = has_set(alloc, &possible, &cube, true)?;
-    if !matches {
-        return Ok(Extent::NoAlert);
-    }
-    let spares = has_set(alloc, &possible, &cube, false)?;
-    if !spares {
-        return Ok(Extent::EachAlert);
-    }
-    Ok(Extent::SomeAlerts)
-}
-
-/// Whether a space has a label set that a list matches, if `wanted`, or one that the list does not
-/// match, if not. `cube` is the cube of the list. Fails only if memory runs out.
-fn has_set(
-    alloc: Global,
-    possible: &PossibleSets<'_>,
-    cube: &Cube,
-    wanted: bool,
-) -> Result<bool, AllocError>
-    ensures some { IfOk result (λ has. (ms : List Condition)
-        → IsCubeOf (possible_space possible.now).labels ms cube.now
-        → IsTrue has → HasSet (possible_space possible.now) ms wanted) }
-    ensures none { IfOk result (λ has. (ms : List Condition)
-        → IsCubeOf (possible_space possible.now).labels ms cube.now
-        → has ≡ false → HasSet (possible_space possible.now) ms wanted → ⊥) }
-{
     let choices = possible.choices();
-    if wanted {
-        return Ok(choices.meeting(alloc, &[cube], &[])?.is_some());
-    }
-    Ok(choices.meeting(alloc, &[], &[cube])?.is_some())
+    let cube = Cube::of(alloc, matchers, space.universe())?;
+    let Some(_) = choices.meeting(alloc, &[&cube], &[])? else {
+        return Ok(Extent::NoAlert);
+    };
+    let Some(_) = choices.meeting(alloc, &[], &[&cube])? else {
+        return Ok(Extent::EachAlert);
+    };
+    Ok(Extent::SomeAlerts)
 }

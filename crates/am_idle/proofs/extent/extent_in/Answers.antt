@@ -1,47 +1,52 @@
--- The two questions decide how far the list reaches.
-use Rattle.std.proofs.Common.{true, false, sym, subst}
-use Rattle.am_labels.specs.Space.{Space}
+-- The two searches decide how far the list reaches.
+use Rattle.std.proofs.Common.{◌↔◌, ℕ, List, true, false, subst}
+use Rattle.std.proofs.lemmas.Bool.{false_from_ne_true, true_from_ne_false}
+use Rattle.am_labels.specs.Matcher.{all_hold}
+use Rattle.am_labels.specs.Space.{Space, IsChoiceOf}
 use Rattle.am_judged_lists.specs.Cube.{IsCubeOf}
-use Rattle.am_first_sets.specs.PossibleSets.{possible_space}
-use Rattle.am_idle.specs.Extent.{HasSet}
-use Rattle.am_idle.proofs.FoundSets.{none_matched, each_matched}
+use Rattle.am_first_sets.specs.PossibleChoices.{IsPossible}
+use Rattle.am_idle.proofs.FoundSets.{some_set, no_set}
 use Rattle.am_idle.proofs.extent.extent_in.Goals as goal
-use Rattle.am_idle.proofs.extent.extent_in.Goals.{In_ok-cube}
+use Rattle.am_idle.proofs.extent.extent_in.Goals.{In_ok-meeting}
 
--- the cube is that of the list, over the space that is searched
-cube_is : (c : In_ok-cube)
-    → IsCubeOf (possible_space c.in_ok-possible.possible).labels c.args.matchers.now
-    c.in_ok-cube.cube
-cube_is c =
-    subst (λ (t : Space). IsCubeOf t.labels c.args.matchers.now c.in_ok-cube.cube)
-    (sym c.in_ok-possible.ensures.space)
-    (rw c.universe.ensures.labels at c.in_ok-cube.ensures.exact)
+-- the cube is that of the list, and the choices are those of the space
+cube_is : (c : In_ok-meeting)
+    → IsCubeOf c.args.space.now.labels c.args.matchers.now c.in_ok-cube.cube
+cube_is c = rw c.universe.ensures.labels at c.in_ok-cube.ensures.exact
 
-pub returns-then-not-matches : goal.returns-then-not-matches
-returns-then-not-matches c =
-    let ms = c.args.matchers.now in
-    none_matched c.args.space.now ms (λ has. c.in_ok-matches.ensures.none ms
-    (cube_is (goal.at.returns-then-not-matches c).In_ok-cube) c.if-not-matches.true
-    (subst (λ (t : Space). HasSet t ms true) (sym c.in_ok-possible.ensures.space) has))
+choices_are : (c : In_ok-meeting) → (d : List ℕ)
+    → IsPossible c.choices-choices.result.now d ↔ IsChoiceOf c.args.space.now d
+choices_are c =
+    subst (λ (s : Space). (d : List ℕ) → IsPossible c.choices-choices.result.now d ↔ IsChoiceOf s d)
+    c.in_ok-possible.ensures.space c.choices-choices.ensures
 
-pub returns-then-not-spares : goal.returns-then-not-spares
-returns-then-not-spares c =
-    let ms = c.args.matchers.now in
-    let same = c.in_ok-possible.ensures.space in
-    let cube = cube_is (goal.at.returns-then-not-spares c).In_ok-cube in (
-      subst (λ (t : Space). HasSet t ms true) same
-          (c.in_ok-matches.ensures.some ms cube c.if-not-matches.false),
-      each_matched c.args.space.now ms (λ other. c.in_ok-spares.ensures.none ms cube
-          c.if-not-spares.true (subst (λ (t : Space). HasSet t ms false) (sym same) other)),
+pub returns-in_default : goal.returns-in_default
+returns-in_default c = λ set is.
+    let at = (goal.at.returns-in_default c).In_ok-meeting in
+    false_from_ne_true (all_hold set c.args.matchers.now)
+    (no_set c.args.space.now c.args.matchers.now c.in_ok-cube.cube (cube_is at)
+    (IsPossible c.choices-choices.result.now) (choices_are at) true
+    (rw c.in_default.is at c.in_ok-meeting.ensures.none) set is)
+
+pub returns-in_default-2 : goal.returns-in_default-2
+returns-in_default-2 c =
+    let at = (goal.at.returns-in_default-2 c).In_ok-meeting in (
+      some_set c.args.space.now c.args.matchers.now c.in_ok-cube.cube (cube_is at)
+          (IsPossible c.choices-choices.result.now) (choices_are at) true c.in-Some.field-0
+          (rw c.in-Some.is at c.in_ok-meeting.ensures.some),
+      λ set is. true_from_ne_false (all_hold set c.args.matchers.now)
+          (no_set c.args.space.now c.args.matchers.now c.in_ok-cube.cube (cube_is at)
+          (IsPossible c.choices-choices.result.now) (choices_are at) false
+          (rw c.in_default-2.is at c.in_ok-meeting-2.ensures.none) set is),
     )
 
 pub returns : goal.returns
 returns c =
-    let ms = c.args.matchers.now in
-    let same = c.in_ok-possible.ensures.space in
-    let cube = cube_is (goal.at.returns c).In_ok-cube in (
-      subst (λ (t : Space). HasSet t ms true) same
-          (c.in_ok-matches.ensures.some ms cube c.if-not-matches.false),
-      subst (λ (t : Space). HasSet t ms false) same
-          (c.in_ok-spares.ensures.some ms cube c.if-not-spares.false),
+    let at = (goal.at.returns c).In_ok-meeting in (
+      some_set c.args.space.now c.args.matchers.now c.in_ok-cube.cube (cube_is at)
+          (IsPossible c.choices-choices.result.now) (choices_are at) true c.in-Some.field-0
+          (rw c.in-Some.is at c.in_ok-meeting.ensures.some),
+      some_set c.args.space.now c.args.matchers.now c.in_ok-cube.cube (cube_is at)
+          (IsPossible c.choices-choices.result.now) (choices_are at) false c.in-Some-2.field-0
+          (rw c.in-Some-2.is at c.in_ok-meeting-2.ensures.some),
     )
