@@ -13,14 +13,17 @@ mod lists;
 
 pub use lists::universe_for_lists;
 
+// Why nothing is said.
+mod found;
+
+pub use found::FindingFault;
+
 // What is said of silences.
 mod silence_text;
 mod silences;
 
 pub use silence_text::push_silence_line;
-pub use silences::{
-    SilenceFault, SilenceFinding, count_silence_findings, count_silence_notes, find_silences,
-};
+pub use silences::{SilenceFinding, count_silence_findings, count_silence_notes, find_silences};
 
 // What is said of inhibition rules.
 mod rule_findings;
@@ -28,7 +31,7 @@ mod rule_text;
 mod rules;
 mod sides;
 
-pub use rule_findings::{RuleFault, count_idle_rules, find_rules};
+pub use rule_findings::{count_idle_rules, find_rules};
 pub use rule_text::push_rule_line;
 pub use rules::{IdleReason, idle_reason};
 

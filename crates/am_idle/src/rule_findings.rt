@@ -1,26 +1,18 @@
 //! Which inhibition rules of a configuration are idle.
 
-ghost use Rattle.std.specs.Prelude.{◌≡◌, ◌≢◌, ◌++◌, [], ◌∷◌, IfOk, IfErr, OnOk};
+ghost use Rattle.std.specs.Prelude.{◌≡◌, ◌≢◌, [], IfOk, IfErr};
 ghost use Rattle.std.specs.List.{AllZip};
 ghost use Rattle.am_universe.specs.declared.kind.Kind.TheVariants as kinds;
 ghost use Rattle.am_idle.specs.Rules.{IsRuleFinding};
 ghost use Rattle.am_idle.specs.RuleFindings.{IsFirstRefusedRule, count_idle_rules};
 
+use crate::found::{FindingFault, push_finding};
 use crate::rules::{IdleReason, idle_reason};
 use am_classes::Alphabet;
 use am_config::Rule;
 use am_labels::Space;
 use am_universe::Kind;
 use std::alloc::Global;
-
-/// Why it is not known whether rules are idle.
-#[derive(Clone, Copy)]
-pub struct RuleFault {
-    /// The position of the rule that is refused.
-    pub position: usize,
-    /// Why it is refused: `Limit`, `Unproved` or `Memory`.
-    pub kind: Kind,
-}
 
 /// Finds why each of some inhibition rules is idle, in their order, for every alert over an
 /// alphabet that no impossible list of a space matches. It is `None` for a rule that is not idle.
@@ -33,7 +25,7 @@ pub fn find_rules(
     alphabet: Alphabet,
     space: &mut Space,
     rules: &[Rule],
-) -> Result<Vec<Option<IdleReason>>, RuleFault>
+) -> Result<Vec<Option<IdleReason>>, FindingFault>
     requires { space.old.labels ≡ [] }
     ensures found { IfOk result (λ found.
         AllZip (IsRuleFinding alphabet space.old) rules.now found.items) }
@@ -45,29 +37,11 @@ pub fn find_rules(
     let mut found = Vec::new(alloc);
     for i in 0..rules.len() {
         match idle_reason(alloc, alphabet, space, &rules[i]) {
-            Ok(reason) => push_reason(&mut found, i, reason)?,
-            Err(kind) => return Err(RuleFault { position: i, kind }),
+            Ok(reason) => push_finding(&mut found, i, reason)?,
+            Err(kind) => return Err(FindingFault { position: i, kind }),
         }
     }
     Ok(found)
-}
-
-/// Adds what was found of the rule at a position. Fails only if memory runs out.
-fn push_reason(
-    found: &mut Vec<Option<IdleReason>>,
-    position: usize,
-    reason: Option<IdleReason>,
-) -> Result<(), RuleFault>
-    ensures added { OnOk result (found.new.items ≡ found.old.items ++ reason ∷ []) }
-    ensures memory { IfErr result (λ fault. fault.kind ≡ kinds.Memory) }
-{
-    match found.push(reason) {
-        Ok(()) => Ok(()),
-        Err(_) => Err(RuleFault {
-            position,
-            kind: Kind::Memory,
-        }),
-    }
 }
 
 /// Returns the number of findings: the rules that are idle.

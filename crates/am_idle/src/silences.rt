@@ -1,6 +1,6 @@
 //! Which silences do nothing, or hide everything.
 
-ghost use Rattle.std.specs.Prelude.{◌≡◌, ◌≢◌, ◌<◌, [], ◌∷◌, ◌++◌, length, slice_get, Some, IfOk};
+ghost use Rattle.std.specs.Prelude.{◌≡◌, ◌≢◌, [], slice_get, Some, IfOk};
 ghost use Rattle.std.specs.Prelude.{IfErr, OnOk};
 ghost use Rattle.std.specs.List.{AllZip, list_any};
 ghost use Rattle.am_universe.specs.declared.kind.Kind.TheVariants as kinds;
@@ -11,10 +11,11 @@ ghost use Rattle.am_idle.specs.Silences.{is_silence_note, count_silence_findings
 ghost use Rattle.am_idle.specs.Silences.{count_silence_notes};
 
 use crate::extent::{Extent, extent_of};
+use crate::found::{FindingFault, push_finding};
 use am_classes::Alphabet;
 use am_eval::World;
 use am_labels::{Matchers, Space};
-use am_list_files::Alerts;
+use am_list_files::{Alerts, Silence};
 use am_universe::Kind;
 use std::alloc::{AllocError, Global};
 
@@ -27,15 +28,6 @@ pub enum SilenceFinding {
     All,
     /// It is active and hides none of the alerts that fire, though it hides others.
     Unused,
-}
-
-/// Why it is not known what is wrong with silences.
-#[derive(Clone, Copy)]
-pub struct SilenceFault {
-    /// The position of the silence that is refused.
-    pub position: usize,
-    /// Why it is refused: `Limit`, `Unproved` or `Memory`.
-    pub kind: Kind,
 }
 
 /// Finds what is wrong with each silence of a world, in their order, for every alert over an
@@ -53,7 +45,7 @@ pub fn find_silences(
     space: &mut Space,
     world: &World,
     alerts_given: bool,
-) -> Result<Vec<Option<SilenceFinding>>, SilenceFault>
+) -> Result<Vec<Option<SilenceFinding>>, FindingFault>
     requires { space.old.labels ≡ [] }
     ensures found { IfOk result (λ found.
         AllZip (IsSilenceFinding alphabet space.old world.now alerts_given)
@@ -65,30 +57,13 @@ pub fn find_silences(
 {
     let mut found = Vec::new(alloc);
     for i in 0..world.silences().len() {
-        match find_silence(alloc, alphabet, space, world, i, alerts_given) {
+        let silence = world.silences().get(i);
+        match find_silence(alloc, alphabet, space, world, i, silence, alerts_given) {
             Ok(finding) => push_finding(&mut found, i, finding)?,
-            Err(kind) => return Err(SilenceFault { position: i, kind }),
+            Err(kind) => return Err(FindingFault { position: i, kind }),
         }
     }
     Ok(found)
-}
-
-/// Adds what was found of the silence at a position. Fails only if memory runs out.
-fn push_finding(
-    found: &mut Vec<Option<SilenceFinding>>,
-    position: usize,
-    finding: Option<SilenceFinding>,
-) -> Result<(), SilenceFault>
-    ensures added { OnOk result (found.new.items ≡ found.old.items ++ finding ∷ []) }
-    ensures memory { IfErr result (λ fault. fault.kind ≡ kinds.Memory) }
-{
-    match found.push(finding) {
-        Ok(()) => Ok(()),
-        Err(_) => Err(SilenceFault {
-            position,
-            kind: Kind::Memory,
-        }),
-    }
 }
 
 /// Finds what is wrong with the silence at a position. Fails as [`find_silences`] does.
@@ -98,31 +73,27 @@ fn find_silence(
     space: &mut Space,
     world: &World,
     position: usize,
+    silence: &Silence,
     alerts_given: bool,
 ) -> Result<Option<SilenceFinding>, Kind>
     requires none { space.old.labels ≡ [] }
-    requires silence { position < length world.now.silences }
-    ensures found { IfOk result (λ finding. (silence : _)
-        → slice_get world.now.silences position ≡ Some silence
-        → IsSilenceFinding alphabet space.old world.now alerts_given silence finding) }
-    ensures accepted { OnOk result ((silence : _)
-        → slice_get world.now.silences position ≡ Some silence
-        → IsAccepted alphabet space.old world.now silence) }
-    ensures refused { IfErr result (λ kind. kind ≢ kinds.Memory → (silence : _)
-        → slice_get world.now.silences position ≡ Some silence
-        → IsSilenceRefused alphabet space.old world.now silence kind) }
+    requires silence { slice_get world.now.silences position ≡ Some silence.now }
+    ensures found { IfOk result
+        (IsSilenceFinding alphabet space.old world.now alerts_given silence.now) }
+    ensures accepted { OnOk result (IsAccepted alphabet space.old world.now silence.now) }
+    ensures refused { IfErr result (λ kind. kind ≢ kinds.Memory
+        → IsSilenceRefused alphabet space.old world.now silence.now kind) }
     ensures labels { space.new.labels ≡ [] }
     ensures impossible { space.new.impossible ≡ space.old.impossible }
 {
     if world.over(position) {
         return Ok(None);
     }
-    let matchers = world.silences().get(position).matchers();
-    match extent_of(alloc, alphabet, space, matchers)? {
+    match extent_of(alloc, alphabet, space, silence.matchers())? {
         Extent::NoAlert => Ok(Some(SilenceFinding::Idle)),
         Extent::EachAlert => Ok(Some(SilenceFinding::All)),
         Extent::SomeAlerts => {
-            if alerts_given && is_unused(alloc, world, position)? {
+            if alerts_given && is_unused(alloc, world, position, silence)? {
                 return Ok(Some(SilenceFinding::Unused));
             }
             Ok(None)
@@ -132,17 +103,19 @@ fn find_silence(
 
 /// Whether the silence at a position is active, and hides none of the alerts that fire. Fails only
 /// if memory runs out.
-fn is_unused(alloc: Global, world: &World, position: usize) -> Result<bool, AllocError>
-    requires { position < length world.now.silences }
-    ensures { IfOk result (λ unused. (silence : _)
-        → slice_get world.now.silences position ≡ Some silence
-        → unused ≡ is_unused world.now silence) }
+fn is_unused(
+    alloc: Global,
+    world: &World,
+    position: usize,
+    silence: &Silence,
+) -> Result<bool, AllocError>
+    requires { slice_get world.now.silences position ≡ Some silence.now }
+    ensures { IfOk result (λ unused. unused ≡ is_unused world.now silence.now) }
 {
     if !world.active(position) {
         return Ok(false);
     }
-    let matchers = world.silences().get(position).matchers();
-    let found = matches_any(alloc, matchers, world.alerts())?;
+    let found = matches_any(alloc, silence.matchers(), world.alerts())?;
     Ok(!found)
 }
 

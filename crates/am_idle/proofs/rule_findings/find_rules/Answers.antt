@@ -41,7 +41,7 @@ loop-i-preserved c =
     subst (λ (t : Space). IsRuleAccepted a t rule) same c.in-Ok.ensures.made in
     record {
       found = zip_more (IsRuleFinding a s) rules i rule reason c.loop-i.found.items _ at
-          c.in_ok-push_reason-in-Ok.ensures.added kept.found is;
+          c.in_ok-push_finding-in-Ok.ensures.added kept.found is;
       accepted = one_more_passes (IsRuleAccepted a s) rules i rule at kept.accepted accepted;
       labels = c.idle_reason.ensures.labels;
       impossible = c.idle_reason.ensures.impossible ∙ kept.impossible;

@@ -4,7 +4,7 @@ use Rattle.am_universe.proofs.Members.{in_at}
 use Rattle.am_universe.specs.LabelSet.{LabelMap}
 use Rattle.am_labels.specs.Matcher.{all_hold}
 use Rattle.am_labels.proofs.Passing.{in_any}
-use Rattle.am_idle.proofs.SilenceSteps.{none_more}
+use Rattle.am_complete.proofs.LabelStates.{none_more}
 use Rattle.am_idle.proofs.silences.matches_any.Goals as goal
 
 pub returns-then-branch : goal.returns-then-branch

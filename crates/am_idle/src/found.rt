@@ -1,0 +1,33 @@
+//! What was found of rules or silences, one after another, and why it is not known.
+
+ghost use Rattle.std.specs.Prelude.{◌≡◌, ◌++◌, [], ◌∷◌, IfErr, OnOk};
+ghost use Rattle.am_universe.specs.declared.kind.Kind.TheVariants as kinds;
+
+use am_universe::Kind;
+
+/// Why it is not known what is wrong with rules or with silences.
+#[derive(Clone, Copy)]
+pub struct FindingFault {
+    /// The position of the rule or silence that is refused.
+    pub position: usize,
+    /// Why it is refused: `Limit`, `Unproved` or `Memory`.
+    pub kind: Kind,
+}
+
+/// Adds what was found of the rule or silence at a position. Fails only if memory runs out.
+pub(crate) fn push_finding<T: Drop>(
+    found: &mut Vec<T>,
+    position: usize,
+    finding: T,
+) -> Result<(), FindingFault>
+    ensures added { OnOk result (found.new.items ≡ found.old.items ++ finding ∷ []) }
+    ensures memory { IfErr result (λ fault. fault.kind ≡ kinds.Memory) }
+{
+    match found.push(finding) {
+        Ok(()) => Ok(()),
+        Err(_) => Err(FindingFault {
+            position,
+            kind: Kind::Memory,
+        }),
+    }
+}
