@@ -2,32 +2,38 @@
 -- same of its matchers. The label sets of two such choices are alerts that may meet. So what is
 -- found of a rule among the choices of a universe that stands for every alert is true of every
 -- alert.
-use Rattle.std.proofs.Common.{◌≡◌, ◌↔◌, ℕ, zero, suc, List, [], ◌∷◌, length, Bool, true, not}
-use Rattle.std.proofs.Common.{cond, Option, Some, None, refl, sym, ap, ◌∙◌, subst, inl, inr, arith}
-use Rattle.std.specs.Prelude.{◌&&◌, ◌||◌, ◌==◌, IsTrue, IsFalse, IfSome, slice_get}
-use Rattle.std.specs.Prelude.{slice_index, unwrap_or, nat_lt}
-use Rattle.std.specs.List.{cons_option}
+use Rattle.std.proofs.Common.{◌≡◌, ◌↔◌, ◌<◌, ℕ, List, [], ◌∷◌, length, map, Bool, true, cond}
+use Rattle.std.proofs.Common.{Option, Some, None, refl, sym, ap, ◌∙◌, subst, inl, inr, arith}
+use Rattle.std.specs.Prelude.{◌&&◌, ◌==◌, IsTrue, IsFalse, IfSome, slice_get, slice_index}
+use Rattle.std.specs.Prelude.{unwrap_or}
+use Rattle.std.specs.List.{cons_option, list_any, range_with_len}
 use Rattle.std.specs.Cmp.Lexicographic.{bytes_decides}
 use Rattle.std.proofs.lemmas.Bool.{cases_Bool, and_parts, and_from, both_ways, eqb-true, eq-eqb}
-use Rattle.std.proofs.lemmas.Bool.{not-true}
+use Rattle.std.proofs.lemmas.Grind.{common_steps}
+use Rattle.std.proofs.lemmas.Bool.{not-true, or_cases, cases_lt, cond_both, cond-true, cond-false}
+use Rattle.std.proofs.lemmas.Bool.{false_from_ne_true}
+use Rattle.std.proofs.lemmas.List.{get_or_past}
+use Rattle.std.proofs.lemmas.List.FromFn.{get_or-map-range_with_len, length-map-range_with_len}
 use Rattle.std.proofs.lemmas.List.Quantifiers.{position-Some}
 use Rattle.am_universe.specs.Text.{same_text}
 use Rattle.am_universe.specs.Universe.{Label, IsUniverse, sizes, label_position}
-use Rattle.am_universe.specs.Choice.{IsWhole, admits}
+use Rattle.am_universe.specs.Choice.{IsWhole}
 use Rattle.am_universe.specs.LabelSet.{LabelMap, value_of, label_set_of}
 use Rattle.am_universe.proofs.LabelSetLemmas.{same_text-itself}
 use Rattle.am_universe.proofs.ListLemmas.{IsIn, AllByRecursion-each, AllByRecursion-at}
+use Rattle.am_universe.proofs.Members.{in_at}
 use Rattle.am_universe.proofs.UniverseLemmas.{no_label}
+use Rattle.am_universe.proofs.WholeChoiceLemmas.{admitted_at, admits_each}
 use Rattle.am_labels.specs.declared.op.Op.TheVariants.{Equal}
 use Rattle.am_labels.specs.Matcher.{Condition, holds, condition_holds, all_hold}
 use Rattle.am_labels.specs.Row.{is_reached, truth_among, truths_of}
 use Rattle.am_labels.specs.Space.{Space}
+use Rattle.am_labels.proofs.Passing.{any_in, in_any}
 use Rattle.am_labels.proofs.RowLawLemmas.{row_decides}
 use Rattle.am_config.specs.ConfigFile.{Rule}
-use Rattle.am_search.proofs.ChoiceOrder.{got_at}
 use Rattle.am_eval.specs.Inhibition.{have_equal, is_two_sided, inhibits}
 use Rattle.am_judged_lists.specs.Pairs.{is_shared, are_same_at}
-use Rattle.am_judged_lists.proofs.ListLemmas.{all_pass, each_passes, some_passes}
+use Rattle.am_judged_lists.proofs.ListLemmas.{all_pass, each_both, each_passes, some_passes}
 use Rattle.am_classes.specs.declared.alphabet.Alphabet.{Alphabet}
 use Rattle.am_complete.specs.Complete.{impossible_conditions}
 use Rattle.am_every_alert.specs.EveryAlert.{MeetsTheSame}
@@ -45,28 +51,13 @@ use Rattle.am_idle.specs.Rules.{IsWhyNone, IsIdle, IsRuleFinding}
 
 -- ---- The labels of some names.
 
-cons_shared : (o : Option ℕ) (rest : List ℕ) (i : ℕ) → is_shared (cons_option o rest) i ≡ true
-    → (is_shared rest i ≡ true → ⊥) → o ≡ Some i
-cons_shared None rest i is not_there = absurd (not_there is)
-cons_shared (Some j) rest i is not_there = elim (cases_Bool (j == i)) [
-  | inl same ↦ ap Some (eqb-true j i same)
-  | inr other ↦ absurd (not_there (ap (λ b. b || is_shared rest i) (sym other) ∙ is))
-]
-
 -- each of the labels has one of the names
 name_of_shared : (u : List Label) (names : List (List ℕ)) (i : ℕ)
     → is_shared (labels_named u names) i ≡ true
     → (name : List ℕ) × IsIn names name × (label_position u name ≡ Some i)
 name_of_shared u [] i is = absurd (cc)
-name_of_shared u (name ∷ names) i is = elim (cases_Bool (is_shared (labels_named u names) i)) [
-  | inl later ↦ let r = name_of_shared u names i later in (r.0, inr r.1, r.2)
-  | inr none ↦ (
-    name,
-    inl refl,
-    cons_shared (label_position u name) (labels_named u names) i is
-        (λ there. both_ways (is_shared (labels_named u names) i) none there),
-  )
-]
+name_of_shared u (name ∷ names) i is =
+    grind (arith, common_steps, cases_Bool, or_cases, eqb-true, name_of_shared u names i)
 
 -- names with the same position are the same
 same_name : (u : List Label) (name other : List ℕ) (i : ℕ) → label_position u name ≡ Some i
@@ -76,7 +67,7 @@ same_name u name other i is also =
     let second = position-Some (λ l. same_text l.name other) u i no_label also in
     sym ((bytes_decides _ name).0 first.1) ∙ (bytes_decides _ other).0 second.1
 
--- ---- Choices with the same position at the label of a matcher.
+-- ---- Values by the positions of a choice.
 
 parts_same : (o : Option ℕ) (truths : List Bool) (c d : List ℕ) → length c ≡ length d
     → IfSome o (λ i. slice_index c i ≡ slice_index d i)
@@ -86,34 +77,32 @@ parts_same None truths c d long same = refl
 parts_same (Some i) truths c d long same =
     λ j. is_reached (Some i) (long j) && truth_among (Some i) truths (same j)
 
+if_some : {X : Type 0} (o : Option X) (P : X → Type 0) → ((x : X) → o ≡ Some x → P x) → IfSome o P
+if_some None P so = tt
+if_some (Some x) P so = so x refl
+
 module _ (u : List Label) (h : IsUniverse u) where
   abbrev set_of : List ℕ → LabelMap
   set_of c = label_set_of u c
 
-  same_condition : (m : Condition) (c d : List ℕ) → IsWhole (sizes u) c → IsWhole (sizes u) d
-      → IfSome (label_position u m.name) (λ i. slice_index c i ≡ slice_index d i)
-      → condition_holds (set_of c) m ≡ condition_holds (set_of d) m
-  same_condition m c d first second same =
-      let o = label_position u m.name in
-      row_decides u c m h first
-      ∙ parts_same o (truths_of u m o) c d (first.1 ∙ sym second.1) same
-      ∙ sym (row_decides u d m h second)
-
+  -- choices with the same position at the label of a name have the same value for it
   same_value : (name c d : List ℕ) → IsWhole (sizes u) c → IsWhole (sizes u) d
       → IfSome (label_position u name) (λ i. slice_index c i ≡ slice_index d i)
-      → same_text (value_of (set_of c) name) (value_of (set_of d) name) ≡ true
+      → value_of (set_of c) name ≡ value_of (set_of d) name
   same_value name c d first second same =
       let value = value_of (set_of d) name in
       let m : Condition = record { name = name; op = Equal; value = value } in
-      same_condition m c d first second same ∙ same_text-itself value
+      let o = label_position u name in
+      (bytes_decides (value_of (set_of c) name) value).0
+      (row_decides u c m h first
+      ∙ parts_same o (truths_of u m o) c d (first.1 ∙ sym second.1) same
+      ∙ sym (row_decides u d m h second) ∙ same_text-itself value)
 
   cons_same : (o : Option ℕ) (rest c d : List ℕ)
       → are_same_at (cons_option o rest) c d ≡ true
       → IfSome o (λ i. slice_index c i ≡ slice_index d i) × (are_same_at rest c d ≡ true)
   cons_same None rest c d same = (tt, same)
-  cons_same (Some i) rest c d same =
-      let parts = and_parts (slice_index c i == slice_index d i) (are_same_at rest c d) same in
-      (eqb-true (slice_index c i) (slice_index d i) parts.0, parts.1)
+  cons_same (Some i) rest c d same = grind (arith, common_steps, and_parts, eqb-true)
 
   -- choices that have the same positions at the labels of names have the same values for these
   pub equal_values : (names : List (List ℕ)) (c d : List ℕ) → IsWhole (sizes u) c
@@ -122,8 +111,9 @@ module _ (u : List Label) (h : IsUniverse u) where
   equal_values [] c d first second same = refl
   equal_values (name ∷ names) c d first second same =
       let parts = cons_same (label_position u name) (labels_named u names) c d same in
+      let values = same_value name c d first second parts.0 in
       and_from (same_text (value_of (set_of c) name) (value_of (set_of d) name))
-      (have_equal names (set_of c) (set_of d)) (same_value name c d first second parts.0)
+      (have_equal names (set_of c) (set_of d)) ((bytes_decides _ _).1 values)
       (equal_values names c d first second parts.1)
 
 -- label sets that agree in all of some names have the same value for each of them
@@ -136,67 +126,52 @@ equal_at names x y name same there =
 
 -- ---- A choice that has the positions of another at some labels.
 
-abbrev mixed : (ℕ → Bool) → List ℕ → List ℕ → List ℕ
-mixed takes [] d = []
-mixed takes (p ∷ c) [] = []
-mixed takes (p ∷ c) (q ∷ d) = cond (takes 0) p q ∷ mixed (λ i. takes (suc i)) c d
-
-mixed_long : (takes : ℕ → Bool) (c d : List ℕ) → length c ≡ length d
-    → length (mixed takes c d) ≡ length d
-mixed_long takes [] [] same = refl
-mixed_long takes [] (q ∷ d) same = absurd (omega (arith, same))
-mixed_long takes (p ∷ c) [] same = absurd (omega (arith, same))
-mixed_long takes (p ∷ c) (q ∷ d) same =
-    ap suc (mixed_long (λ i. takes (suc i)) c d (omega (arith, same)))
-
-mixed_admitted : (takes : ℕ → Bool) (ns c d : List ℕ) → admits ns c ≡ true → admits ns d ≡ true
-    → admits ns (mixed takes c d) ≡ true
-mixed_admitted takes ns [] d first second = refl
-mixed_admitted takes ns (p ∷ c) [] first second = refl
-mixed_admitted takes [] (p ∷ c) (q ∷ d) first second = absurd (cc)
-mixed_admitted takes (n ∷ ns) (p ∷ c) (q ∷ d) first second =
-    let one = and_parts (nat_lt p n) (admits ns c) first in
-    let two = and_parts (nat_lt q n) (admits ns d) second in
-    and_from (nat_lt (cond (takes 0) p q) n) (admits ns (mixed (λ i. takes (suc i)) c d))
-    (elim (cases_Bool (takes 0)) [ inl e ↦ rw e one.0 | inr e ↦ rw e two.0 ])
-    (mixed_admitted (λ i. takes (suc i)) ns c d one.1 two.1)
-
-mixed_at : (takes : ℕ → Bool) (c d : List ℕ) (i : ℕ) → length c ≡ length d
-    → slice_index (mixed takes c d) i ≡ cond (takes i) (slice_index c i) (slice_index d i)
-mixed_at takes [] [] i same =
-    elim (cases_Bool (takes i)) [ inl e ↦ rw e refl | inr e ↦ rw e refl ]
-mixed_at takes [] (q ∷ d) i same = absurd (omega (arith, same))
-mixed_at takes (p ∷ c) [] i same = absurd (omega (arith, same))
-mixed_at takes (p ∷ c) (q ∷ d) zero same = refl
-mixed_at takes (p ∷ c) (q ∷ d) (suc i) same =
-    mixed_at (λ j. takes (suc j)) c d i (omega (arith, same))
-
 module _ (u : List Label) (h : IsUniverse u) (names : List (List ℕ)) (c d : List ℕ)
     (first : IsWhole (sizes u) c) (second : IsWhole (sizes u) d) where
-  abbrev long : length c ≡ length d
-  long = first.1 ∙ sym second.1
+  abbrev shared : List ℕ
+  shared = labels_named u names
+
+  abbrev picked : ℕ → ℕ
+  picked i = cond (is_shared shared i) (slice_index c i) (slice_index d i)
 
   -- the second choice, with the positions of the first at the labels of the names
   abbrev partner : List ℕ
-  partner = mixed (is_shared (labels_named u names)) c d
+  partner = map picked (range_with_len 0 (length c))
+
+  partner_long : length partner ≡ length c
+  partner_long = length-map-range_with_len picked 0 (length c)
+
+  partner_at : (i : ℕ) → slice_index partner i ≡ picked i
+  partner_at i = grind (
+    arith,
+    common_steps,
+    cases_lt,
+    cases_Bool,
+    get_or_past,
+    get_or-map-range_with_len picked 0 (length c) i i 0,
+    partner_long,
+    first.1,
+    second.1,
+  )
 
   partner_whole : IsWhole (sizes u) partner
   partner_whole = (
-    mixed_admitted (is_shared (labels_named u names)) (sizes u) c d first.0 second.0,
-    mixed_long (is_shared (labels_named u names)) c d long ∙ second.1,
+    admits_each (sizes u) partner (omega (arith, partner_long, first.1)) (λ i low.
+        subst (λ p. p < slice_index (sizes u) i) (sym (partner_at i))
+        (cond_both (is_shared shared i) (slice_index c i) (slice_index d i)
+        (λ p. p < slice_index (sizes u) i)
+        (λ is. admitted_at (sizes u) c i first.0 (omega (arith, low, partner_long)))
+        (λ other. admitted_at (sizes u) d i second.0
+        (omega (arith, low, partner_long, first.1, second.1))))),
+    partner_long ∙ first.1,
   )
 
-  partner_at : (i : ℕ) → slice_index partner i
-      ≡ cond (is_shared (labels_named u names) i) (slice_index c i) (slice_index d i)
-  partner_at i = mixed_at (is_shared (labels_named u names)) c d i long
-
-  partner_same : are_same_at (labels_named u names) c partner ≡ true
+  partner_same : are_same_at shared c partner ≡ true
   partner_same =
-      let shared = labels_named u names in
       all_pass (λ i. slice_index c i == slice_index partner i) shared
       (AllByRecursion-each (λ i. (slice_index c i == slice_index partner i) ≡ true) shared
       (λ i among. eq-eqb (slice_index c i) (slice_index partner i)
-      (sym (partner_at i ∙ ap (λ b. cond b (slice_index c i) (slice_index d i))
+      (sym (partner_at i ∙ cond-true (is_shared shared i) (slice_index c i) (slice_index d i)
       (some_passes (λ j. j == i) shared i among (eq-eqb i i refl))))))
 
   module _ (x y : LabelMap) (equal : have_equal names x y ≡ true) where
@@ -205,70 +180,52 @@ module _ (u : List Label) (h : IsUniverse u) (names : List (List ℕ)) (c d : Li
         → condition_holds (label_set_of u c) m ≡ condition_holds x m
         → condition_holds (label_set_of u d) m ≡ condition_holds y m
         → condition_holds (label_set_of u partner) m ≡ condition_holds y m
-    partner_meets m as_first as_second = by (label_position u m.name) refl
-      where
-        by : (o : Option ℕ) → label_position u m.name ≡ o
-            → condition_holds (label_set_of u partner) m ≡ condition_holds y m
-        by None is =
-            same_condition u h m partner d partner_whole second
-            (subst (λ o. IfSome o (λ i. slice_index partner i ≡ slice_index d i)) (sym is) tt)
-            ∙ as_second
-        by (Some i) is = elim (cases_Bool (is_shared (labels_named u names) i)) [
-          | inl shared ↦
-              let name = name_of_shared u names i shared in
-              let same = same_name u name.0 m.name i name.2 is in
-              let value = equal_at names x y name.0 equal name.1 in
-              same_condition u h m partner c partner_whole first
-              (subst (λ o. IfSome o (λ j. slice_index partner j ≡ slice_index c j)) (sym is)
-              (partner_at i ∙ ap (λ b. cond b (slice_index c i) (slice_index d i)) shared))
-              ∙ as_first
-              ∙ ap (holds m.op m.value)
-              (subst (λ n. value_of x n ≡ value_of y n) same value)
-          | inr other ↦
-              same_condition u h m partner d partner_whole second
-              (subst (λ o. IfSome o (λ j. slice_index partner j ≡ slice_index d j)) (sym is)
-              (partner_at i ∙ ap (λ b. cond b (slice_index c i) (slice_index d i)) other))
+    partner_meets m as_first as_second =
+        let named = λ (name : List ℕ). same_text name m.name in
+        elim (cases_Bool (list_any named names)) [
+          | inl is ↦
+              let r = any_in named names is in
+              let there = subst (IsIn names) ((bytes_decides r.0 m.name).0 r.2) r.1 in
+              let same = equal_values u h names c partner first partner_whole partner_same in
+              ap (holds m.op m.value)
+              (sym (equal_at names (label_set_of u c) (label_set_of u partner) m.name same there))
+              ∙ as_first ∙ ap (holds m.op m.value) (equal_at names x y m.name equal there)
+          | inr is_not ↦
+              ap (holds m.op m.value) (same_value u h m.name partner d partner_whole second
+              (if_some (label_position u m.name) (λ i. slice_index partner i ≡ slice_index d i)
+              (λ i at. partner_at i
+              ∙ cond-false (is_shared shared i) (slice_index c i) (slice_index d i)
+              (false_from_ne_true (is_shared shared i) (λ is.
+              let r = name_of_shared u names i is in
+              both_ways (list_any named names) is_not (in_any named names r.0 r.1
+              ((bytes_decides r.0 m.name).1 (same_name u r.0 m.name i r.2 at))))))))
               ∙ as_second
         ]
 
     partner_met : (ms : List Condition) → MeetsTheSame ms (label_set_of u c) x
         → MeetsTheSame ms (label_set_of u d) y → MeetsTheSame ms (label_set_of u partner) y
     partner_met ms as_first as_second =
-        AllByRecursion-each
-        (λ m. condition_holds (label_set_of u partner) m ≡ condition_holds y m) ms
-        (λ m there. partner_meets m
-        (AllByRecursion-at
-        (λ n. condition_holds (label_set_of u c) n ≡ condition_holds x n) ms m as_first there)
-        (AllByRecursion-at
-        (λ n. condition_holds (label_set_of u d) n ≡ condition_holds y n) ms m as_second there))
+        each_both (λ m. condition_holds (label_set_of u c) m ≡ condition_holds x m)
+        (λ m. condition_holds (label_set_of u d) m ≡ condition_holds y m)
+        (λ m. condition_holds (label_set_of u partner) m ≡ condition_holds y m) ms partner_meets
+        as_first as_second
 
--- ---- Properties of pairs.
+-- ---- Matchers of lists.
 
--- a property that passes from an alert to each label set that meets the same of a list
-abbrev IsToldBy : List Condition → (LabelMap → Type 0) → Type 0
-IsToldBy ms Is = (set alert : LabelMap) → MeetsTheSame ms set alert → Is alert → Is set
-
-matches_told : (ms : List Condition) → IsToldBy ms (Matches ms)
-matches_told ms set alert met is = all_alike set alert ms met ∙ is
-
-condition_told : (ms : List Condition) (set alert : LabelMap) (i : ℕ) (m : Condition)
-    → MeetsTheSame ms set alert → slice_get ms i ≡ Some m → IsTrue (condition_holds alert m)
-    → IsTrue (condition_holds set m)
-condition_told ms set alert i m met at is =
+-- a matcher of a list is met by a label set exactly if it is by an alert that meets the same
+same_at : (ms : List Condition) (set alert : LabelMap) (i : ℕ) (m : Condition)
+    → MeetsTheSame ms set alert → slice_get ms i ≡ Some m
+    → condition_holds set m ≡ condition_holds alert m
+same_at ms set alert i m met at =
     AllByRecursion-at (λ n. condition_holds set n ≡ condition_holds alert n) ms m met
-    (got_at ms i m at)
-    ∙ is
+    (in_at ms i m at)
 
-meets_told : (ms : List Condition) (positions : List ℕ) → IsToldBy ms (MeetsAt ms positions)
-meets_told ms positions set alert met is i m there at =
-    condition_told ms set alert i m met at (is i m there at)
-
--- and what matches a list meets each matcher of it
+-- what matches a list meets each matcher of it
 meets_all : (ms : List Condition) (positions : List ℕ) (set : LabelMap) → Matches ms set
     → MeetsAt ms positions set
 meets_all ms positions set all i m there at =
     AllByRecursion-at (λ n. condition_holds set n ≡ true) ms m
-    (each_passes (condition_holds set) ms all) (got_at ms i m at)
+    (each_passes (condition_holds set) ms all) (in_at ms i m at)
 
 module _ (rule : Rule) where
   -- ---- What inhibits.
@@ -276,29 +233,13 @@ module _ (rule : Rule) where
   inhibits_exactly : (x y : LabelMap) → IsTrue (inhibits rule x y)
       ↔ (IsTrue (have_equal rule.equal x y) × IsTrue (all_hold x rule.source)
       × IsTrue (all_hold y rule.target) × IsFalse (is_two_sided rule x && is_two_sided rule y))
-  inhibits_exactly x y =
-      let source = all_hold x rule.source in
-      let target = all_hold y rule.target in
-      let same = have_equal rule.equal x y in
-      let both = is_two_sided rule x && is_two_sided rule y in (
-        λ is.
-            let parts = and_parts (source && target && same) (not both) is in
-            let front = and_parts (source && target) same parts.0 in
-            let sides = and_parts source target front.0 in
-            (front.1, sides.0, sides.1, not-true both parts.1),
-        λ h.
-            and_from (source && target && same) (not both)
-            (and_from (source && target) same (and_from source target h.1 h.2) h.0) (ap not h.3),
-      )
+  inhibits_exactly x y = grind (arith, common_steps, and_parts, and_from, not-true)
 
   module _ (a : Alphabet) (s : Space) where
     none_inhibits : (SomeInhibit (MayMeet a s rule) rule → ⊥) → IsIdle a s rule
-    none_inhibits none x y first second = elim (cases_Bool (inhibits rule x y)) [
-      | inl is ↦
-          let h = (inhibits_exactly x y).0 is in
-          absurd (none (x, y, (first, second, h.0), h.1, h.2, h.3))
-      | inr is_not ↦ is_not
-    ]
+    none_inhibits none x y first second = false_from_ne_true (inhibits rule x y) (λ is.
+        let h = (inhibits_exactly x y).0 is in
+        none (x, y, (first, second, h.0), h.1, h.2, h.3))
 
     -- the reason why there are none shows that the rule is idle
     pub idle_by : (reason : IdleReason) → IsWhyNone (MayMeet a s rule) rule reason
@@ -321,14 +262,19 @@ module _ (rule : Rule) where
       abbrev made : Space
       made = space_of s.impossible u
 
-      abbrev lists : List (List Condition)
-      lists = rule.source ∷ rule.target ∷ []
-
       abbrev listed : List Condition
-      listed = listed_conditions lists
+      listed = listed_conditions (rule.source ∷ rule.target ∷ [])
 
-      abbrev MeetsListed : LabelMap → LabelMap → Type 0
-      MeetsListed set alert = MeetsTheSame listed set alert
+      -- a label set meets the same of the matchers of each side as an alert
+      abbrev IsLike : LabelMap → LabelMap → Type 0
+      IsLike set alert = MeetsTheSame rule.source set alert × MeetsTheSame rule.target set alert
+
+      sides_met : (set alert : LabelMap) → MeetsTheSame listed set alert → IsLike set alert
+      sides_met set alert met =
+          let targets = listed_conditions (rule.target ∷ []) in (
+            front_met set alert rule.source targets met,
+            front_met set alert rule.target [] (rest_met set alert rule.source targets met),
+          )
 
       alerts_meet : (x y : LabelMap) → AreMeeting made rule.equal x y → MayMeet a s rule x y
       alerts_meet x y (c, d, first, second, same, is, also) =
@@ -339,46 +285,37 @@ module _ (rule : Rule) where
           )
 
       sets_meet : (x y : LabelMap) → MayMeet a s rule x y
-          → (p : LabelMap) × (q : LabelMap) × AreMeeting made rule.equal p q × MeetsListed p x
-          × MeetsListed q y
+          → (p : LabelMap) × (q : LabelMap) × AreMeeting made rule.equal p q × IsLike p x
+          × IsLike q y
       sets_meet x y (first, second, equal) =
           let impossible = impossible_conditions s.impossible in
           let deciding = deciding_conditions s listed in
           let one = space_choice a made deciding x stands.universe stands.complete first in
           let two = space_choice a made deciding y stands.universe stands.complete second in
-          let c = one.0 in
           let e = partner u stands.universe rule.equal one.0 two.0 one.1 two.1 in
           let met = partner_met u stands.universe rule.equal one.0 two.0 one.1 two.1 x y equal
           deciding one.2 two.2 in
-          let p = label_set_of u c in
+          let p = label_set_of u one.0 in
           let q = label_set_of u e in
-          let whole = partner_whole u stands.universe rule.equal one.0 two.0 one.1 two.1 in
           let possible = same_possible p x s.impossible (rest_met p x listed impossible one.2) in
           let also = same_possible q y s.impossible (rest_met q y listed impossible met) in (
             p,
             q,
             (
-              c,
+              one.0,
               e,
               (one.1, possible ∙ first.1),
-              (whole, also ∙ second.1),
+              (
+                partner_whole u stands.universe rule.equal one.0 two.0 one.1 two.1,
+                also ∙ second.1,
+              ),
               partner_same u stands.universe rule.equal one.0 two.0 one.1 two.1,
               refl,
               refl,
             ),
-            front_met p x listed impossible one.2,
-            front_met q y listed impossible met,
+            sides_met p x (front_met p x listed impossible one.2),
+            sides_met q y (front_met q y listed impossible met),
           )
-
-      source_met : (set alert : LabelMap) → MeetsListed set alert
-          → MeetsTheSame rule.source set alert
-      source_met set alert met = front_met set alert rule.source (listed_conditions (rule.target ∷ [])) met
-
-      target_met : (set alert : LabelMap) → MeetsListed set alert
-          → MeetsTheSame rule.target set alert
-      target_met set alert met =
-          front_met set alert rule.target []
-          (rest_met set alert rule.source (listed_conditions (rule.target ∷ [])) met)
 
       some_over : (First Second : LabelMap → Type 0)
           → SomeMeet (AreMeeting made rule.equal) First Second
@@ -386,38 +323,20 @@ module _ (rule : Rule) where
       some_over First Second two =
           (two.0, two.1, alerts_meet two.0 two.1 two.2, two.3, two.4)
 
-      none_over : (First Second : LabelMap → Type 0) → IsToldBy rule.source First
-          → IsToldBy rule.target Second
-          → (SomeMeet (AreMeeting made rule.equal) First Second → ⊥)
-          → SomeMeet (MayMeet a s rule) First Second → ⊥
-      none_over First Second told also none two =
-          let r = sets_meet two.0 two.1 two.2 in
-          none (
-            r.0,
-            r.1,
-            r.2,
-            told r.0 two.0 (source_met r.0 two.0 r.3) two.3,
-            also r.1 two.1 (target_met r.1 two.1 r.4) two.4,
-          )
+      -- what no two label sets do that may meet, no two alerts do, if it passes from alerts to
+      -- label sets that are like them
+      none_over : (Do : LabelMap → LabelMap → Type 0)
+          → ((p q x y : LabelMap) → IsLike p x → IsLike q y → Do x y → Do p q)
+          → ((p q : LabelMap) → AreMeeting made rule.equal p q → Do p q → ⊥)
+          → (x y : LabelMap) → MayMeet a s rule x y → Do x y → ⊥
+      none_over Do told none x y meet they_do =
+          let r = sets_meet x y meet in
+          none r.0 r.1 r.2 (told r.0 r.1 x y r.3 r.4 they_do)
 
-      same_sides : (set alert : LabelMap) → MeetsListed set alert
+      same_sides : (set alert : LabelMap) → IsLike set alert
           → is_two_sided rule set ≡ is_two_sided rule alert
-      same_sides set alert met = λ i.
-          all_alike set alert rule.source (source_met set alert met) i
-          && all_alike set alert rule.target (target_met set alert met) i
-
-      no_inhibiting_over : (SomeInhibit (AreMeeting made rule.equal) rule → ⊥)
-          → SomeInhibit (MayMeet a s rule) rule → ⊥
-      no_inhibiting_over none two =
-          let r = sets_meet two.0 two.1 two.2 in
-          none (
-            r.0,
-            r.1,
-            r.2,
-            all_alike r.0 two.0 rule.source (source_met r.0 two.0 r.3) ∙ two.3,
-            all_alike r.1 two.1 rule.target (target_met r.1 two.1 r.4) ∙ two.4,
-            (λ i. same_sides r.0 two.0 r.3 i && same_sides r.1 two.1 r.4 i) ∙ two.5,
-          )
+      same_sides set alert like = λ i.
+          all_alike set alert rule.source like.0 i && all_alike set alert rule.target like.1 i
 
       why_over : (reason : IdleReason)
           → IsWhyNone (AreMeeting made rule.equal) rule reason
@@ -427,8 +346,12 @@ module _ (rule : Rule) where
         in_target = why.in_target;
         source_order = why.source_order;
         target_order = why.target_order;
-        enough = none_over (MeetsAt rule.source source.items) (MeetsAt rule.target target.items)
-            (meets_told rule.source source.items) (meets_told rule.target target.items) why.enough;
+        enough = λ (x, y, meet, first, second). none_over
+            (λ p q. MeetsAt rule.source source.items p × MeetsAt rule.target target.items q)
+            (λ p q x y as_first as_second met. (
+              λ i m there at. same_at rule.source p x i m as_first.0 at ∙ met.0 i m there at,
+              λ i m there at. same_at rule.target q y i m as_second.1 at ∙ met.1 i m there at,
+            )) (λ p q met so. why.enough (p, q, met, so.0, so.1)) x y meet (first, second);
         source_needed = λ i there.
             some_over (MeetsAtBut rule.source source.items i) (MeetsAt rule.target target.items)
             (why.source_needed i there);
@@ -436,8 +359,17 @@ module _ (rule : Rule) where
             some_over (MeetsAt rule.source source.items) (MeetsAtBut rule.target target.items i)
             (why.target_needed i there);
       }
-      why_over reason_is.Both why =
-          (some_over (Matches rule.source) (Matches rule.target) why.0, no_inhibiting_over why.1)
+      why_over reason_is.Both why = (
+        some_over (Matches rule.source) (Matches rule.target) why.0,
+        λ (x, y, meet, fires, mutes, apart). none_over
+            (λ p q. IsTrue (all_hold p rule.source) × IsTrue (all_hold q rule.target)
+            × IsFalse (is_two_sided rule p && is_two_sided rule q))
+            (λ p q x y first second they_do. (
+              all_alike p x rule.source first.0 ∙ they_do.0,
+              all_alike q y rule.target second.1 ∙ they_do.1,
+              (λ i. same_sides p x first i && same_sides q y second i) ∙ they_do.2,
+            )) (λ p q met so. why.1 (p, q, met, so.0, so.1, so.2)) x y meet (fires, mutes, apart),
+      )
 
       pub found_over : (finding : Option IdleReason)
           → IsFoundOf (AreMeeting made rule.equal) rule finding → IsRuleFinding a s rule finding

@@ -1,6 +1,6 @@
 -- What is found of a rule among the choices of a space. (This project's own.)
-use Rattle.std.specs.Prelude.{◌≡◌, ℕ, List, true, Option, Some, None, take, drop}
-use Rattle.std.specs.List.{AllByRecursion, AllZip, filter_map}
+use Rattle.std.specs.Prelude.{◌≡◌, ℕ, List, true, Option, Some, None, take, drop, map}
+use Rattle.std.specs.List.{AllByRecursion, AllZip, filter, filter_map, enumerate_from}
 use Rattle.am_universe.specs.Universe.{Label, label_position, sizes}
 use Rattle.am_universe.specs.Choice.{IsWhole}
 use Rattle.am_universe.specs.LabelSet.{LabelMap, label_set_of}
@@ -14,7 +14,6 @@ use Rattle.am_first_sets.specs.declared.pairs.Pairs.{Pairs}
 use Rattle.am_judged_lists.specs.declared.pairs.Side.{Side}
 use Rattle.am_first_sets.specs.Pairs.{pair_choices, side_of}
 use Rattle.am_first_sets.specs.PossibleChoices.{IsPossible}
-use Rattle.am_eval.specs.Silencing.{positions_where}
 use Rattle.am_idle.specs.declared.rules.IdleReason.{IdleReason}
 use Rattle.am_idle.specs.declared.rules.IdleReason.TheVariants as reason_is
 use Rattle.am_idle.specs.Rules.{SomeInhibit, IsWhyNone}
@@ -58,10 +57,13 @@ AreWantedFor cubes ks = AllZip (λ cube k. (k.cube.now ≡ cube) × (k.wanted �
 abbrev pub AreAllNamed : List Candidate → Type 0
 AreAllNamed ks = AllByRecursion (λ k. k.named ≡ true) ks
 
+-- The positions of the literals that are named, in order.
+abbrev pub named_of : List Candidate → List ℕ
+named_of ks = map (λ p. p.0) (filter (λ p. p.1.named) (enumerate_from 0 ks))
+
 -- A reason names the positions of the named literals: of those among the first `n` literals for the
 -- source side, and of those among the others for the target side.
 abbrev pub AreNamedIn : ℕ → List Candidate → IdleReason → Type 0
 AreNamedIn n ks (reason_is.Contradiction source target) =
-    (source.items ≡ positions_where (λ k. k.named) 0 (take n ks))
-    × (target.items ≡ positions_where (λ k. k.named) 0 (drop n ks))
+    (source.items ≡ named_of (take n ks)) × (target.items ≡ named_of (drop n ks))
 AreNamedIn n ks reason_is.Both = ⊥

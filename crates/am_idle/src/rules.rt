@@ -77,9 +77,8 @@ fn reason_in(alloc: Global, space: &Space, rule: &Rule) -> Result<Option<IdleRea
     let possible = PossibleSets::of(alloc, space)?;
     let shared = labels_named(alloc, universe, rule.equal())?;
     let pairs = Pairs::of(alloc, &possible, shared.as_slice())?;
-    let reason = why_contradicting(alloc, &pairs, universe, rule)?;
-    if reason.is_some() {
-        return Ok(reason);
+    if let Some(reason) = why_contradicting(alloc, &pairs, universe, rule)? {
+        return Ok(Some(reason));
     }
     let source = Cube::of(alloc, rule.source(), universe)?;
     let target = Cube::of(alloc, rule.target(), universe)?;

@@ -1,11 +1,11 @@
 //! The two sides of a rule, as literals over the pairs of label sets of a space.
 
-ghost use Rattle.std.specs.Prelude.{◌≡◌, ◌≤◌, ◌++◌, List, IfOk, IfSome, IfNone, OnOk, IsTrue};
-ghost use Rattle.std.specs.Prelude.{length, false};
+ghost use Rattle.std.specs.Prelude.{◌≡◌, ◌≤◌, ◌↔◌, ◌++◌, List, IfOk, IfSome, IfNone, OnOk, IsTrue};
+ghost use Rattle.std.specs.Prelude.{length, string_bytes};
+ghost use Rattle.std.specs.List.{filter_map};
+ghost use Rattle.am_universe.specs.Universe.{label_position};
 ghost use Rattle.am_labels.specs.Space.{Space};
 ghost use Rattle.am_config.specs.ConfigFile.{Rule};
-ghost use Rattle.am_config.specs.RouteView.{names_of};
-ghost use Rattle.am_eval.specs.Silencing.{positions_where};
 ghost use Rattle.am_judged_lists.specs.Cube.{IsCubeOf};
 ghost use Rattle.am_first_sets.specs.declared.candidate.Candidate.{Candidate};
 ghost use Rattle.am_first_sets.specs.Literals.{IsMet};
@@ -13,7 +13,7 @@ ghost use Rattle.am_first_sets.specs.Pairs.{ArePairsOf};
 ghost use Rattle.am_first_sets.specs.PossibleChoices.{IsPossible};
 ghost use Rattle.am_first_sets.specs.Reason.{AreSameLiterals, IsReason};
 ghost use Rattle.am_idle.specs.RuleChoices.{labels_named, AreMeeting, AreCubesOfMatchers};
-ghost use Rattle.am_idle.specs.RuleChoices.{AreWantedFor, AreAllNamed, AreNamedIn};
+ghost use Rattle.am_idle.specs.RuleChoices.{AreWantedFor, AreAllNamed, AreNamedIn, named_of};
 ghost use Rattle.am_idle.specs.Rules.{SomeMeet, SomeInhibit, Matches, IsWhyNone};
 
 use crate::rules::IdleReason;
@@ -31,16 +31,13 @@ pub(crate) fn labels_named(
     universe: &Universe,
     names: &[String],
 ) -> Result<Vec<usize>, AllocError>
-    ensures { IfOk result (λ labels.
-        labels.items ≡ labels_named universe.now (names_of names.now)) }
+    ensures { IfOk result (λ labels. labels.items
+        ≡ filter_map (λ name. label_position universe.now (string_bytes name)) names.now) }
 {
-    let mut labels = Vec::with_capacity(alloc, names.len())?;
-    for name in names {
-        if let Some(label) = universe.position(name.as_str()) {
-            labels.push(label)?;
-        }
-    }
-    Ok(labels)
+    names
+        .iter()
+        .filter_map(|name| universe.position(name.as_str()))
+        .collect(alloc)
 }
 
 /// Finds which matchers of the two sides of a rule contradict each other. Returns `None` if some
@@ -64,8 +61,8 @@ pub(crate) fn why_contradicting(
     let target = cubes_of_matchers(alloc, pairs, Side::Second, universe, rule.target())?;
     let mut literals = Vec::new(alloc);
     push_literals(&mut literals, source.as_slice())?;
-    let sources = literals.len();
     push_literals(&mut literals, target.as_slice())?;
+    let sources = rule.source().len();
     contradiction_of(alloc, pairs.choices(), &mut literals, sources)
 }
 
@@ -135,16 +132,14 @@ fn push_literals<'a>(literals: &mut Vec<Candidate<'a>>, cubes: &'a [Cube]) -> Re
 
 /// Returns the positions of the literals that are named. Fails only if memory runs out.
 fn named_positions(alloc: Global, literals: &[Candidate<'_>]) -> Result<Vec<usize>, AllocError>
-    ensures { IfOk result (λ positions.
-        positions.items ≡ positions_where (λ k. k.named) 0 literals.now) }
+    ensures { IfOk result (λ positions. positions.items ≡ named_of literals.now) }
 {
-    let mut positions = Vec::with_capacity(alloc, literals.len())?;
-    for (i, literal) in literals.iter().enumerate() {
-        if literal.named {
-            positions.push(i)?;
-        }
-    }
-    Ok(positions)
+    literals
+        .iter()
+        .enumerate()
+        .filter(|(_, literal)| literal.named)
+        .map(|(i, _)| i)
+        .collect(alloc)
 }
 
 /// Whether some pair of label sets matches one side each, and not both of them match both sides.
@@ -155,14 +150,10 @@ pub(crate) fn has_inhibiting(
     source: &Cube,
     target: &Cube,
 ) -> Result<bool, AllocError>
-    ensures some { IfOk result (λ has. (s : Space) (rule : Rule)
+    ensures { IfOk result (λ has. (s : Space) (rule : Rule)
         → IsCubeOf s.labels rule.source source.now → IsCubeOf s.labels rule.target target.now
         → ArePairsOf s (labels_named s.labels rule.equal) pairs.now
-        → IsTrue has → SomeInhibit (AreMeeting s rule.equal) rule) }
-    ensures none { IfOk result (λ has. (s : Space) (rule : Rule)
-        → IsCubeOf s.labels rule.source source.now → IsCubeOf s.labels rule.target target.now
-        → ArePairsOf s (labels_named s.labels rule.equal) pairs.now
-        → has ≡ false → SomeInhibit (AreMeeting s rule.equal) rule → ⊥) }
+        → IsTrue has ↔ SomeInhibit (AreMeeting s rule.equal) rule) }
 {
     let in_source = pairs.cube(alloc, Side::First, source)?;
     let in_target = pairs.cube(alloc, Side::Second, target)?;

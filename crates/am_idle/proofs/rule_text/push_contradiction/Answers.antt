@@ -1,9 +1,9 @@
-use Rattle.std.proofs.Common.{ℕ, List, ◌++◌, codes, string_bytes, ap, sym, ◌∙◌}
+use Rattle.std.proofs.Common.{◌≡◌, ℕ, List, ◌++◌, codes, string_bytes, ap, sym, ◌∙◌, append_assoc}
 use Rattle.std.proofs.lemmas.Result.{on_ok_weaker}
 use Rattle.am_labels.specs.Matcher.{Condition}
-use Rattle.am_report_texts.proofs.PieceSteps.{one_put}
+use Rattle.am_report_texts.proofs.PieceSteps.{one_put, last_put}
 use Rattle.am_idle.specs.RuleText.{matchers_text_at}
-use Rattle.am_idle.proofs.RuleTextSteps.{target_named, both_put}
+use Rattle.am_idle.proofs.RuleTextSteps.{target_named, both_named}
 use Rattle.am_idle.proofs.rule_text.push_contradiction.Goals as goal
 
 pub returns-then-is_empty : goal.returns-then-is_empty
@@ -22,12 +22,22 @@ returns-then-is_empty c =
 
 pub returns : goal.returns
 returns c =
-    both_put c.push_str-4.result c.args.rule.now c.args.source.now c.args.target.now
-    c.source-2.result.now c.target-2.result.now (string_bytes c.args.text.now)
-    (string_bytes c.push_str-2.new.self) (string_bytes c.push_matchers_at-2.new.text)
-    (string_bytes c.push_str-3.new.self) (string_bytes c.push_matchers_at-3.new.text) _
+    let rule = c.args.rule.now in
+    let old = string_bytes c.args.text.now in
+    let first = matchers_text_at rule.source c.args.source.now in
+    let second = matchers_text_at rule.target c.args.target.now in
+    let line : List ℕ = codes "source " ++ (first ++ (codes " and target " ++ second)) in
+    let end : List ℕ = codes " exclude each other through equal" in
+    let so_far : string_bytes c.push_matchers_at-3.new.text ≡ old ++ line =
+    rw (
+      c.in_ok-push_matchers_at-2.ensures,
+      c.in_ok-push_str-4.ensures.bytes,
+      c.in_ok-push_matchers_at.ensures,
+      c.in_ok-push_str-3.ensures.bytes,
+      c.source-2.ensures.source,
+      c.target-2.ensures.target,
+    ) (simp append_assoc) in
+    last_put c.push_str-4.result old line end _ _ _ c.push_str-4.ensures.bytes so_far
+    (rw (both_named rule c.args.source.now c.args.target.now
     (sym c.is_empty.ensures ∙ c.if-is_empty.false)
-    (sym c.is_empty-2.ensures ∙ c.if-is_empty-3.false)
-    c.source-2.ensures.source c.target-2.ensures.target c.in_ok-push_str-3.ensures.bytes
-    c.in_ok-push_matchers_at.ensures c.in_ok-push_str-4.ensures.bytes
-    c.in_ok-push_matchers_at-2.ensures c.push_str-4.ensures.bytes
+    (sym c.is_empty-2.ensures ∙ c.if-is_empty-3.false)) (simp append_assoc))

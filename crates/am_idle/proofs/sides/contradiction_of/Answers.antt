@@ -1,9 +1,8 @@
 use Rattle.std.proofs.Common.{◌-◌, sym, ap, ◌∙◌, arith, length, drop, length-drop}
 use Rattle.std.proofs.lemmas.List.{take_all}
-use Rattle.am_eval.specs.Silencing.{positions_where}
-use Rattle.am_first_sets.specs.declared.candidate.Candidate.{Candidate}
 use Rattle.am_first_sets.specs.PossibleChoices.{IsPossible}
 use Rattle.am_first_sets.proofs.ReasonLemmas.{met_if, unmet_if}
+use Rattle.am_idle.specs.RuleChoices.{named_of}
 use Rattle.am_idle.proofs.sides.contradiction_of.Goals as goal
 
 pub returns-then-is_some-clause-none : goal.returns-then-is_some-clause-none
@@ -29,7 +28,7 @@ returns-clause-some c =
       (
         c.in_ok-source.ensures,
         c.in_ok-target.ensures
-            ∙ ap (positions_where (λ (k : Candidate). k.named) 0)
+            ∙ ap named_of
             (take_all (length ks - n) (drop n ks) (omega (arith, length-drop n ks))),
       ),
     )
