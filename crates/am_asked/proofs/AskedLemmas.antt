@@ -1,5 +1,6 @@
 -- The labels that are gathered from matchers are those that the matchers ask about.
-use Rattle.std.proofs.Common.{◌≡◌, ◌≢◌, ℕ, Bool, true, List, [], ◌∷◌, ◌++◌, map, fold, Contains, refl}
+use Rattle.std.proofs.lemmas.Grind.{common_steps}
+use Rattle.std.proofs.Common.{arith, ◌≡◌, ◌≢◌, ℕ, Bool, true, List, [], ◌∷◌, ◌++◌, map, fold, Contains, refl}
 use Rattle.std.proofs.Common.{◌||◌, sym, ap, ◌∙◌, subst, inl, inr, append_assoc}
 use Rattle.std.specs.List.{IsDistinct, list_any, filter}
 use Rattle.std.specs.Cmp.Lexicographic.{bytes_decides}
@@ -41,10 +42,7 @@ stays : (m : Condition) (ms : List Condition) (l : AskedLabel) → m.name ≢ l.
     → HasThoseOn ms l → HasThoseOn (ms ++ m ∷ []) l
 stays m ms l other h = record {
   there = λ x i. (IsIn-left ms (m ∷ []) x (h.there x i).0, (h.there x i).1);
-  back = λ x i on. elim (in_pushed ms m x i) [
-    | inl before ↦ h.back x before on
-    | inr last ↦ absurd (other (ap (λ n. n.name) last ∙ on))
-  ];
+  back = λ x i on. grind (arith, common_steps, in_pushed, h.back);
 }
 
 -- the label with its name has the matcher too, once
@@ -56,40 +54,25 @@ gains_it m ms l named h = elim (cases_Bool (list_any (asks_same m) l.matchers)) 
       let is = equal_is m found.0 (named ∙ sym (h.there found.0 found.1).1) found.2 in
       rw some (record {
         there = λ x i. (IsIn-left ms (m ∷ []) x (h.there x i).0, (h.there x i).1);
-        back = λ x i on. elim (in_pushed ms m x i) [
-          | inl before ↦ h.back x before on
-          | inr last ↦ subst (IsIn l.matchers) (sym is ∙ last) found.1
-        ];
+        back = λ x i on. grind (arith, common_steps, in_pushed, h.back, found.1, is);
       })
   | inr none ↦
       rw none (record {
-        there = λ x i. elim (in_pushed l.matchers m x i) [
-          | inl before ↦ (IsIn-left ms (m ∷ []) x (h.there x before).0, (h.there x before).1)
-          | inr last ↦ (IsIn-right ms (m ∷ []) x (inl last), ap (λ n. n.name) (sym last) ∙ named)
-        ];
-        back = λ x i on. elim (in_pushed ms m x i) [
-          | inl before ↦ IsIn-left l.matchers (m ∷ []) x (h.back x before on)
-          | inr last ↦ IsIn-right l.matchers (m ∷ []) x (inl last)
-        ];
+        there = λ x i. grind (arith, common_steps, in_pushed, h.there, IsIn-left, IsIn-right, named);
+        back = λ x i on. grind (arith, common_steps, in_pushed, h.back, IsIn-left, IsIn-right);
       })
 ]
 
 gains : (m : Condition) (ms : List Condition) (l : AskedLabel) → HasThoseOn ms l
     → HasThoseOn (ms ++ m ∷ []) (and_asked m l)
 gains m ms l h =
-    let names = bytes_decides l.name m.name in
-    elim (cases_Bool (same_text l.name m.name)) [
-      | inl same ↦ rw same (gains_it m ms l (sym (names.0 same)) h)
-      | inr other ↦ rw other (stays m ms l (λ named. both_ways _ other (names.1 (sym named))) h)
-    ]
+    grind (arith, common_steps, cases_Bool, bytes_decides l.name m.name, gains_it, stays, h)
 
 names_stay : (m : Condition) (labels : List AskedLabel)
     → asked_names (map (and_asked m) labels) ≡ asked_names labels
 names_stay m [] = refl
-names_stay m (l ∷ labels) = elim (cases_Bool (same_text l.name m.name)) [
-  | inl same ↦ rw same (λ i. with_matcher_name m l i ∷ names_stay m labels i)
-  | inr other ↦ rw other (λ i. l.name ∷ names_stay m labels i)
-]
+names_stay m (l ∷ labels) =
+    grind (arith, common_steps, cases_Bool, with_matcher_name, names_stay m labels)
 
 step : (labels : List AskedLabel) (ms : List Condition) (origin : Origin) (m : Condition)
     → Gathers labels ms → Gathers (with_asked labels (origin, m)) (ms ++ m ∷ [])
@@ -107,11 +90,7 @@ step labels ms origin m h =
             matchers = λ l i.
                 let k = IsIn-unmap (and_asked m) labels l i in
                 subst (HasThoseOn (ms ++ m ∷ [])) k.2 (gains m ms k.0 (h.matchers k.0 k.1));
-            every = λ x i. subst (λ (ks : List (List ℕ)). IsIn ks x.name)
-                (sym (names_stay m labels)) (elim (in_pushed ms m x i) [
-                  | inl before ↦ h.every x before
-                  | inr last ↦ subst (λ (y : Condition). IsIn ns y.name) last here
-                ]);
+            every = λ x i. grind (arith, common_steps, in_pushed, h.every, names_stay, here);
           })
       | inr none ↦
           let new = label_of (origin, m) in
@@ -123,12 +102,7 @@ step labels ms origin m h =
               | inl is ↦ (IsIn-right ms (m ∷ []) x (inl is), ap (λ n. n.name) (sym is))
               | inr never ↦ absurd never
             ];
-            back = λ x i on. elim (in_pushed ms m x i) [
-              | inl before ↦
-                  let k = IsIn-unmap (λ l. l.name) labels x.name (h.every x before) in
-                  absurd (other k.0 k.1 (sym on ∙ sym k.2))
-              | inr last ↦ inl last
-            ];
+            back = λ x i on. grind (arith, common_steps, in_pushed, h.every, IsIn-unmap, other, on);
           } in
           rw none (record {
             distinct = subst (IsDistinct same_text) (sym names)
@@ -137,11 +111,8 @@ step labels ms origin m h =
               | inl before ↦ stays m ms l (other l before) (h.matchers l before)
               | inr last ↦ subst (HasThoseOn (ms ++ m ∷ [])) last first
             ];
-            every = λ x i. subst (λ (ks : List (List ℕ)). IsIn ks x.name) (sym names)
-                (elim (in_pushed ms m x i) [
-                  | inl before ↦ IsIn-left ns (m.name ∷ []) x.name (h.every x before)
-                  | inr last ↦ IsIn-right ns (m.name ∷ []) x.name (inl (ap (λ n. n.name) last))
-                ]);
+            every = λ x i.
+                grind (arith, common_steps, in_pushed, h.every, IsIn-left, IsIn-right, names);
           })
     ]
   where
@@ -149,8 +120,7 @@ step labels ms origin m h =
         → list_any (λ n. same_text n name) (asked_names labels)
         ≡ list_any (λ l. same_text l.name name) labels
     any_named name [] = refl
-    any_named name (l ∷ labels) =
-        ap (λ b. same_text l.name name || b) (any_named name labels)
+    any_named name (l ∷ labels) = ap (λ b. same_text l.name name || b) (any_named name labels)
 
 -- ---- All of them.
 

@@ -1,6 +1,7 @@
 -- The matchers that `equal` stands for are those of the pairs of a world, in the same order.
 use Rattle.std.proofs.Common.{◌≡◌, inl, inr, ℕ, ◌+◌, List, [], ◌∷◌, ◌++◌, Some}
-use Rattle.std.proofs.Common.{map, refl, ap, ◌∙◌}
+use Rattle.std.proofs.Common.{map, refl, ap, ◌∙◌, arith}
+use Rattle.std.proofs.lemmas.Grind.{common_steps}
 use Rattle.std.proofs.Common.{String, string_bytes}
 use Rattle.std.specs.Prelude.{slice_get}
 use Rattle.std.specs.declared.alloc.Global.{Global}
@@ -68,10 +69,7 @@ by_rule w rule at_rule from [] each = refl
 by_rule w rule at_rule from (a ∷ left) each =
     let here = at_pair w rule (from, a) at_rule (each (from, a) (inl refl)) in
     let later = by_rule w rule at_rule (from + 1) left (λ b h. each b (inr h)) in
-    elim (cases_Bool (all_hold a rule.1.source)) [
-      | inl fires ↦ rw (fires, here, later) refl
-      | inr quiet ↦ rw (quiet, later) refl
-    ]
+    grind (arith, common_steps, cases_Bool, here, later)
 
 -- what numbered items give may be joined in one step or in two
 joined : {X Y Z : Type 0} (f : ℕ × X → List Z) (g : Y → List Z) (h : ℕ × X → List Y) (from : ℕ)

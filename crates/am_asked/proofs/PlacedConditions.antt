@@ -1,9 +1,9 @@
 -- The placed matchers, without their origins, are the matchers that decide.
 use Rattle.std.proofs.Common.{◌≡◌, ℕ, ◌+◌, Bool, List, [], ◌∷◌, ◌++◌, map, refl, sym, ap, ◌∙◌, subst}
-use Rattle.std.proofs.Common.{inl, inr}
+use Rattle.std.proofs.Common.{arith}
 use Rattle.std.specs.List.{flat_map, filter, enumerate_from}
 use Rattle.std.proofs.lemmas.Bool.{cases_Bool}
-use Rattle.std.proofs.lemmas.Grind.{flat_map-append}
+use Rattle.std.proofs.lemmas.Grind.{flat_map-append, common_steps}
 use Rattle.std.proofs.lemmas.List.{map-append}
 use Rattle.std.proofs.lemmas.List.Elements.{filter-append}
 use Rattle.am_universe.specs.LabelSet.{LabelMap}
@@ -52,10 +52,7 @@ at_one_place origin ms = record { same = ap (filter is_named) (without_origin or
 filter_twice : {X : Type 0} (test : X → Bool) (xs : List X)
     → filter test (filter test xs) ≡ filter test xs
 filter_twice test [] = refl
-filter_twice test (x ∷ xs) = elim (cases_Bool (test x)) [
-  | inl passes ↦ rw (passes, passes) (ap (λ rest. x ∷ rest) (filter_twice test xs))
-  | inr fails ↦ rw fails (filter_twice test xs)
-]
+filter_twice test (x ∷ xs) = grind (arith, common_steps, cases_Bool, filter_twice test xs)
 
 named_at : (origin : Origin) (ms : List Condition)
     → Places (placed_at origin (filter is_named ms)) ms
