@@ -1,9 +1,10 @@
 -- The values that alerts have for a label, alert by alert, and what the code asks of a set of them.
 use Rattle.std.proofs.Common.{◌≡◌, ℕ, ◌+◌, List, [], ◌∷◌, refl, sym, ap, ◌∙◌, Bool, true, false}
-use Rattle.std.proofs.Common.{Some, take, map, fold, length, Bor, not, inl, inr, ◌≢◌}
+use Rattle.std.proofs.Common.{Some, take, map, fold, length, Bor, not, arith, ◌≢◌}
 use Rattle.std.specs.Prelude.{slice_get}
 use Rattle.std.specs.List.{filter, list_any}
 use Rattle.std.proofs.lemmas.Bool.{cases_Bool}
+use Rattle.std.proofs.lemmas.Grind.{common_steps}
 use Rattle.std.proofs.lemmas.List.{map_push}
 use Rattle.std.proofs.lemmas.List.Elements.{filter-append}
 use Rattle.std.proofs.lemmas.List.Sums.{fold-append}
@@ -46,33 +47,25 @@ value_more alerts name i a texts more at some put so_far =
 
 -- ---- A set.
 
-module _ (eq : Bor (List ℕ) → Bor (List ℕ) → Bool)
-    (same : (a b : Bor (List ℕ)) → eq a b ≡ same_text a.now b.now) where
-  any_text : (keys : List (Bor (List ℕ))) (k : Bor (List ℕ))
-      → list_any (eq k) keys ≡ list_any (same_text k.now) (map (λ t. t.now) keys)
-  any_text [] k = refl
-  any_text (x ∷ keys) k = rw (same k x, any_text keys k) refl
-
-  -- one more text
-  pub texts_inserted : (keys : List (Bor (List ℕ))) (k : Bor (List ℕ))
-      → map (λ t. t.now) (insert_key eq keys k) ≡ with_text (map (λ t. t.now) keys) k.now
-  texts_inserted keys k = elim (cases_Bool (list_any (eq k) keys)) [
-    | inl some ↦
-        let there : list_any (same_text k.now) (map (λ t. t.now) keys) ≡ true =
-        sym (any_text keys k) ∙ some in
-        rw (some, there) refl
-    | inr none ↦
-        let absent : list_any (same_text k.now) (map (λ t. t.now) keys) ≡ false =
-        sym (any_text keys k) ∙ none in
-        rw (none, absent) (map_push (λ (t : Bor (List ℕ)). t.now) keys k)
-  ]
-
 -- whether a set has a text
 pub text_there : (test : Bor (List ℕ) → Bool) (text : List ℕ)
     → ((k : Bor (List ℕ)) → test k ≡ same_text text k.now) → (keys : List (Bor (List ℕ)))
     → list_any test keys ≡ list_any (same_text text) (map (λ t. t.now) keys)
 text_there test text same [] = refl
 text_there test text same (k ∷ keys) = rw (same k, text_there test text same keys) refl
+
+module _ (eq : Bor (List ℕ) → Bor (List ℕ) → Bool)
+    (same : (a b : Bor (List ℕ)) → eq a b ≡ same_text a.now b.now) where
+  -- one more text
+  pub texts_inserted : (keys : List (Bor (List ℕ))) (k : Bor (List ℕ))
+      → map (λ t. t.now) (insert_key eq keys k) ≡ with_text (map (λ t. t.now) keys) k.now
+  texts_inserted keys k = grind (
+    arith,
+    common_steps,
+    cases_Bool,
+    text_there (eq k) k.now (same k) keys,
+    map_push (λ (t : Bor (List ℕ)). t.now) keys k,
+  )
 
 -- a text that is missing, and one that is not
 pub none_missing : (text : List ℕ) (texts : List (Bor (List ℕ))) → length texts ≡ 0

@@ -1,11 +1,13 @@
 -- What holds for a matcher that names an unseen value, and for the most similar value.
 use Rattle.std.proofs.Common.{◌≡◌, ◌≢◌, ◌≤◌, ◌<◌, ℕ, List, [], ◌∷◌, refl, sym, ap, ◌∙◌, Bool, true}
-use Rattle.std.proofs.Common.{false, ◌&&◌, inl, inr, Some, None, Contains, map}
+use Rattle.std.proofs.Common.{false, ◌&&◌, inl, inr, Some, None, Contains, map, arith}
 use Rattle.std.specs.Prelude.{IsTrue, nat_le}
 use Rattle.std.specs.List.{AllByRecursion, filter, list_any}
 use Rattle.std.specs.Cmp.Lexicographic.{bytes_decides}
 use Rattle.std.proofs.lemmas.Bool.{and_parts, and_from, not-true, not_from_false, leb-true}
 use Rattle.std.proofs.lemmas.Bool.{false_from_ne_true, both_ways}
+use Rattle.std.proofs.lemmas.Grind.{common_steps}
+use Rattle.am_universe.proofs.LabelSetLemmas.{same_text-itself}
 use Rattle.am_universe.specs.LabelSet.{LabelMap, value_of}
 use Rattle.am_universe.specs.Text.{same_text}
 use Rattle.am_universe.proofs.ListLemmas.{IsIn, IsIn-map, IsIn-unmap, Contains-from_IsIn}
@@ -52,9 +54,7 @@ missing_not_in : (text : List ℕ) (texts : List (List ℕ)) → is_missing text
     → IsIn texts text → ⊥
 missing_not_in text [] h i = absurd i
 missing_not_in text (t ∷ ts) h i =
-    both_ways (list_any (same_text text) (t ∷ ts))
-    (not-true (list_any (same_text text) (t ∷ ts)) h)
-    (in_any (same_text text) (t ∷ ts) text i ((bytes_decides text text).1 refl))
+    grind (arith, common_steps, not-true, in_any (same_text text) (t ∷ ts) text i, same_text-itself text)
 
 missing_some : (text : List ℕ) (texts : List (List ℕ)) → is_missing text texts ≡ true
     → (t : List ℕ) × IsIn texts t
@@ -68,8 +68,7 @@ not_in_missing text (x ∷ xs) t i none =
     not_from_false (list_any (same_text text) (x ∷ xs))
     (false_from_ne_true (list_any (same_text text) (x ∷ xs)) (λ some.
     let r = any_in (same_text text) (x ∷ xs) some in
-    let same : text ≡ r.0 = (bytes_decides text r.0).0 r.2 in
-    none (rw same r.1)))
+    none (rw ((bytes_decides text r.0).0 r.2) r.1)))
 
 -- ---- A matcher.
 
@@ -77,10 +76,7 @@ not_in_missing text (x ∷ xs) t i none =
 parts : (alerts : List LabelMap) (m : Condition) → IsTrue (names_unseen_value alerts m)
     → (is_equality m.op ≡ true) × (begins m.value ≡ true)
     × (is_missing m.value (seen_values alerts m.name) ≡ true)
-parts alerts m h =
-    let missing = is_missing m.value (seen_values alerts m.name) in
-    let first = and_parts (is_equality m.op) (begins m.value && missing) h in
-    let second = and_parts (begins m.value) missing first.1 in (first.0, second.0, second.1)
+parts alerts m h = grind (arith, common_steps, and_parts)
 
 pub unseen_matches_none : (alerts : List LabelMap) (m : Condition)
     → IsTrue (names_unseen_value alerts m)
