@@ -44,11 +44,11 @@ impl<'a> Asked<'a> {
             return Err(Problem::said(alloc, "this command line asks no question"));
         };
         Ok(Asked {
-            universe: read_file(files, line.files.universe.unwrap_or(""))?,
-            config: read_if_any(files, line.files.config)?,
-            silences: read_if_any(files, line.files.silences)?,
-            alerts: read_if_any(files, line.files.alerts)?,
-            at: line.files.at,
+            universe: read_file(files, line.universe.unwrap_or(""))?,
+            config: read_if_any(files, line.config)?,
+            silences: read_if_any(files, line.silences)?,
+            alerts: read_if_any(files, line.alerts)?,
+            at: line.at,
             question,
             after,
         })

@@ -12,5 +12,5 @@ mod help;
 mod steps;
 mod table;
 
-pub use command_line::{CommandLine, InputFiles, Request, parse_command_line};
+pub use command_line::{Call, CommandLine, Request, parse_command_line};
 pub use steps::{MIN_STEPS, Steps};

@@ -3,16 +3,16 @@
 ghost use Rattle.std.specs.Prelude.{IfOk, string_bytes};
 ghost use Rattle.am_notes.specs.NoteText.{AreNoteLines};
 
-use crate::Call;
 use crate::likeness::Likeness;
 use crate::matchers::add_set_matchers;
 use crate::notes::Notes;
 use crate::questions::{add_question, asks_of_routes};
 use crate::universes::add_incomplete;
-use am_command_line::Request;
-use am_config::read_config;
+use am_command_line::{Call, Request};
+use am_config::{Config, read_config};
+use am_files::Files;
 use am_json::read_json;
-use am_labels::parse_matchers;
+use am_labels::{Space, parse_matchers};
 use am_list_files::read_universe;
 use am_questions::parse_question;
 use std::alloc::{AllocError, Global};
@@ -27,9 +27,12 @@ pub fn notes_of_answer(alloc: Global, call: &Call<'_>) -> Result<String, AllocEr
 {
     let mut notes = Notes::none(alloc);
     add_groups(alloc, &mut notes, call)?;
-    match call.request {
+    match &call.request {
         Request::Ask { question, .. } => add_ask(alloc, &mut notes, call, question)?,
-        Request::Dead | Request::Receivers => add_report(alloc, &mut notes, call)?,
+        Request::Dead | Request::Receivers => {
+            let (space, config) = (space_of(alloc, call)?, config_of(alloc, call)?);
+            add_incomplete(alloc, &mut notes, &space, &config)?;
+        }
         Request::Compare { .. } => add_compare(alloc, &mut notes, call)?,
         Request::Explain { set } => add_explain(alloc, &mut notes, set.as_slice())?,
         Request::Alerts { question } => add_alerts(alloc, &mut notes, call, *question)?,
@@ -40,12 +43,10 @@ pub fn notes_of_answer(alloc: Global, call: &Call<'_>) -> Result<String, AllocEr
 
 /// Adds a note if the alerts file has groups of alerts.
 fn add_groups(alloc: Global, notes: &mut Notes, call: &Call<'_>) -> Result<(), AllocError> {
-    let Some(bytes) = call.files.alerts else {
+    let Some(bytes) = &call.alerts else {
         return Ok(());
     };
-    let Ok(value) = read_json(alloc, bytes) else {
-        return Err(AllocError);
-    };
+    let value = read_json(alloc, bytes.as_slice()).map_err(|_| AllocError)?;
     if Likeness::of(&value) == Some(Likeness::Groups) {
         notes.add_str(alloc, GROUPS)?;
     }
@@ -54,14 +55,11 @@ fn add_groups(alloc: Global, notes: &mut Notes, call: &Call<'_>) -> Result<(), A
 
 /// Adds a note if the old and the new file have the same bytes.
 fn add_compare(alloc: Global, notes: &mut Notes, call: &Call<'_>) -> Result<(), AllocError> {
-    if call.old == call.new {
+    if call.old.as_deref() == call.new.as_deref() {
         notes.add_str(alloc, "--old and --new are the same file, byte for byte")?;
     }
     Ok(())
 }
-
-// A call that is done has read its inputs before, so reading them again fails only if memory runs
-// out.
 
 fn add_ask(
     alloc: Global,
@@ -69,37 +67,13 @@ fn add_ask(
     call: &Call<'_>,
     text: &str,
 ) -> Result<(), AllocError> {
-    let Ok(space) = read_universe(alloc, call.universe) else {
-        return Err(AllocError);
-    };
-    let Ok(config) = read_config(alloc, call.files.config()) else {
-        return Err(AllocError);
-    };
-    let Ok(question) = parse_question(alloc, text, &config) else {
-        return Err(AllocError);
-    };
-    add_question(
-        alloc,
-        notes,
-        &call.files,
-        text,
-        Some(space.universe()),
-        &question,
-    )?;
+    let (space, config) = (space_of(alloc, call)?, config_of(alloc, call)?);
+    let question = parse_question(alloc, text, &config).map_err(|_| AllocError)?;
+    add_question(alloc, notes, call, text, Some(space.universe()), &question)?;
     if asks_of_routes(&question) {
         add_incomplete(alloc, notes, &space, &config)?;
     }
     Ok(())
-}
-
-fn add_report(alloc: Global, notes: &mut Notes, call: &Call<'_>) -> Result<(), AllocError> {
-    let Ok(space) = read_universe(alloc, call.universe) else {
-        return Err(AllocError);
-    };
-    let Ok(config) = read_config(alloc, call.files.config()) else {
-        return Err(AllocError);
-    };
-    add_incomplete(alloc, notes, &space, &config)
 }
 
 fn add_alerts(
@@ -111,13 +85,9 @@ fn add_alerts(
     let Some(text) = question else {
         return Ok(());
     };
-    let Ok(config) = read_config(alloc, call.files.config()) else {
-        return Err(AllocError);
-    };
-    let Ok(question) = parse_question(alloc, text, &config) else {
-        return Err(AllocError);
-    };
-    add_question(alloc, notes, &call.files, text, None, &question)
+    let config = config_of(alloc, call)?;
+    let question = parse_question(alloc, text, &config).map_err(|_| AllocError)?;
+    add_question(alloc, notes, call, text, None, &question)
 }
 
 fn add_explain(alloc: Global, notes: &mut Notes, words: &[&str]) -> Result<(), AllocError> {
@@ -128,4 +98,22 @@ fn add_explain(alloc: Global, notes: &mut Notes, words: &[&str]) -> Result<(), A
         }
     }
     Ok(())
+}
+
+// A call that is done has read its inputs before, so reading them again fails only if memory runs
+// out.
+
+fn space_of(alloc: Global, call: &Call<'_>) -> Result<Space, AllocError> {
+    let bytes = call.universe.as_deref().unwrap_or(&[]);
+    read_universe(alloc, bytes).map_err(|_| AllocError)
+}
+
+fn config_of(alloc: Global, call: &Call<'_>) -> Result<Config, AllocError> {
+    let files = Files {
+        config: call.config.as_deref(),
+        silences: None,
+        alerts: None,
+        at: None,
+    };
+    read_config(alloc, files.config()).map_err(|_| AllocError)
 }

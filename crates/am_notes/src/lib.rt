@@ -1,8 +1,8 @@
 //! Notes for a person at a terminal: what the answer of a command does not say by itself, and what
 //! to type after a refusal.
 //!
-//! A note is one line that begins with `note: `. [`notes_of_answer`] gives the notes of a [`Call`]
-//! that is done, and [`notes_of_refusal`] those of one that was refused. Both depend on the inputs
+//! A note is one line that begins with `note: `. [`notes_of_answer`] gives the notes of a call that
+//! is done, and [`notes_of_refusal`] those of one that was refused. Both depend on the inputs
 //! alone, and read them again, as the commands do. Nothing depends on notes: no contract says which
 //! notes there are, and cases test them.
 //!
@@ -10,11 +10,6 @@
 //! complete. They look at ordinary alerts alone: a person who used `--ascii` knows that others are
 //! left out, and to look at all alerts takes long if patterns are hard.
 #![tactic(auto)]
-
-// The call that notes are about.
-mod call;
-
-pub use call::Call;
 
 // The lines of notes, and the sentences in them.
 mod notes;

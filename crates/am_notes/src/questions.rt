@@ -2,8 +2,8 @@
 
 use crate::matchers::add_question_matchers;
 use crate::notes::Notes;
+use am_command_line::Call;
 use am_eval::{Property, Question};
-use am_files::Files;
 use am_universe::Universe;
 use std::alloc::{AllocError, Global};
 
@@ -16,19 +16,19 @@ const NO_ALERTS: &str = "without --alerts nothing is inhibited";
 pub(crate) fn add_question(
     alloc: Global,
     notes: &mut Notes,
-    files: &Files<'_>,
+    call: &Call<'_>,
     text: &str,
     universe: Option<&Universe>,
     question: &Question,
 ) -> Result<(), AllocError> {
     match question {
-        Question::Is(Property::Silenced) => add_unless(alloc, notes, files.silences, NO_SILENCES),
-        Question::Is(Property::Inhibited) => add_unless(alloc, notes, files.alerts, NO_ALERTS),
+        Question::Is(Property::Silenced) => add_unless(alloc, notes, &call.silences, NO_SILENCES),
+        Question::Is(Property::Inhibited) => add_unless(alloc, notes, &call.alerts, NO_ALERTS),
         Question::Braces(list) => add_question_matchers(alloc, notes, list, text, universe),
-        Question::Not(question) => add_question(alloc, notes, files, text, universe, question),
+        Question::Not(question) => add_question(alloc, notes, call, text, universe, question),
         Question::And(left, right) | Question::Or(left, right) => {
-            add_question(alloc, notes, files, text, universe, left)?;
-            add_question(alloc, notes, files, text, universe, right)
+            add_question(alloc, notes, call, text, universe, left)?;
+            add_question(alloc, notes, call, text, universe, right)
         }
         _ => Ok(()),
     }
@@ -38,7 +38,7 @@ pub(crate) fn add_question(
 fn add_unless(
     alloc: Global,
     notes: &mut Notes,
-    file: Option<&[u8]>,
+    file: &Option<Vec<u8>>,
     note: &str,
 ) -> Result<(), AllocError> {
     if file.is_some() {

@@ -3,9 +3,9 @@
 ghost use Rattle.std.specs.Prelude.{IfOk, string_bytes};
 ghost use Rattle.am_notes.specs.NoteText.{AreNoteLines};
 
-use crate::Call;
 use crate::notes::Notes;
 use crate::remedies::add_remedy;
+use am_command_line::Call;
 use am_universe::Fault;
 use std::alloc::{AllocError, Global};
 

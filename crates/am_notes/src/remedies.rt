@@ -1,10 +1,9 @@
 //! What to type after a refusal.
 
-use crate::Call;
 use crate::likeness::Likeness;
 use crate::notes::Notes;
 use crate::sentences::looks_like;
-use am_command_line::Request;
+use am_command_line::{Call, Request};
 use am_json::limits::MAX_FILE_BYTES;
 use am_json::read_json;
 use am_universe::{Fault, Kind, Place};
@@ -45,14 +44,14 @@ fn add_if_any(
 }
 
 /// The bytes of the file at a place, if there is one.
-fn file_at<'a>(call: &Call<'a>, place: Place) -> Option<&'a [u8]> {
+fn file_at<'a>(call: &'a Call<'_>, place: Place) -> Option<&'a [u8]> {
     match place {
-        Place::Universe => Some(call.universe),
-        Place::Config => call.files.config,
-        Place::Old => Some(call.old),
-        Place::New => Some(call.new),
-        Place::Silences => call.files.silences,
-        Place::Alerts => call.files.alerts,
+        Place::Universe => call.universe.as_deref(),
+        Place::Config => call.config.as_deref(),
+        Place::Old => call.old.as_deref(),
+        Place::New => call.new.as_deref(),
+        Place::Silences => call.silences.as_deref(),
+        Place::Alerts => call.alerts.as_deref(),
         _ => None,
     }
 }
@@ -84,9 +83,7 @@ fn add_likeness(
     let Some(bytes) = file_at(call, place) else {
         return Ok(());
     };
-    let Ok(value) = read_json(alloc, bytes) else {
-        return Err(AllocError);
-    };
+    let value = read_json(alloc, bytes).map_err(|_| AllocError)?;
     match Likeness::of(&value) {
         Some(likeness) if !likeness.belongs_at(place) => {
             notes.add(looks_like(alloc, place.text(), likeness.text())?)
@@ -121,7 +118,7 @@ fn bad_matcher_remedy(place: Place) -> Option<&'static str> {
 
 /// Whether a label name is in quotes in the text that is at fault.
 fn has_quoted_name_at(alloc: Global, call: &Call<'_>, fault: &Fault) -> Result<bool, AllocError> {
-    match call.request {
+    match &call.request {
         Request::Ask { question: text, .. }
         | Request::Alerts {
             question: Some(text),
@@ -146,9 +143,7 @@ fn has_quoted_name_in_file(
     let Some(bytes) = file_at(call, fault.place) else {
         return Ok(false);
     };
-    let Ok(value) = read_json(alloc, bytes) else {
-        return Err(AllocError);
-    };
+    let value = read_json(alloc, bytes).map_err(|_| AllocError)?;
     match value.pointer(fault.pointer.as_str()) {
         Some(text) => Ok(has_quoted_name(text.as_str().unwrap_or(""))),
         None => Ok(false),
@@ -168,8 +163,8 @@ fn has_quoted_name(text: &str) -> bool {
 /// The remedy for any other fault.
 fn remedy(call: &Call<'_>, kind: Kind, place: Place) -> Option<&'static str> {
     match kind {
-        Kind::QuestionSyntax => Some(question_remedy(call.request)),
-        Kind::UnknownReceiver | Kind::UnknownRoute if call.files.config.is_none() => {
+        Kind::QuestionSyntax => Some(question_remedy(&call.request)),
+        Kind::UnknownReceiver | Kind::UnknownRoute if call.config.is_none() => {
             Some("without --config there is one receiver, none, and one route, /")
         }
         Kind::UnknownReceiver => Some(
@@ -187,8 +182,8 @@ fn remedy(call: &Call<'_>, kind: Kind, place: Place) -> Option<&'static str> {
         Kind::OtherInputs => {
             Some("an input has changed since the page before: start again without --after")
         }
-        Kind::Incomplete => Some(incomplete_remedy(call.request)),
-        Kind::Unproved => Some(unproved_remedy(call.request)),
+        Kind::Incomplete => Some(incomplete_remedy(&call.request)),
+        Kind::Unproved => Some(unproved_remedy(&call.request)),
         _ => None,
     }
 }
@@ -234,25 +229,21 @@ fn incomplete_remedy(request: &Request<'_>) -> &'static str {
 /// The remedy if the routes tell too many alerts apart. If the universe file itself exceeds a
 /// limit, that is another fault: it has a pointer to a part of the file, or the file is too long.
 fn limit_remedy(call: &Call<'_>, fault: &Fault) -> Option<&'static str> {
-    let is_of_file = !fault.pointer.is_empty() || call.universe.len() > MAX_FILE_BYTES;
+    let bytes = call.universe.as_deref().unwrap_or(&[]);
+    let is_of_file = !fault.pointer.is_empty() || bytes.len() > MAX_FILE_BYTES;
     if fault.place != Place::Universe || is_of_file {
         return None;
     }
     match call.request {
-        Request::Outcomes { ascii, .. } | Request::Compare { ascii, .. } => {
-            Some(too_many_remedy(*ascii))
-        }
+        Request::Outcomes { ascii: true } | Request::Compare { ascii: true } => Some(
+            "the routes tell too many alerts apart: \
+            a universe file that says what never occurs may help",
+        ),
+        Request::Outcomes { ascii: false } | Request::Compare { ascii: false } => Some(
+            "the routes tell too many alerts apart: --ascii may help, \
+            or a universe file that says what never occurs",
+        ),
         _ => None,
-    }
-}
-
-fn too_many_remedy(ascii: bool) -> &'static str {
-    if ascii {
-        "the routes tell too many alerts apart: \
-        a universe file that says what never occurs may help"
-    } else {
-        "the routes tell too many alerts apart: --ascii may help, \
-        or a universe file that says what never occurs"
     }
 }
 
@@ -260,15 +251,15 @@ fn too_many_remedy(ascii: bool) -> &'static str {
 /// read over all texts may still be read over those of printable ASCII.
 fn unproved_remedy(request: &Request<'_>) -> &'static str {
     match request {
-        Request::Lint { ascii: false, .. }
-        | Request::Outcomes { ascii: false, .. }
-        | Request::Compare { ascii: false, .. } => {
+        Request::Lint { ascii: false }
+        | Request::Outcomes { ascii: false }
+        | Request::Compare { ascii: false } => {
             "with --ascii patterns are read that are not read otherwise; \
             amcover universe --check UNIVERSE --config FILE says more"
         }
-        Request::Lint { ascii: true, .. }
-        | Request::Outcomes { ascii: true, .. }
-        | Request::Compare { ascii: true, .. } => {
+        Request::Lint { ascii: true }
+        | Request::Outcomes { ascii: true }
+        | Request::Compare { ascii: true } => {
             "amcover universe --ascii --check UNIVERSE --config FILE says more"
         }
         _ => {

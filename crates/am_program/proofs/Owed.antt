@@ -1,27 +1,11 @@
--- What is owed for a request, and how the result of a command keeps it.
-use Rattle.std.proofs.Common.{◌≡◌, ℕ, List, Bool, false, Result, Ok, Err, MatchResult}
-use Rattle.std.proofs.Common.{refl, sym, subst}
+-- How the result of a command keeps what is owed for a request.
+use Rattle.std.proofs.Common.{◌≡◌, ℕ, List, Bool, false, Result, Ok, Err, MatchResult, refl}
 use Rattle.std.specs.Prelude.{nat_lt}
 use Rattle.am_universe.specs.declared.fault.Fault.{Fault}
-use Rattle.am_command_line.specs.declared.command_line.Request.{Request}
 use Rattle.am_files.specs.Promise.{Promise, IsKept}
-use Rattle.am_notes.specs.declared.call.Call.{Call}
-use Rattle.am_program.specs.Requests.{finds_nothing, finds, owed}
+use Rattle.am_program.specs.Requests.{finds_nothing, finds}
 
 module _ {S : Type 0} {taken : S → List ℕ} {failures : S → ℕ} {old new : S} where
-  -- What is owed for a thing is owed for an equal thing.
-  pub owed_as : {X A : Type 0} {result : Result A Fault} (promise : X → Promise A) {x other : X}
-      → x ≡ other → IsKept (promise x) taken failures old new result
-      → IsKept (promise other) taken failures old new result
-  owed_as {result = result} promise same kept =
-      subst (λ x. IsKept (promise x) taken failures old new result) same kept
-
-  -- The same for a request.
-  pub owed_for : {result : Result Bool Fault} (call : Call) {request other : Request}
-      → request ≡ other → IsKept (owed other call) taken failures old new result
-      → IsKept (owed request call) taken failures old new result
-  owed_for call same = owed_as (λ r. owed r call) (sym same)
-
   -- A call still keeps what is owed if another answer replaces its own, and each text that may be
   -- written with its own answer may be written with the other.
   answered_as : {A B : Type 0} (promise : Promise A) (May : B → List ℕ → Type 0) (answer : A → B)
@@ -30,19 +14,15 @@ module _ {S : Type 0} {taken : S → List ℕ} {failures : S → ℕ} {old new :
       → MatchResult result (λ a. other ≡ Ok (answer a)) (λ fault. other ≡ Err fault)
       → IsKept promise taken failures old new result
       → IsKept (record { stages = promise.stages; May = May }) taken failures old new other
-  answered_as {B = B} promise May answer may (Ok a) other is kept =
-      subst (λ (r : Result B Fault).
-      IsKept (record { stages = promise.stages; May = May }) taken failures old new r) (sym is)
-      (record {
+  answered_as promise May answer may (Ok a) other is kept =
+      rw is (record {
         done = (kept.done.0, may a kept.done.0 kept.done.1, kept.done.2);
         first = tt;
         untouched = tt;
         write = tt;
       })
-  answered_as {B = B} promise May answer may (Err fault) other is kept =
-      subst (λ (r : Result B Fault).
-      IsKept (record { stages = promise.stages; May = May }) taken failures old new r) (sym is)
-      (record {
+  answered_as promise May answer may (Err fault) other is kept =
+      rw is (record {
         done = tt;
         first = kept.first;
         untouched = kept.untouched;
@@ -52,20 +32,20 @@ module _ {S : Type 0} {taken : S → List ℕ} {failures : S → ℕ} {old new :
       })
 
   -- So it does if the other answer is that nothing was found.
-  pub nothing_found : {A : Type 0} (promise : Promise A) (result : Result A Fault)
-      (other : Result Bool Fault)
+  pub nothing_found : {A : Type 0} {promise : Promise A} {result : Result A Fault}
+      {other : Result Bool Fault}
       → MatchResult result (λ _. other ≡ Ok false) (λ fault. other ≡ Err fault)
       → IsKept promise taken failures old new result
       → IsKept (finds_nothing promise) taken failures old new other
-  nothing_found promise result other is kept =
+  nothing_found {promise = promise} {result} {other} is kept =
       answered_as promise (finds_nothing promise).May (λ a. false) (λ a text may. (refl, (a, may)))
       result other is kept
 
   -- And if the other answer is whether a count is above 0.
-  pub so_many_found : (promise : Promise ℕ) (result : Result ℕ Fault) (other : Result Bool Fault)
+  pub so_many_found : {promise : Promise ℕ} {result : Result ℕ Fault} {other : Result Bool Fault}
       → MatchResult result (λ count. other ≡ Ok (nat_lt 0 count)) (λ fault. other ≡ Err fault)
       → IsKept promise taken failures old new result
       → IsKept (finds promise) taken failures old new other
-  so_many_found promise result other is kept =
+  so_many_found {promise} {result} {other} is kept =
       answered_as promise (finds promise).May (nat_lt 0) (λ count text may. (count, refl, may))
       result other is kept

@@ -1,58 +1,48 @@
 -- What is owed for a request, over the bytes of its files. (This project's own.)
 use Rattle.std.specs.Prelude.{◌≡◌, ℕ, List, [], map, Option, option_map, option_copied, unwrap_or}
-use Rattle.std.specs.Prelude.{Bool, false, nat_lt, if◌then◌else◌, Some, None}
+use Rattle.std.specs.Prelude.{Bool, false, nat_lt, if◌then◌else◌}
 use Rattle.std.specs.Global.{Vec}
 use Rattle.std.specs.Int.NonZero.{non_zero_u64_get}
 use Rattle.am_classes.specs.declared.alphabet.Alphabet.{Alphabet}
 use Rattle.am_classes.specs.declared.alphabet.Alphabet.TheVariants.{Unicode, Ascii}
 use Rattle.am_command_line.specs.StepsView.{step_count}
-use Rattle.am_command_line.specs.declared.command_line.InputFiles.{InputFiles}
+use Rattle.am_command_line.specs.declared.command_line.CommandLine.{CommandLine}
 use Rattle.am_command_line.specs.declared.command_line.Request.{Request}
 use Rattle.am_command_line.specs.declared.command_line.Request.TheVariants as requests
 use Rattle.am_files.specs.Files.{Files, config_of}
 use Rattle.am_commands.specs.Explanation.{explain_promise}
 use Rattle.am_files.specs.Promise.{Promise}
-use Rattle.am_notes.specs.declared.call.Call.{Call}
 use Rattle.am_commands.specs.AskOutcome.{ask_promise}
 use Rattle.am_commands.specs.Reports.{dead_promise, receivers_promise}
 use Rattle.am_alerts.specs.Alerts.{alerts_promise}
 use Rattle.am_universe_command.specs.Universes.{universe_promise, check_promise}
-use Rattle.am_reports.specs.ReportInputs.{ReportInputs}
 use Rattle.am_reports.specs.Linting.{lint_promise}
 use Rattle.am_reports.specs.Comparing.{compare_promise}
 use Rattle.am_reports.specs.OutcomesReport.{outcomes_promise}
 
--- The bytes of an optional file; its bytes, or none if the file is not given; and the files other
--- than the universe, with the instant.
+-- A command line whose files are read; the bytes of an optional file; those of a file that the
+-- request needs; and the files other than those of a universe and of a comparison, with the
+-- instant.
+abbrev pub Call : Type 0
+Call = CommandLine (Vec ℕ)
+
 abbrev pub bytes_if_any : Option (Vec ℕ) → Option (List ℕ)
 bytes_if_any file = option_map (λ bytes. bytes.items) file
 
-abbrev pub bytes_or_none : Option (Vec ℕ) → List ℕ
-bytes_or_none file = unwrap_or (bytes_if_any file) []
+abbrev pub bytes_of : Option (Vec ℕ) → List ℕ
+bytes_of file = unwrap_or (bytes_if_any file) []
 
-abbrev pub files_of : InputFiles (Vec ℕ) → Files
-files_of files = record {
-  config = bytes_if_any files.config;
-  silences = bytes_if_any files.silences;
-  alerts = bytes_if_any files.alerts;
-  at = option_copied files.at;
+abbrev pub files_of : Call → Files
+files_of call = record {
+  config = bytes_if_any call.config;
+  silences = bytes_if_any call.silences;
+  alerts = bytes_if_any call.alerts;
+  at = option_copied call.at;
 }
 
 -- The texts that the labels of alerts may have: with `--ascii`, only those of printable ASCII.
 abbrev pub alphabet_of : Bool → Alphabet
 alphabet_of ascii = if ascii then Ascii else Unicode
-
--- The bytes of the universe file, if one is given, as with `--from`.
-abbrev pub kept_universe : Bool → List ℕ → Option (List ℕ)
-kept_universe from universe = if from then Some universe else None
-
--- The inputs of `outcomes`, with the universe file if one is given.
-abbrev pub report_inputs : Bool → Bool → Call → ReportInputs
-report_inputs from ascii call = record {
-  universe = kept_universe from call.universe.now;
-  config = config_of call.files.config;
-  ascii = ascii;
-}
 
 -- What is owed if the answer is whether something was found: by a command that looks for nothing
 -- wrong, and so finds nothing; and by a command that returns how many changes there are.
@@ -79,46 +69,51 @@ finds promise = record {
 -- Example: for `dead --universe u.json --config alertmanager.json` it is what `dead` owes for the
 -- bytes of these files.
 abbrev pub owed : Request → Call → Promise Bool
-owed (requests.Lint from ascii) call =
+owed (requests.Lint ascii) call =
     lint_promise (record {
-      universe = kept_universe from call.universe.now;
-      files = call.files;
+      universe = bytes_if_any call.universe;
+      files = files_of call;
       ascii = ascii;
     })
-owed (requests.Compare from ascii) call =
+owed (requests.Compare ascii) call =
     finds (compare_promise (record {
-      universe = kept_universe from call.universe.now;
-      old = call.old.now;
-      new = call.new.now;
+      universe = bytes_if_any call.universe;
+      old = bytes_of call.old;
+      new = bytes_of call.new;
       ascii = ascii;
     }))
-owed (requests.Outcomes from ascii) call =
-    finds_nothing (outcomes_promise (report_inputs from ascii call))
+owed (requests.Outcomes ascii) call =
+    finds_nothing (outcomes_promise (record {
+      universe = bytes_if_any call.universe;
+      config = config_of (bytes_if_any call.config);
+      ascii = ascii;
+    }))
 owed (requests.Ask question after limit steps) call =
     finds_nothing (ask_promise (record {
-      universe = call.universe.now;
-      files = call.files;
+      universe = bytes_of call.universe;
+      files = files_of call;
       question = question.now;
       after = option_copied after;
     }) (option_map non_zero_u64_get limit) (option_map step_count steps))
 owed requests.Dead call =
-    finds_nothing (dead_promise call.universe.now (config_of call.files.config))
+    finds_nothing (dead_promise (bytes_of call.universe) (config_of (bytes_if_any call.config)))
 owed requests.Receivers call =
-    finds_nothing (receivers_promise call.universe.now (config_of call.files.config))
+    finds_nothing
+    (receivers_promise (bytes_of call.universe) (config_of (bytes_if_any call.config)))
 owed (requests.Explain set) call =
-    finds_nothing (explain_promise call.files (map (λ word. word.now) set.items))
+    finds_nothing (explain_promise (files_of call) (map (λ word. word.now) set.items))
 owed (requests.Alerts question) call =
-    finds_nothing (alerts_promise call.files (option_copied question))
-owed (requests.Universe from routes ascii open_form questions) call =
+    finds_nothing (alerts_promise (files_of call) (option_copied question))
+owed (requests.Universe routes ascii open_form questions) call =
     finds_nothing (universe_promise (record {
-      universe = kept_universe from call.universe.now;
-      files = call.files;
+      universe = bytes_if_any call.universe;
+      files = files_of call;
       questions = map (λ question. question.now) questions.items;
     }) (record { routes = routes; alphabet = alphabet_of ascii; «open» = open_form }))
 owed (requests.CheckUniverse routes ascii questions) call =
     finds_nothing (check_promise (alphabet_of ascii) (record {
-      universe = Some call.universe.now;
-      files = call.files;
+      universe = bytes_if_any call.universe;
+      files = files_of call;
       questions = map (λ question. question.now) questions.items;
     }) routes)
 
@@ -126,4 +121,4 @@ owed (requests.CheckUniverse routes ascii questions) call =
 -- Source: own choice.
 -- Example: it is what `dead` owes, if that is the request.
 abbrev pub promise_of : Call → Promise Bool
-promise_of call = owed call.request.now call
+promise_of call = owed call.request call

@@ -1,7 +1,7 @@
-use crate::calling::{call_of, make_call};
+use crate::calling::make_call;
 use crate::read_file::read_file;
-use am_command_line::{CommandLine, InputFiles, parse_command_line};
-use am_notes::{Call, notes_of_answer, notes_of_refusal};
+use am_command_line::{Call, CommandLine, parse_command_line};
+use am_notes::{notes_of_answer, notes_of_refusal};
 use am_universe::{Fault, Out, Place, report};
 use clap::Error;
 use clap::error::ErrorKind;
@@ -47,13 +47,12 @@ pub fn run_with_notes<R: Files + AllocGlobal, W: Write + Drop, E: Write + Drop>(
     err: &mut E,
     notes: bool,
 ) -> u8 {
-    let outcome = match parse_command_line(rt.alloc(), words) {
-        Ok(line) => return run_line(rt, &line, out, err, notes),
-        Err(error) => show_clap_message(rt.alloc(), &error, out, err),
-    };
-    match outcome {
-        Ok(status) => status,
-        Err(fault) => report(rt.alloc(), &fault, err),
+    match parse_command_line(rt.alloc(), words) {
+        Ok(line) => run_line(rt, line, out, err, notes),
+        Err(error) => match show_clap_message(rt.alloc(), &error, out, err) {
+            Ok(status) => status,
+            Err(fault) => report(rt.alloc(), &fault, err),
+        },
     }
 }
 
@@ -90,17 +89,16 @@ fn refuse_arguments<E: Write>(error: &io::Error, alloc: Global, err: &mut E) -> 
 /// Reads the files that a command line names, and does what it asks for. Returns the exit status.
 fn run_line<R: Files + AllocGlobal, W: Write + Drop, E: Write + Drop>(
     rt: &R,
-    line: &CommandLine<'_>,
+    line: CommandLine<'_, &str>,
     out: &mut W,
     err: &mut E,
     notes: bool,
 ) -> u8 {
     let alloc = rt.alloc();
-    let files = match read_files(rt, &line.files) {
-        Ok(files) => files,
+    let call = match read_files(rt, line) {
+        Ok(call) => call,
         Err(fault) => return refuse(alloc, None, &fault, err, notes),
     };
-    let call = call_of(&line.request, &files);
     match call_buffered(alloc, &call, out) {
         Ok(status) => {
             if notes {
@@ -135,25 +133,20 @@ fn write_notes<E: Write + Drop>(notes: Result<String, AllocError>, err: &mut E) 
     }
 }
 
-/// Reads the files at these paths, in the order in which commands look at them.
+/// Reads the files that a command line names, in the order in which commands look at them.
 fn read_files<'a, R: Files + AllocGlobal>(
     rt: &R,
-    paths: &InputFiles<'a, &str>,
-) -> Result<InputFiles<'a, Vec<u8>>, Fault> {
-    let universe = read_input_if_any(rt, paths.universe, Place::Universe)?;
-    let config = read_input_if_any(rt, paths.config, Place::Config)?;
-    let old = read_input_if_any(rt, paths.old, Place::Old)?;
-    let new = read_input_if_any(rt, paths.new, Place::New)?;
-    let silences = read_input_if_any(rt, paths.silences, Place::Silences)?;
-    let alerts = read_input_if_any(rt, paths.alerts, Place::Alerts)?;
-    Ok(InputFiles {
-        universe,
-        config,
-        old,
-        new,
-        silences,
-        alerts,
-        at: paths.at,
+    line: CommandLine<'a, &str>,
+) -> Result<Call<'a>, Fault> {
+    Ok(CommandLine {
+        universe: read_input(rt, line.universe, Place::Universe)?,
+        config: read_input(rt, line.config, Place::Config)?,
+        old: read_input(rt, line.old, Place::Old)?,
+        new: read_input(rt, line.new, Place::New)?,
+        silences: read_input(rt, line.silences, Place::Silences)?,
+        alerts: read_input(rt, line.alerts, Place::Alerts)?,
+        request: line.request,
+        at: line.at,
     })
 }
 
@@ -186,25 +179,15 @@ fn call_buffered<W: Write + Drop>(
     }
 }
 
-/// Reads an input file. A file that cannot be read is a fault at its place. If memory runs out, the
-/// fault is at `Memory`.
-fn read_input<R: Files + AllocGlobal>(rt: &R, path: &str, place: Place) -> Result<Vec<u8>, Fault> {
-    match read_file(rt, path) {
-        Ok(bytes) => Ok(bytes),
-        Err(kind) => Err(Fault::at(rt.alloc(), kind, place)),
-    }
-}
-
-/// Reads an optional input file.
-fn read_input_if_any<R: Files + AllocGlobal>(
+/// Reads an optional input file. A file that cannot be read is a fault at its place. If memory runs
+/// out, the fault is at `Memory`.
+fn read_input<R: Files + AllocGlobal>(
     rt: &R,
     path: Option<&str>,
     place: Place,
 ) -> Result<Option<Vec<u8>>, Fault> {
-    match path {
-        Some(path) => Ok(Some(read_input(rt, path, place)?)),
-        None => Ok(None),
-    }
+    let read = path.map(|path| read_file(rt, path)).transpose();
+    read.map_err(|kind| Fault::at(rt.alloc(), kind, place))
 }
 
 /// Writes the message of `clap`: help and the version to `out`, a usage fault to `err`.
