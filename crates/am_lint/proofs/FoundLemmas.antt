@@ -13,7 +13,8 @@ use Rattle.am_labels.proofs.Passing.{any_in, in_any}
 use Rattle.am_config.specs.ConfigFile.{Configuration, RouteTree, receiver_of}
 use Rattle.am_config.specs.RoutePaths.{all_routes}
 use Rattle.am_eval.proofs.SimpleParts.{end_of_receiver, receiver_of_end}
-use Rattle.am_classes.specs.declared.alphabet.Alphabet.TheVariants.{Unicode}
+use Rattle.am_classes.specs.declared.alphabet.Alphabet.{Alphabet}
+use Rattle.am_classes.specs.declared.alphabet.Alphabet.TheVariants.{Unicode, Ascii}
 use Rattle.am_every_alert.specs.EveryAlert.{IsAlertOf}
 use Rattle.am_lint.specs.declared.standing.Standing.{Standing}
 use Rattle.am_lint.specs.declared.standing.Standing.TheVariants as standing_is
@@ -22,7 +23,7 @@ use Rattle.am_lint.specs.declared.found.ReceiverFinding.{ReceiverFinding}
 use Rattle.am_lint.specs.declared.found.ReceiverFinding.TheVariants as receiver_is
 use Rattle.am_eval.specs.Reaching.{EndsAt, GoesTo, SomeIs, IsDead, IsUnmatched}
 use Rattle.am_lint.specs.Standing.{IsStanding}
-use Rattle.am_lint.specs.Findings.{Counts, IsOrdinary, IsRouteFinding, IsReceiverFinding}
+use Rattle.am_lint.specs.Findings.{IsOrdinary, IsRouteFinding, IsReceiverFinding}
 use Rattle.am_lint.specs.FoundView.{finding_by, is_end, is_end_if_any, said_of, IsKnown}
 use Rattle.am_lint.specs.FoundView.{has_ordinary, has_other, receiver_finding}
 use Rattle.am_lint.specs.ReportText.{count_findings, count_notes, report_lines}
@@ -35,19 +36,19 @@ use Rattle.am_lint.proofs.EnteringLemmas.{enters_to_end}
 -- how a route stands over every alert; this need not be known if some ordinary alert ends there,
 -- and it is not known if only printable ASCII counts
 abbrev pub IsFurther :
-    Bool → Space → List Label → Configuration → List ℕ → Standing → Option Standing → Type 0
-IsFurther true s v c path ordinary every = every ≡ None
-IsFurther false s v c path ordinary every =
+    Alphabet → Space → List Label → Configuration → List ℕ → Standing → Option Standing → Type 0
+IsFurther Ascii s v c path ordinary every = every ≡ None
+IsFurther Unicode s v c path ordinary every =
     is_end ordinary ≡ false → IsKnown v (IsAlertOf Unicode s) c path every
 
 -- what was found of a route is true for the alerts of a space, with choices of some labels and,
 -- over every alert, of others
-pub record IsFoundSo (ascii : Bool) (s : Space) (u v : List Label) (c : Configuration)
+pub record IsFoundSo (alphabet : Alphabet) (s : Space) (u v : List Label) (c : Configuration)
     (route : List ℕ × RouteTree) (found : FoundRoute) : Type 0 where
   pub path : found.path ≡ route.0
   pub receiver : found.receiver ≡ receiver_of route.1
   pub ordinary : IsStanding u (IsOrdinary s) c route.0 found.ordinary
-  pub further : IsFurther ascii s v c route.0 found.ordinary found.every
+  pub further : IsFurther alphabet s v c route.0 found.ordinary found.every
 
 -- ---- Lists, position by position.
 
@@ -85,49 +86,49 @@ module _ (u : List Label) (Occurs : LabelMap → Type 0) (c : Configuration) (pa
 -- ---- What is said of a route.
 
 module _ (s : Space) (u v : List Label) (c : Configuration) (path : List ℕ) where
-  finding_so : (ascii : Bool) (ordinary : Standing) (every : Option Standing)
+  finding_so : (alphabet : Alphabet) (ordinary : Standing) (every : Option Standing)
       → IsStanding u (IsOrdinary s) c path ordinary
-      → IsFurther ascii s v c path ordinary every
-      → IsRouteFinding ascii s v c path (finding_by ordinary every)
-  finding_so ascii (standing_is.Ends choice) every so further =
+      → IsFurther alphabet s v c path ordinary every
+      → IsRouteFinding alphabet s v c path (finding_by ordinary every)
+  finding_so alphabet (standing_is.Ends choice) every so further =
       (label_set_of u choice, so.1, so.2)
-  finding_so ascii (standing_is.HandsOn entry children) every so further =
+  finding_so alphabet (standing_is.HandsOn entry children) every so further =
       ((label_set_of u entry, so.0.1, so.0.2), so.1, so.2)
-  finding_so true (standing_is.NeverEntered reason) None so further = so
-  finding_so true (standing_is.NeverEntered reason) (Some standing) so further = absurd (cc)
-  finding_so false (standing_is.NeverEntered reason) None so further = absurd (further refl)
-  finding_so false (standing_is.NeverEntered reason) (Some (standing_is.Ends choice)) so further =
+  finding_so Ascii (standing_is.NeverEntered reason) None so further = so
+  finding_so Ascii (standing_is.NeverEntered reason) (Some standing) so further = absurd (cc)
+  finding_so Unicode (standing_is.NeverEntered reason) None so further = absurd (further refl)
+  finding_so Unicode (standing_is.NeverEntered reason) (Some (standing_is.Ends choice)) so further =
       let h = further refl in
       (refl, so.0, so.1, h.1, enters_to_end c path (label_set_of v choice) h.2)
-  finding_so false (standing_is.NeverEntered reason) (Some (standing_is.HandsOn entry children)) so
+  finding_so Unicode (standing_is.NeverEntered reason) (Some (standing_is.HandsOn entry children)) so
       further =
       let h = further refl in (refl, so.0, so.1, h.0.1, h.0.2)
-  finding_so false (standing_is.NeverEntered reason) (Some (standing_is.NeverEntered other)) so
+  finding_so Unicode (standing_is.NeverEntered reason) (Some (standing_is.NeverEntered other)) so
       further = further refl
 
 -- ---- What is said of a receiver.
 
-module _ (ascii : Bool) (s : Space) (u v : List Label) (c : Configuration)
+module _ (alphabet : Alphabet) (s : Space) (u v : List Label) (c : Configuration)
     (routes : List FoundRoute)
-    (so : AllZip (IsFoundSo ascii s u v c) (all_routes c) routes) where
+    (so : AllZip (IsFoundSo alphabet s u v c) (all_routes c) routes) where
   abbrev IsSo : List ℕ × RouteTree → FoundRoute → Type 0
-  IsSo route found = IsFoundSo ascii s u v c route found
+  IsSo route found = IsFoundSo alphabet s u v c route found
 
   -- over every alert that counts
-  none_counted : (b : Bool) (path : List ℕ) (ordinary : Standing) (every : Option Standing)
+  none_counted : (b : Alphabet) (path : List ℕ) (ordinary : Standing) (every : Option Standing)
       → IsStanding u (IsOrdinary s) c path ordinary → IsFurther b s v c path ordinary every
-      → is_end ordinary ≡ false → is_end_if_any every ≡ false → IsDead (Counts b s) c path
-  none_counted true path ordinary every is further none other =
+      → is_end ordinary ≡ false → is_end_if_any every ≡ false → IsDead (IsAlertOf b s) c path
+  none_counted Ascii path ordinary every is further none other =
       no_end u (IsOrdinary s) c path (Some ordinary) none is
-  none_counted false path ordinary every is further none other =
+  none_counted Unicode path ordinary every is further none other =
       no_end v (IsAlertOf Unicode s) c path every other (further none)
 
-  some_counted : (b : Bool) (path : List ℕ) (ordinary : Standing) (every : Option Standing)
+  some_counted : (b : Alphabet) (path : List ℕ) (ordinary : Standing) (every : Option Standing)
       → IsFurther b s v c path ordinary every → is_end ordinary ≡ false
-      → is_end_if_any every ≡ true → (b ≡ false) × SomeIs (Counts b s) (EndsAt c path)
-  some_counted true path ordinary every further none other =
+      → is_end_if_any every ≡ true → (b ≡ Unicode) × SomeIs (IsAlertOf b s) (EndsAt c path)
+  some_counted Ascii path ordinary every further none other =
       absurd (false≢true (sym (ap is_end_if_any further) ∙ other))
-  some_counted false path ordinary every further none other =
+  some_counted Unicode path ordinary every further none other =
       (refl, some_end v (IsAlertOf Unicode s) c path every other (further none))
 
   module _ (receiver : ℕ) where
@@ -177,7 +178,7 @@ module _ (ascii : Bool) (s : Space) (u v : List Label) (c : Configuration)
 
     receiver_by : (a b : Bool) → list_any (has_ordinary receiver) routes ≡ a
         → list_any (has_other receiver) routes ≡ b
-        → IsReceiverFinding ascii s c receiver
+        → IsReceiverFinding alphabet s c receiver
         (cond a None (cond b (Some receiver_is.Unusual) (Some receiver_is.Unmatched)))
     receiver_by true b e f =
         let one = any_in (has_ordinary receiver) routes e in
@@ -189,15 +190,15 @@ module _ (ascii : Bool) (s : Space) (u v : List Label) (c : Configuration)
         let parts = and_parts (one.0.receiver == receiver) (is_end_if_any one.0.every) one.2 in
         let none = untold (λ g. is_end g.ordinary) one.0 e one.1 parts.0 in
         let counted = λ (route : List ℕ × RouteTree) (is : IsSo route one.0).
-        some_counted ascii route.0 one.0.ordinary one.0.every is.further none parts.1 in
+        some_counted alphabet route.0 one.0.ordinary one.0.every is.further none parts.1 in
         let at = zip_right IsSo (all_routes c) routes one.0 so one.1 in (
           (counted at.0 at.2).0,
           none_ordinary e,
-          some_goes (Counts ascii s) one.0 one.1 parts.0 (λ route is. (counted route is).1),
+          some_goes (IsAlertOf alphabet s) one.0 one.1 parts.0 (λ route is. (counted route is).1),
         )
     receiver_by false false e f =
-        none_goes (Counts ascii s) (λ route found i has is.
-        none_counted ascii route.0 found.ordinary found.every is.ordinary is.further
+        none_goes (IsAlertOf alphabet s) (λ route found i has is.
+        none_counted alphabet route.0 found.ordinary found.every is.ordinary is.further
         (untold (λ g. is_end g.ordinary) found e i has)
         (untold (λ g. is_end_if_any g.every) found f i has))
 
@@ -209,20 +210,20 @@ module _ (ascii : Bool) (s : Space) (u v : List Label) (c : Configuration)
       → findings ≡ count_findings (map said_of routes) receivers
       → notes ≡ count_notes (map said_of routes) receivers
       → lines ≡ report_lines v c (map said_of routes) receivers
-      → SaysOfRoutes ascii s c findings notes lines
+      → SaysOfRoutes alphabet s c findings notes lines
   lines_so receivers findings notes lines are counts notes_are text =
       let all = range_with_len 0 (length c.receivers) in
       record {
         labels = v;
         routes = map said_of routes;
-        each_route = zip_mapped IsSo (IsSaid ascii s v c) said_of (λ route found is. (
+        each_route = zip_mapped IsSo (IsSaid alphabet s v c) said_of (λ route found is. (
           is.path,
           is.receiver,
-          finding_so s u v c route.0 ascii found.ordinary found.every is.ordinary is.further,
+          finding_so s u v c route.0 alphabet found.ordinary found.every is.ordinary is.further,
         )) (all_routes c) routes so;
         receivers = receivers;
-        each_receiver = subst (λ found. AllZip (IsReceiverFinding ascii s c) all found) (sym are)
-            (zip_own (IsReceiverFinding ascii s c) (receiver_finding routes) (λ receiver.
+        each_receiver = subst (λ found. AllZip (IsReceiverFinding alphabet s c) all found) (sym are)
+            (zip_own (IsReceiverFinding alphabet s c) (receiver_finding routes) (λ receiver.
             receiver_by receiver (list_any (has_ordinary receiver) routes)
             (list_any (has_other receiver) routes) refl refl) all);
         counted = counts;

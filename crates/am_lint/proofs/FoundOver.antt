@@ -1,5 +1,5 @@
 -- What the code finds over spaces that stand for alerts is true of these alerts.
-use Rattle.std.proofs.Common.{◌≡◌, inl, inr, ℕ, ◌<◌, List, [], ◌∷◌, length, Bool, true, false}
+use Rattle.std.proofs.Common.{◌≡◌, inl, inr, ℕ, ◌<◌, List, [], ◌∷◌, length}
 use Rattle.std.proofs.Common.{Option, Some, None, refl, sym, subst, ◌∙◌}
 use Rattle.std.specs.List.{AllByRecursion, AllZip}
 use Rattle.am_universe.specs.Universe.{Label, sizes}
@@ -8,6 +8,7 @@ use Rattle.am_labels.specs.Space.{Space}
 use Rattle.am_config.specs.ConfigFile.{Configuration, RouteTree, IsConfig}
 use Rattle.am_config.specs.RoutePaths.{all_routes}
 use Rattle.am_eval.proofs.AbsentParts.{receiver_below}
+use Rattle.am_classes.specs.declared.alphabet.Alphabet.{Alphabet}
 use Rattle.am_classes.specs.declared.alphabet.Alphabet.TheVariants.{Unicode, Ascii}
 use Rattle.am_every_alert.specs.EveryAlert.{IsAlertOf}
 use Rattle.am_lint.specs.declared.standing.Standing.{Standing}
@@ -62,9 +63,9 @@ module _ (s o : Space) (c : Configuration) (stands : StandsForAlerts Ascii o c)
   pub found_over_ascii : (v : List Label) (found : List FoundRoute)
       → AllZip (IsFoundIn o c) (all_routes c) found
       → AllByRecursion (λ route. route.every ≡ None) found
-      → AllZip (IsFoundSo true s o.labels v c) (all_routes c) found
+      → AllZip (IsFoundSo Ascii s o.labels v c) (all_routes c) found
   found_over_ascii v found is once =
-      each_place (IsFoundIn o c) (IsFoundSo true s o.labels v c) (all_routes c) found
+      each_place (IsFoundIn o c) (IsFoundSo Ascii s o.labels v c) (all_routes c) found
       (λ x y i j h. record {
         path = h.0;
         receiver = h.1;
@@ -84,7 +85,7 @@ module _ (s o : Space) (c : Configuration) (stands : StandsForAlerts Ascii o c)
 
     looked_so : (x : List ℕ × RouteTree) (y z : FoundRoute) → IsFoundIn o c x y
         → IsSameButEvery y z → IsLookedAt e c z.path z.ordinary z.every
-        → IsFoundSo false s o.labels e.labels c x z
+        → IsFoundSo Unicode s o.labels e.labels c x z
     looked_so x y z is but looked =
         let at : z.path ≡ x.0 = but.0 ∙ is.0 in
         record {
@@ -100,10 +101,10 @@ module _ (s o : Space) (c : Configuration) (stands : StandsForAlerts Ascii o c)
     pub found_over_unicode : (old new : List FoundRoute)
         → AllZip (IsFoundIn o c) (all_routes c) old → AllZip IsSameButEvery old new
         → AllByRecursion (λ route. IsLookedAt e c route.path route.ordinary route.every) new
-        → AllZip (IsFoundSo false s o.labels e.labels c) (all_routes c) new
+        → AllZip (IsFoundSo Unicode s o.labels e.labels c) (all_routes c) new
     found_over_unicode old new is but looked =
         each_place (λ x z. (y : FoundRoute) × IsFoundIn o c x y × IsSameButEvery y z)
-        (IsFoundSo false s o.labels e.labels c) (all_routes c) new
+        (IsFoundSo Unicode s o.labels e.labels c) (all_routes c) new
         (λ x z i j h. looked_so x h.0 z h.1 h.2
         (AllByRecursion-at (λ (r : FoundRoute). IsLookedAt e c r.path r.ordinary r.every) new z
         looked j))
@@ -118,29 +119,29 @@ found_there o c found is =
     each_second (IsFoundIn o c) (λ route. IsRoute c route.path) (all_routes c) found
     (λ x y i h. subst (IsRoute c) (sym h.0) (x.1, stands_at c x i)) is
 
-finding_shown : (ascii : Bool) (s : Space) (v : List Label) (c : Configuration) (path : List ℕ)
+finding_shown : (a : Alphabet) (s : Space) (v : List Label) (c : Configuration) (path : List ℕ)
     (ordinary : Standing) (every : Option Standing)
-    → IsFurther ascii s v c path ordinary every
+    → IsFurther a s v c path ordinary every
     → IsShownFinding (sizes v) (finding_by ordinary every)
-finding_shown ascii s v c path (standing_is.Ends choice) every h = tt
-finding_shown ascii s v c path (standing_is.HandsOn entry children) every h = tt
-finding_shown ascii s v c path (standing_is.NeverEntered reason) None h = tt
-finding_shown true s v c path (standing_is.NeverEntered reason) (Some standing) h = absurd (cc)
-finding_shown false s v c path (standing_is.NeverEntered reason)
+finding_shown a s v c path (standing_is.Ends choice) every h = tt
+finding_shown a s v c path (standing_is.HandsOn entry children) every h = tt
+finding_shown a s v c path (standing_is.NeverEntered reason) None h = tt
+finding_shown Ascii s v c path (standing_is.NeverEntered reason) (Some standing) h = absurd (cc)
+finding_shown Unicode s v c path (standing_is.NeverEntered reason)
     (Some (standing_is.Ends choice)) h = (h refl).0
-finding_shown false s v c path (standing_is.NeverEntered reason)
+finding_shown Unicode s v c path (standing_is.NeverEntered reason)
     (Some (standing_is.HandsOn entry children)) h = (h refl).0.0
-finding_shown false s v c path (standing_is.NeverEntered reason)
+finding_shown Unicode s v c path (standing_is.NeverEntered reason)
     (Some (standing_is.NeverEntered other)) h = tt
 
-pub found_shown : (ascii : Bool) (s : Space) (u v : List Label) (c : Configuration)
+pub found_shown : (a : Alphabet) (s : Space) (u v : List Label) (c : Configuration)
     (found : List FoundRoute) → IsConfig c
-    → AllZip (IsFoundSo ascii s u v c) (all_routes c) found
+    → AllZip (IsFoundSo a s u v c) (all_routes c) found
     → AllByRecursion (IsShown (sizes v) c) found
-found_shown ascii s u v c found sound is =
-    each_second (IsFoundSo ascii s u v c) (IsShown (sizes v) c) (all_routes c) found
+found_shown a s u v c found sound is =
+    each_second (IsFoundSo a s u v c) (IsShown (sizes v) c) (all_routes c) found
     (λ x y i h. (
-      finding_shown ascii s v c x.0 y.ordinary y.every h.further,
+      finding_shown a s v c x.0 y.ordinary y.every h.further,
       subst (λ r. r < length c.receivers) (sym h.receiver)
           (receiver_below (length c.receivers) x.0 c.root x.1 sound.receivers_declared
           (stands_at c x i)),

@@ -1,6 +1,6 @@
 -- What `lint` says of the routes and receivers of a configuration, and when that is true of all
 -- alerts.
-use Rattle.std.specs.Prelude.{◌≡◌, ℕ, List, Bool, false, Option, Some, None, if◌then◌else◌}
+use Rattle.std.specs.Prelude.{◌≡◌, ℕ, List, Option, Some, None}
 use Rattle.am_universe.specs.Universe.{Label}
 use Rattle.am_universe.specs.LabelSet.{LabelMap, label_set_of}
 use Rattle.am_labels.specs.Space.{Space}
@@ -23,18 +23,12 @@ pub data Finding : Type 0 where
   Unusual : Cause → List (List ℕ) → List ℕ → Finding
   HandsOn : List (List ℕ) → Finding
 
--- The alerts that count are those of a space: they may have any labels, but no impossible list
--- matches them. With `--ascii` only the ordinary ones of these count, whose values are printable
--- ASCII.
+-- The alerts that count are those of a space over an alphabet: they may have any labels, but no
+-- impossible list matches them. The ordinary ones of these have values of printable ASCII. With
+-- `--ascii` only these count.
 -- Source: own choice.
 -- Example: with `--ascii` an alert whose team is a line feed does not count. Without it the alert
 -- counts, unless an impossible list matches it.
-abbrev pub alphabet_of : Bool → Alphabet
-alphabet_of ascii = if ascii then Ascii else Unicode
-
-abbrev pub Counts : Bool → Space → LabelMap → Type 0
-Counts ascii s = IsAlertOf (alphabet_of ascii) s
-
 abbrev pub IsOrdinary : Space → LabelMap → Type 0
 IsOrdinary s = IsAlertOf Ascii s
 
@@ -46,15 +40,15 @@ IsOrdinary s = IsAlertOf Ascii s
 -- unusual. The pattern does not match a line feed, so an alert enters the route only if its team
 -- has one. With `--ascii` the route is dead.
 abbrev pub IsRouteFinding :
-    Bool → Space → List Label → Configuration → List ℕ → Option Finding → Type 0
-IsRouteFinding ascii s u c path None = SomeIs (IsOrdinary s) (EndsAt c path)
-IsRouteFinding ascii s u c path (Some (Dead cause routes)) =
-    IsNeverEntered (Counts ascii s) c path × IsReasonFor (Counts ascii s) c path cause routes
-IsRouteFinding ascii s u c path (Some (Unusual cause routes entry)) =
-    (ascii ≡ false) × IsNeverEntered (IsOrdinary s) c path
+    Alphabet → Space → List Label → Configuration → List ℕ → Option Finding → Type 0
+IsRouteFinding a s u c path None = SomeIs (IsOrdinary s) (EndsAt c path)
+IsRouteFinding a s u c path (Some (Dead cause routes)) =
+    IsNeverEntered (IsAlertOf a s) c path × IsReasonFor (IsAlertOf a s) c path cause routes
+IsRouteFinding a s u c path (Some (Unusual cause routes entry)) =
+    (a ≡ Unicode) × IsNeverEntered (IsOrdinary s) c path
     × IsReasonFor (IsOrdinary s) c path cause routes
-    × Counts ascii s (label_set_of u entry) × Enters c path (label_set_of u entry)
-IsRouteFinding ascii s u c path (Some (HandsOn children)) =
+    × IsAlertOf a s (label_set_of u entry) × Enters c path (label_set_of u entry)
+IsRouteFinding a s u c path (Some (HandsOn children)) =
     SomeIs (IsOrdinary s) (Enters c path) × IsDead (IsOrdinary s) c path
     × IsHandedTo (IsOrdinary s) c path children
 
@@ -64,10 +58,10 @@ IsRouteFinding ascii s u c path (Some (HandsOn children)) =
 -- Source: own choice.
 -- Example: a receiver that no route has is unmatched.
 abbrev pub IsReceiverFinding :
-    Bool → Space → Configuration → ℕ → Option ReceiverFinding → Type 0
-IsReceiverFinding ascii s c receiver None = SomeIs (IsOrdinary s) (GoesTo c receiver)
-IsReceiverFinding ascii s c receiver (Some receiver_is.Unmatched) =
-    IsUnmatched (Counts ascii s) c receiver
-IsReceiverFinding ascii s c receiver (Some receiver_is.Unusual) =
-    (ascii ≡ false) × IsUnmatched (IsOrdinary s) c receiver
-    × SomeIs (Counts ascii s) (GoesTo c receiver)
+    Alphabet → Space → Configuration → ℕ → Option ReceiverFinding → Type 0
+IsReceiverFinding a s c receiver None = SomeIs (IsOrdinary s) (GoesTo c receiver)
+IsReceiverFinding a s c receiver (Some receiver_is.Unmatched) =
+    IsUnmatched (IsAlertOf a s) c receiver
+IsReceiverFinding a s c receiver (Some receiver_is.Unusual) =
+    (a ≡ Unicode) × IsUnmatched (IsOrdinary s) c receiver
+    × SomeIs (IsAlertOf a s) (GoesTo c receiver)

@@ -1,35 +1,36 @@
 -- The lines of `lint` say what is true of every route and every receiver, for all alerts.
-use Rattle.std.specs.Prelude.{◌≡◌, ℕ, List, Bool, Option, length}
+use Rattle.std.specs.Prelude.{◌≡◌, ℕ, List, Option, length}
 use Rattle.std.specs.List.{AllZip, range_with_len}
 use Rattle.am_universe.specs.Universe.{Label}
 use Rattle.am_labels.specs.Space.{Space}
 use Rattle.am_config.specs.ConfigFile.{Configuration, RouteTree, receiver_of}
 use Rattle.am_config.specs.RoutePaths.{all_routes}
+use Rattle.am_classes.specs.declared.alphabet.Alphabet.{Alphabet}
 use Rattle.am_lint.specs.declared.found.ReceiverFinding.{ReceiverFinding}
 use Rattle.am_lint.specs.Findings.{IsRouteFinding, IsReceiverFinding}
 use Rattle.am_lint.specs.ReportText.{Said, count_findings, count_notes, report_lines}
 
 -- What is said of a route is true.
 abbrev pub IsSaid :
-    Bool → Space → List Label → Configuration → List ℕ × RouteTree → Said → Type 0
-IsSaid ascii s u c route said =
+    Alphabet → Space → List Label → Configuration → List ℕ × RouteTree → Said → Type 0
+IsSaid a s u c route said =
     (said.path ≡ route.0) × (said.receiver ≡ receiver_of route.1)
-    × IsRouteFinding ascii s u c route.0 said.finding
+    × IsRouteFinding a s u c route.0 said.finding
 
--- The lines are those of a configuration, for the alerts of a space or only for the ordinary ones.
--- What they say of each route, in preorder, and of each receiver, in order, is true, and nothing is
--- left out. The two numbers count the findings and the notes.
+-- The lines are those of a configuration, for the alerts of a space over an alphabet. What they say
+-- of each route, in preorder, and of each receiver, in order, is true, and nothing is left out. The
+-- two numbers count the findings and the notes.
 -- Source: own choice.
 -- Example: if for each route some ordinary alert ends there, and for each receiver some ordinary
 -- alert goes to it, there are no lines.
-pub record SaysOfRoutes (ascii : Bool) (s : Space) (c : Configuration) (findings notes : ℕ)
+pub record SaysOfRoutes (a : Alphabet) (s : Space) (c : Configuration) (findings notes : ℕ)
     (lines : List ℕ) : Type 0 where
   pub labels : List Label
   pub routes : List Said
-  pub each_route : AllZip (IsSaid ascii s labels c) (all_routes c) routes
+  pub each_route : AllZip (IsSaid a s labels c) (all_routes c) routes
   pub receivers : List (Option ReceiverFinding)
   pub each_receiver :
-      AllZip (IsReceiverFinding ascii s c) (range_with_len 0 (length c.receivers)) receivers
+      AllZip (IsReceiverFinding a s c) (range_with_len 0 (length c.receivers)) receivers
   pub counted : findings ≡ count_findings routes receivers
   pub noted : notes ≡ count_notes routes receivers
   pub text : lines ≡ report_lines labels c routes receivers

@@ -73,20 +73,20 @@ owed (requests.Lint ascii) call =
     lint_promise (record {
       universe = bytes_if_any call.universe;
       files = files_of call;
-      ascii = ascii;
+      alphabet = alphabet_of ascii;
     })
 owed (requests.Compare ascii) call =
     finds (compare_promise (record {
       universe = bytes_if_any call.universe;
       old = bytes_of call.old;
       new = bytes_of call.new;
-      ascii = ascii;
+      alphabet = alphabet_of ascii;
     }))
 owed (requests.Outcomes ascii) call =
     finds_nothing (outcomes_promise (record {
       universe = bytes_if_any call.universe;
       config = config_of (bytes_if_any call.config);
-      ascii = ascii;
+      alphabet = alphabet_of ascii;
     }))
 owed (requests.Ask question after limit steps) call =
     finds_nothing (ask_promise (record {

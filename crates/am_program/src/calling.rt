@@ -32,7 +32,7 @@ pub fn make_call<W: Sink>(alloc: Global, call: &Call<'_>, out: &mut W) -> Result
             let inputs = LintInputs {
                 universe: given,
                 files,
-                ascii: *ascii,
+                alphabet: alphabet_of(*ascii),
             };
             lint(alloc, &inputs, out)
         }
@@ -41,7 +41,7 @@ pub fn make_call<W: Sink>(alloc: Global, call: &Call<'_>, out: &mut W) -> Result
                 universe: given,
                 old: bytes_of(&call.old),
                 new: bytes_of(&call.new),
-                ascii: *ascii,
+                alphabet: alphabet_of(*ascii),
             };
             something_found(compare(alloc, &inputs, out))
         }
@@ -49,7 +49,7 @@ pub fn make_call<W: Sink>(alloc: Global, call: &Call<'_>, out: &mut W) -> Result
             let inputs = ReportInputs {
                 universe: given,
                 config: files.config(),
-                ascii: *ascii,
+                alphabet: alphabet_of(*ascii),
             };
             nothing_found(outcomes(alloc, &inputs, out))
         }

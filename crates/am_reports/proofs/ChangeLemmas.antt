@@ -14,7 +14,8 @@ use Rattle.am_labels.specs.Space.{Space}
 use Rattle.am_labels.proofs.Passing.{passes_from_kept, kept_from_passes}
 use Rattle.am_config.specs.ConfigFile.{Configuration}
 use Rattle.am_eval.specs.Routing.{receivers}
-use Rattle.am_lint.specs.Findings.{Counts}
+use Rattle.am_classes.specs.declared.alphabet.Alphabet.{Alphabet}
+use Rattle.am_every_alert.specs.EveryAlert.{IsAlertOf}
 use Rattle.am_outcomes.specs.Outcomes.{fate, same_fate}
 use Rattle.am_outcomes.specs.OutcomeText.{under, names_of, same_names, is_change, changes_of}
 use Rattle.am_outcomes.specs.OutcomeText.{changes_text}
@@ -34,9 +35,9 @@ not_false : (b : Bool) → not b ≡ false → b ≡ true
 not_false true negated = refl
 not_false false negated = absurd (false≢true (sym negated))
 
-module _ (ascii : Bool) (s : Space) (old new : Configuration) (u : List Label)
+module _ (a : Alphabet) (s : Space) (old new : Configuration) (u : List Label)
     (outcomes : List (List (List ℕ) × List ℕ))
-    (are : AreAllOutcomes ascii s (Pair old new) u outcomes) where
+    (are : AreAllOutcomes a s (Pair old new) u outcomes) where
   abbrev both : LabelMap → List (List ℕ)
   both set = fate (old ∷ new ∷ []) set
 
@@ -64,10 +65,10 @@ module _ (ascii : Bool) (s : Space) (old new : Configuration) (u : List Label)
       (not_false (is_same (both set)) here)
 
   is_so : (change : List (List ℕ) × List ℕ) → IsIn changes change
-      → IsChange ascii s u old new change
+      → IsChange a s u old new change
   is_so change there =
       let kept = passes_from_kept (is_change old new) outcomes change there in
-      let outcome = AllByRecursion-at (IsOutcome ascii s u (old ∷ new ∷ [])) outcomes change
+      let outcome = AllByRecursion-at (IsOutcome a s u (old ∷ new ∷ [])) outcomes change
       are.each kept.0 in (
         outcome.0,
         outcome.1,
@@ -88,14 +89,14 @@ module _ (ascii : Bool) (s : Space) (old new : Configuration) (u : List Label)
     | inr no_change ↦ inl (goes_the_same alert outcome.0 (sym has) no_change)
   ]
 
-  is_told : (alert : LabelMap) → Counts ascii s alert → IsTold alert
+  is_told : (alert : LabelMap) → IsAlertOf a s alert → IsTold alert
   is_told alert counts =
       let there = IsIn-from_Contains (fates outcomes) (both alert) (are.all alert counts) in
       let outcome = IsIn-unmap (λ o. o.0) outcomes (both alert) there in
       by_test alert outcome.0 outcome.1 outcome.2
 
   abbrev AllGoTheSameWay : Type 0
-  AllGoTheSameWay = (alert : LabelMap) → Counts ascii s alert → GoesTheSameWay old new alert
+  AllGoTheSameWay = (alert : LabelMap) → IsAlertOf a s alert → GoesTheSameWay old new alert
 
   none_told : length changes ≡ 0 → AllGoTheSameWay
   none_told none alert counts = elim (is_told alert counts) [
@@ -116,12 +117,12 @@ module _ (ascii : Bool) (s : Space) (old new : Configuration) (u : List Label)
       so.2 (same (label_set_of u change.1) so.0))
 
   pub compared : (count : ℕ) (report : List ℕ) → count ≡ length changes
-      → report ≡ changes_text u old new outcomes → IsComparison ascii s old new count report
+      → report ≡ changes_text u old new outcomes → IsComparison a s old new count report
   compared count report counted text = record {
     labels = u;
     outcomes = outcomes;
     are = are;
-    each = AllByRecursion-each (IsChange ascii s u old new) changes is_so;
+    each = AllByRecursion-each (IsChange a s u old new) changes is_so;
     all = is_told;
     once = distinct_kept same_fate (λ o. o.0) (is_change old new) outcomes are.once;
     none = (λ none. none_told (sym counted ∙ none), λ same. counted ∙ none_there same);

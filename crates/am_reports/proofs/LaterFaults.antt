@@ -17,7 +17,6 @@ use Rattle.am_complete.specs.declared.origin.Origin.{Origin}
 use Rattle.am_complete.specs.declared.origin.Origin.TheVariants as origin_is
 use Rattle.am_universe_command.specs.Universes.{matcher_places, later_stages}
 use Rattle.am_universe_command.proofs.UniverseStages.{origin_in, refused_later}
-use Rattle.am_lint.specs.Findings.{alphabet_of}
 use Rattle.am_reports.specs.Configurations.{Configurations, One, Pair, asks_of, first_place}
 use Rattle.am_reports.specs.ReportInputs.{ReportInputs, AcceptsReportInputs}
 use Rattle.am_reports.specs.CompareInputs.{CompareInputs, AcceptsCompareInputs}
@@ -67,23 +66,23 @@ outcomes_in a s k place r (inl declared) = declared_in a s k place r declared
 outcomes_in a s k place r (inr (whole, inl made)) = made_in a s.impossible k place r made
 outcomes_in a s k place r (inr (whole, inr many)) = inl (sym many.0)
 
-lint_in : (ascii : Bool) (s : Space) (w : World) (place : Place) (r : Refusal)
-    → IsLintRefusal ascii s w place r → IsIn matcher_places place
-lint_in ascii s w place r (inl declared) =
-    declared_in (alphabet_of ascii) s (One w.config) place r declared
-lint_in ascii s w place r (inr (whole, inl (inl every))) =
-    made_in (alphabet_of ascii) s.impossible (One w.config) place r every
-lint_in ascii s w place r (inr (whole, inl (inr ordinary))) =
+lint_in : (a : Alphabet) (s : Space) (w : World) (place : Place) (r : Refusal)
+    → IsLintRefusal a s w place r → IsIn matcher_places place
+lint_in a s w place r (inl declared) =
+    declared_in a s (One w.config) place r declared
+lint_in a s w place r (inr (whole, inl (inl every))) =
+    made_in a s.impossible (One w.config) place r every
+lint_in a s w place r (inr (whole, inl (inr ordinary))) =
     made_in Ascii s.impossible (One w.config) place r ordinary
-lint_in ascii s w place r (inr (whole, inr (inl rule))) = inr (inl (sym rule.2))
-lint_in ascii s w place r (inr (whole, inr (inr silence))) =
+lint_in a s w place r (inr (whole, inr (inl rule))) = inr (inl (sym rule.2))
+lint_in a s w place r (inr (whole, inr (inr silence))) =
     inr (inr (inr (inr (inl (sym silence.2)))))
 
 -- ---- The first faults.
 
 pub outcomes_refused : (inputs : ReportInputs) (s : Space) (c : Configuration) (place : Place)
     (r : Refusal) → AcceptsReportInputs inputs s c
-    → IsOutcomesRefusal (alphabet_of inputs.ascii) s (One c) place r
+    → IsOutcomesRefusal inputs.alphabet s (One c) place r
     → IsFirstFaultOfCall (outcomes_promise inputs).stages place r
 outcomes_refused inputs s c place r accepts refused =
     inr (
@@ -91,24 +90,24 @@ outcomes_refused inputs s c place r accepts refused =
       inr (
         (c, accepts.says_config),
         refused_later (RefusesOutcomes inputs) place r (s, c, accepts, refused)
-            (outcomes_in (alphabet_of inputs.ascii) s (One c) place r refused),
+            (outcomes_in inputs.alphabet s (One c) place r refused),
       ),
     )
 
 pub comparison_refused : (inputs : CompareInputs) (s : Space) (old new : Configuration)
     (place : Place) (r : Refusal) → AcceptsCompareInputs inputs s old new
-    → IsOutcomesRefusal (alphabet_of inputs.ascii) s (Pair old new) place r
+    → IsOutcomesRefusal inputs.alphabet s (Pair old new) place r
     → IsFirstFaultOfCall (compare_promise inputs).stages place r
 comparison_refused inputs s old new place r accepts refused =
     let later = refused_later (RefusesComparison inputs) place r (s, old, new, accepts, refused)
-    (outcomes_in (alphabet_of inputs.ascii) s (Pair old new) place r refused) in
+    (outcomes_in inputs.alphabet s (Pair old new) place r refused) in
     inr (
       (s, accepts.says_universe),
       inr ((old, accepts.says_old), inr ((new, accepts.says_new), later)),
     )
 
 pub lint_refused : (inputs : LintInputs) (s : Space) (w : World) (place : Place) (r : Refusal)
-    → AcceptsLintInputs inputs s w → IsLintRefusal inputs.ascii s w place r
+    → AcceptsLintInputs inputs s w → IsLintRefusal inputs.alphabet s w place r
     → IsFirstFaultOfCall (lint_promise inputs).stages place r
 lint_refused inputs s w place r accepts refused =
     inr (
@@ -116,5 +115,5 @@ lint_refused inputs s w place r accepts refused =
       first_behind_world inputs.files w (later_stages (RefusesLint inputs)) place r
           accepts.accepts_world
           (refused_later (RefusesLint inputs) place r (s, w, accepts, refused)
-          (lint_in inputs.ascii s w place r refused)),
+          (lint_in inputs.alphabet s w place r refused)),
     )

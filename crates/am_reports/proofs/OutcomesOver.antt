@@ -1,5 +1,5 @@
 -- The outcomes of a space that stands for the alerts that count are those of these alerts.
-use Rattle.std.proofs.Common.{◌≡◌, Bool, ℕ, List, [], ◌∷◌, map, Contains, refl}
+use Rattle.std.proofs.Common.{◌≡◌, ℕ, List, [], ◌∷◌, map, Contains, refl}
 use Rattle.std.proofs.Common.{sym, subst, ◌∙◌}
 use Rattle.std.specs.Cmp.Lexicographic.{bytes_decides}
 use lib.Pointwise.{pointwise_decides}
@@ -9,11 +9,11 @@ use Rattle.am_universe.proofs.ListLemmas.{IsIn, IsIn-map, IsIn-unmap, IsIn-from_
 use Rattle.am_universe.proofs.ListLemmas.{Contains-from_IsIn, AllByRecursion-each}
 use Rattle.am_labels.specs.Space.{Space, all_choices}
 use Rattle.am_labels.proofs.SpaceLaws.{space_choices}
+use Rattle.am_classes.specs.declared.alphabet.Alphabet.{Alphabet}
 use Rattle.am_asked.specs.Asked.{route_conditions}
-use Rattle.am_every_alert.specs.EveryAlert.{MeetsTheSame}
+use Rattle.am_every_alert.specs.EveryAlert.{IsAlertOf, MeetsTheSame}
 use Rattle.am_every_alert.proofs.SpaceAlerts.{choice_of_alert, alert_of_set}
 use Rattle.am_every_alert.proofs.SameFate.{front_met, rest_met, same_receivers}
-use Rattle.am_lint.specs.Findings.{alphabet_of, Counts}
 use Rattle.am_outcomes.specs.Outcomes.{fate, same_fate, with_fate, outcomes_of}
 use Rattle.am_outcomes.proofs.FirstsLemmas.{Decides, first_is_one, first_of_key, firsts_apart}
 use Rattle.am_reports.specs.Configurations.{Configurations, One, Pair, each_of}
@@ -37,8 +37,8 @@ fate_met (Pair old new) set alert met =
     let second = same_receivers set alert new (rest_met set alert before after met) in
     λ i. first i ∷ second i ∷ []
 
-module _ (ascii : Bool) (s : Space) (k : Configurations) (u : List Label)
-    (stands : StandsForAll (alphabet_of ascii) s.impossible k u) where
+module _ (a : Alphabet) (s : Space) (k : Configurations) (u : List Label)
+    (stands : StandsForAll a s.impossible k u) where
   abbrev made : Space
   made = space_of s.impossible u
 
@@ -46,31 +46,30 @@ module _ (ascii : Bool) (s : Space) (k : Configurations) (u : List Label)
   with_fates = map (with_fate made (each_of k)) (all_choices made)
 
   choice_counts : (choice : List ℕ) → IsIn (all_choices made) choice
-      → Counts ascii s (label_set_of u choice)
+      → IsAlertOf a s (label_set_of u choice)
   choice_counts choice there =
-      alert_of_set (alphabet_of ascii) made (conditions_of_routes k) stands.stands
-      (label_set_of u choice)
+      alert_of_set a made (conditions_of_routes k) stands.stands (label_set_of u choice)
       (choice, (space_choices made choice).0 (Contains-from_IsIn (all_choices made) choice there), refl)
 
   is_outcome : (outcome : List (List ℕ) × List ℕ) → IsIn (outcomes_of made (each_of k)) outcome
-      → IsOutcome ascii s u (each_of k) outcome
+      → IsOutcome a s u (each_of k) outcome
   is_outcome outcome there =
       let from = IsIn-unmap (with_fate made (each_of k)) (all_choices made) outcome
       (first_is_one same_fate with_fates outcome there) in
-      subst (IsOutcome ascii s u (each_of k)) from.2 (choice_counts from.0 from.1, refl)
+      subst (IsOutcome a s u (each_of k)) from.2 (choice_counts from.0 from.1, refl)
 
-  choice_of : (alert : LabelMap) → Counts ascii s alert
+  choice_of : (alert : LabelMap) → IsAlertOf a s alert
       → (choice : List ℕ) × IsIn (all_choices made) choice
       × (fate (each_of k) (label_set_of u choice) ≡ fate (each_of k) alert)
   choice_of alert counts =
-      let r = choice_of_alert (alphabet_of ascii) made (conditions_of_routes k) alert
+      let r = choice_of_alert a made (conditions_of_routes k) alert
       stands.stands.universe stands.stands.complete counts in (
         r.0,
         IsIn-from_Contains (all_choices made) r.0 ((space_choices made r.0).1 r.1),
         fate_met k (label_set_of u r.0) alert r.2,
       )
 
-  has_fate : (alert : LabelMap) → Counts ascii s alert
+  has_fate : (alert : LabelMap) → IsAlertOf a s alert
       → Contains (fates (outcomes_of made (each_of k))) (fate (each_of k) alert)
   has_fate alert counts =
       let outcomes = outcomes_of made (each_of k) in
@@ -85,14 +84,14 @@ module _ (ascii : Bool) (s : Space) (k : Configurations) (u : List Label)
       (IsIn-map (λ outcome. outcome.0) outcomes first.0 first.1))
 
   pub outcomes_are : (outcomes : List (List (List ℕ) × List ℕ))
-      → outcomes ≡ outcomes_of made (each_of k) → AreAllOutcomes ascii s k u outcomes
+      → outcomes ≡ outcomes_of made (each_of k) → AreAllOutcomes a s k u outcomes
   outcomes_are outcomes order =
-      let all : AreAllOutcomes ascii s k u (outcomes_of made (each_of k)) = record {
+      let all : AreAllOutcomes a s k u (outcomes_of made (each_of k)) = record {
         stands = stands;
         order = refl;
-        each = AllByRecursion-each (IsOutcome ascii s u (each_of k))
+        each = AllByRecursion-each (IsOutcome a s u (each_of k))
             (outcomes_of made (each_of k)) is_outcome;
         all = has_fate;
         once = firsts_apart same_fate fate_decides with_fates;
       } in
-      subst (AreAllOutcomes ascii s k u) (sym order) all
+      subst (AreAllOutcomes a s k u) (sym order) all

@@ -1,5 +1,5 @@
 -- What is found about routes over universes that stand for alerts is true of these alerts.
-use Rattle.std.proofs.Common.{◌≡◌, List, Bool, false, Option, Some, None, is_none, IfSome}
+use Rattle.std.proofs.Common.{◌≡◌, List, Option, Some, None, IfSome}
 use Rattle.std.proofs.Common.{sym, subst, ◌∙◌}
 use Rattle.std.specs.Prelude.{Vec, length}
 use Rattle.std.specs.Global.{Global}
@@ -20,13 +20,13 @@ use Rattle.am_lint.proofs.FoundLemmas.{IsFoundSo}
 use Rattle.am_lint.proofs.FoundOver.{found_over_ascii, found_over_unicode}
 use Rattle.am_every_alert.specs.Deciding.{space_of}
 use Rattle.am_reports.specs.Configurations.{One}
-use Rattle.am_reports.specs.Made.{StandsForAll}
+use Rattle.am_reports.specs.Made.{StandsForAll, alphabet_over}
 
 -- what is found about each route is true, with choices of some labels and, for every alert, of
 -- those of a universe
-abbrev pub AreFoundSo : Bool → Space → List Label → Configuration → List FoundRoute → Type 0
-AreFoundSo ascii s v c found =
-    (u : List Label) × AllZip (IsFoundSo ascii s u v c) (all_routes c) found
+abbrev pub AreFoundSo : Alphabet → Space → List Label → Configuration → List FoundRoute → Type 0
+AreFoundSo a s v c found =
+    (u : List Label) × AllZip (IsFoundSo a s u v c) (all_routes c) found
 
 -- a space with these labels and the impossible lists of another space
 abbrev pub IsSpaceWith : Space → List Label → Space → Type 0
@@ -44,9 +44,9 @@ module _ (s o : Space) (c : Configuration) (u : List Label)
   pub found_ordinary : (every : Option (List Label)) (v : List Label) (found : List FoundRoute)
       → every ≡ None → AllZip (IsFoundIn o c) (all_routes c) found
       → AllByRecursion (λ route. route.every ≡ None) found
-      → AreFoundSo (is_none every) s v c found
+      → AreFoundSo (alphabet_over every) s v c found
   found_ordinary every v found none so once =
-      subst (λ (x : Option (List Label)). AreFoundSo (is_none x) s v c found) (sym none)
+      subst (λ (x : Option (List Label)). AreFoundSo (alphabet_over x) s v c found) (sym none)
       (o.labels, found_over_ascii s o c (stands Ascii s o c u over is) is.1 v found so once)
 
   pub found_every : (every : Option (List Label)) (v : List Label) (e : Space)
@@ -54,17 +54,17 @@ module _ (s o : Space) (c : Configuration) (u : List Label)
       → IfSome every (StandsForAll Unicode s.impossible (One c)) → IsSpaceWith s v e
       → AllZip (IsFoundIn o c) (all_routes c) old.items → AllZip IsSameButEvery old.items new
       → AllByRecursion (λ route. IsLookedAt e c route.path route.ordinary route.every) new
-      → AreFoundSo (is_none every) s e.labels c (with_items old new).items
+      → AreFoundSo (alphabet_over every) s e.labels c (with_items old new).items
   found_every every v e old new some all at so same looked =
       let stands_all : StandsForAll Unicode s.impossible (One c) v = rw some at all in
       let long : length new ≡ old.len =
       sym (length_all_zip IsSameButEvery old.items new same) ∙ sym old.ok.0 in
-      let found : AreFoundSo false s e.labels c new = (
+      let found : AreFoundSo Unicode s e.labels c new = (
         o.labels,
         found_over_unicode s o c (stands Ascii s o c u over is) is.1 e
             (stands Unicode s e c v stands_all at) at.1 old.items new so same looked,
       ) in
       subst (λ (x : Option (List Label)).
-      AreFoundSo (is_none x) s e.labels c (with_items old new).items) (sym some)
-      (subst (λ (items : List FoundRoute). AreFoundSo false s e.labels c items)
+      AreFoundSo (alphabet_over x) s e.labels c (with_items old new).items) (sym some)
+      (subst (λ (items : List FoundRoute). AreFoundSo Unicode s e.labels c items)
       (sym (with_items_is old new long)) found)

@@ -1,12 +1,13 @@
 -- The outcomes of every alert that counts, under one configuration or under two. (This project's
 -- own.)
-use Rattle.std.specs.Prelude.{◌≡◌, ℕ, List, Bool, map, Contains}
+use Rattle.std.specs.Prelude.{◌≡◌, ℕ, List, map, Contains}
 use Rattle.std.specs.List.{AllByRecursion, IsDistinct}
 use Rattle.am_universe.specs.Universe.{Label}
 use Rattle.am_universe.specs.LabelSet.{LabelMap, label_set_of}
 use Rattle.am_labels.specs.Space.{Space}
 use Rattle.am_config.specs.ConfigFile.{Configuration}
-use Rattle.am_lint.specs.Findings.{alphabet_of, Counts}
+use Rattle.am_classes.specs.declared.alphabet.Alphabet.{Alphabet}
+use Rattle.am_every_alert.specs.EveryAlert.{IsAlertOf}
 use Rattle.am_outcomes.specs.Outcomes.{fate, same_fate, outcomes_of}
 use Rattle.am_every_alert.specs.Deciding.{space_of}
 use Rattle.am_reports.specs.Configurations.{Configurations, each_of}
@@ -15,9 +16,9 @@ use Rattle.am_reports.specs.Made.{StandsForAll}
 -- The label set that is shown for an outcome is that of an alert that counts, and it has the fate
 -- of the outcome.
 abbrev pub IsOutcome :
-    Bool → Space → List Label → List Configuration → List (List ℕ) × List ℕ → Type 0
-IsOutcome ascii s u cs outcome =
-    Counts ascii s (label_set_of u outcome.1)
+    Alphabet → Space → List Label → List Configuration → List (List ℕ) × List ℕ → Type 0
+IsOutcome a s u cs outcome =
+    IsAlertOf a s (label_set_of u outcome.1)
     × (fate cs (label_set_of u outcome.1) ≡ outcome.0)
 
 -- The fates of outcomes. A fate is the receivers under each configuration.
@@ -32,11 +33,11 @@ fates outcomes = map (λ outcome. outcome.0) outcomes
 -- Example: if alerts of the team `db` go to the receiver at position 1 and all others to the one at
 -- 0, there are two outcomes, whatever labels the alerts have. One is 0, shown with `{}`, and the
 -- other is 1, shown with `{team="db"}`.
-pub record AreAllOutcomes (ascii : Bool) (s : Space) (k : Configurations) (labels : List Label)
+pub record AreAllOutcomes (a : Alphabet) (s : Space) (k : Configurations) (labels : List Label)
     (outcomes : List (List (List ℕ) × List ℕ)) : Type 0 where
-  pub stands : StandsForAll (alphabet_of ascii) s.impossible k labels
+  pub stands : StandsForAll a s.impossible k labels
   pub order : outcomes ≡ outcomes_of (space_of s.impossible labels) (each_of k)
-  pub each : AllByRecursion (IsOutcome ascii s labels (each_of k)) outcomes
-  pub all : (alert : LabelMap) → Counts ascii s alert
+  pub each : AllByRecursion (IsOutcome a s labels (each_of k)) outcomes
+  pub all : (alert : LabelMap) → IsAlertOf a s alert
       → Contains (fates outcomes) (fate (each_of k) alert)
   pub once : IsDistinct same_fate (fates outcomes)

@@ -1,5 +1,5 @@
 -- What `compare` owes. (This project's own.)
-use Rattle.std.specs.Prelude.{◌≡◌, ◌⊎◌, ◌↔◌, ℕ, List, [], ◌∷◌, ◌++◌, Bool, length, Contains}
+use Rattle.std.specs.Prelude.{◌≡◌, ◌⊎◌, ◌↔◌, ℕ, List, [], ◌∷◌, ◌++◌, length, Contains}
 use Rattle.std.specs.List.{AllByRecursion, IsDistinct}
 use Rattle.am_universe.specs.declared.place.Place.{Place}
 use Rattle.am_universe.specs.Universe.{Label}
@@ -9,7 +9,8 @@ use Rattle.am_json.specs.Pointer.{Refusal}
 use Rattle.am_config.specs.ConfigFile.{Configuration}
 use Rattle.am_files.specs.Promise.{Promise}
 use Rattle.am_eval.specs.Routing.{receivers}
-use Rattle.am_lint.specs.Findings.{alphabet_of, Counts}
+use Rattle.am_classes.specs.declared.alphabet.Alphabet.{Alphabet}
+use Rattle.am_every_alert.specs.EveryAlert.{IsAlertOf}
 use Rattle.am_outcomes.specs.Outcomes.{fate, same_fate}
 use Rattle.am_outcomes.specs.OutcomeText.{names_of, changes_of, changes_text}
 use Rattle.am_reports.specs.Configurations.{Pair}
@@ -31,33 +32,33 @@ GoesTheSameWay old new alert =
 -- The label set that is shown for a change is that of an alert that counts. The alert goes to the
 -- receivers of the change under the old configuration and under the new one, and their names
 -- differ.
-abbrev pub IsChange : Bool → Space → List Label → Configuration → Configuration
+abbrev pub IsChange : Alphabet → Space → List Label → Configuration → Configuration
     → List (List ℕ) × List ℕ → Type 0
-IsChange ascii s u old new change =
-    Counts ascii s (label_set_of u change.1)
+IsChange a s u old new change =
+    IsAlertOf a s (label_set_of u change.1)
     × (fate (old ∷ new ∷ []) (label_set_of u change.1) ≡ change.0)
     × (GoesTheSameWay old new (label_set_of u change.1) → ⊥)
 
--- The text is a comparison of two configurations, for all alerts of a space or only the ordinary
--- ones: a line for each outcome that is a change, and the number of changes. What is shown for each
--- change is true. Each alert that counts goes to receivers of the same names under both
+-- The text is a comparison of two configurations, for the alerts of a space over an alphabet: a
+-- line for each outcome that is a change, and the number of changes. What is shown for each change
+-- is true. Each alert that counts goes to receivers of the same names under both
 -- configurations, or has the fate of one of the changes. No two changes have the same fate. There
 -- is no change exactly if every alert that counts goes to receivers of the same names under both.
 -- Source: own choice.
 -- Example: `"db-mail" -> "web-pager" {team="web"}` says that `{team="web"}` goes to `db-mail` under
 -- the old configuration, and to `web-pager` under the new one.
-pub record IsComparison (ascii : Bool) (s : Space) (old new : Configuration) (changes : ℕ)
+pub record IsComparison (a : Alphabet) (s : Space) (old new : Configuration) (changes : ℕ)
     (report : List ℕ) : Type 0 where
   pub labels : List Label
   pub outcomes : List (List (List ℕ) × List ℕ)
-  pub are : AreAllOutcomes ascii s (Pair old new) labels outcomes
-  pub each : AllByRecursion (IsChange ascii s labels old new) (changes_of old new outcomes)
-  pub all : (alert : LabelMap) → Counts ascii s alert
+  pub are : AreAllOutcomes a s (Pair old new) labels outcomes
+  pub each : AllByRecursion (IsChange a s labels old new) (changes_of old new outcomes)
+  pub all : (alert : LabelMap) → IsAlertOf a s alert
       → GoesTheSameWay old new alert
       ⊎ Contains (fates (changes_of old new outcomes)) (fate (old ∷ new ∷ []) alert)
   pub once : IsDistinct same_fate (fates (changes_of old new outcomes))
   pub none : (changes ≡ 0)
-      ↔ ((alert : LabelMap) → Counts ascii s alert → GoesTheSameWay old new alert)
+      ↔ ((alert : LabelMap) → IsAlertOf a s alert → GoesTheSameWay old new alert)
   pub counted : changes ≡ length (changes_of old new outcomes)
   pub text : report ≡ changes_text labels old new outcomes
 
@@ -73,15 +74,15 @@ pub record ComparesFiles (inputs : CompareInputs) (changes : ℕ) (report : List
   pub old : Configuration
   pub new : Configuration
   pub accepts : AcceptsCompareInputs inputs space old new
-  pub whole : AreDeclaredWhole (alphabet_of inputs.ascii) space (Pair old new) space.labels
-  pub compares : IsComparison inputs.ascii space old new changes report
+  pub whole : AreDeclaredWhole inputs.alphabet space (Pair old new) space.labels
+  pub compares : IsComparison inputs.alphabet space old new changes report
 
 -- The inputs are accepted, and what they say is refused at this place.
 abbrev pub RefusesComparison : CompareInputs → Place → Refusal → Type 0
 RefusesComparison inputs place r =
     (s : Space) × (old : Configuration) × (new : Configuration)
     × AcceptsCompareInputs inputs s old new
-    × IsOutcomesRefusal (alphabet_of inputs.ascii) s (Pair old new) place r
+    × IsOutcomesRefusal inputs.alphabet s (Pair old new) place r
 
 -- What `compare` owes. It returns the number of changes.
 -- Source: own choice.

@@ -1,19 +1,20 @@
 -- The inputs of `lint`, when they are accepted, and the order of their faults. (This project's
 -- own.)
-use Rattle.std.specs.Prelude.{ℕ, List, ◌∷◌, Bool, Option}
+use Rattle.std.specs.Prelude.{ℕ, List, ◌∷◌, Option}
 use Rattle.am_labels.specs.Space.{Space}
 use Rattle.am_files.specs.Files.{Files}
 use Rattle.am_eval.specs.World.{World}
 use Rattle.am_files.specs.AcceptedWorld.{AcceptsWorld, world_stages}
 use Rattle.am_files.specs.Faults.{Stage}
+use Rattle.am_classes.specs.declared.alphabet.Alphabet.{Alphabet}
 use Rattle.am_universe_command.specs.UniverseInputs.{SaysUniverseIfAny, universe_stage_if_any}
 
--- The bytes of a universe file, if there is one; the other files, with the instant; and whether
--- only ordinary alerts count.
+-- The bytes of a universe file, if there is one; the other files, with the instant; and which texts
+-- the labels of alerts may have.
 pub record LintInputs : Type 0 where
   pub universe : Option (List ℕ)
   pub files : Files
-  pub ascii : Bool
+  pub alphabet : Alphabet
 
 -- The inputs are accepted: the universe file says the space, and the other files say the world at
 -- the instant. Without a universe file the space has no labels, and nothing is impossible in it.

@@ -5,8 +5,8 @@ use Rattle.am_labels.specs.Space.{Space}
 use Rattle.am_json.specs.Pointer.{Refusal}
 use Rattle.am_eval.specs.World.{World}
 use Rattle.am_files.specs.Promise.{Promise}
+use Rattle.am_classes.specs.declared.alphabet.Alphabet.{Alphabet}
 use Rattle.am_asked.specs.Made.{undeclared}
-use Rattle.am_lint.specs.Findings.{alphabet_of}
 use Rattle.am_lint.specs.Report.{SaysOfRoutes}
 use Rattle.am_reports.specs.Configurations.{One}
 use Rattle.am_reports.specs.LintInputs.{LintInputs, AcceptsLintInputs, lint_input_stages}
@@ -20,12 +20,11 @@ use Rattle.am_reports.specs.LintSections.{IsRulesRefusal, IsSilencesRefusal}
 -- label lacks a value, and it is refused for the routes, a rule or a silence. If there is a
 -- universe file, its impossible lists count for rules and silences, but the labels that it declares
 -- do not.
-abbrev pub IsLintRefusal : Bool → Space → World → Place → Refusal → Type 0
-IsLintRefusal ascii s w place r =
-    let a = alphabet_of ascii in
+abbrev pub IsLintRefusal : Alphabet → Space → World → Place → Refusal → Type 0
+IsLintRefusal a s w place r =
     IsDeclaredRefusal a s (One w.config) place r
     ⊎ (AreDeclaredWhole a s (One w.config) s.labels
-    × (IsRoutesRefusal ascii s.impossible w.config place r
+    × (IsRoutesRefusal a s.impossible w.config place r
     ⊎ (IsRulesRefusal a (undeclared s) w.config.rules place r
     ⊎ IsSilencesRefusal a (undeclared s) w place r)))
 
@@ -33,7 +32,7 @@ IsLintRefusal ascii s w place r =
 abbrev pub RefusesLint : LintInputs → Place → Refusal → Type 0
 RefusesLint inputs place r =
     (s : Space) × (w : World) × AcceptsLintInputs inputs s w
-    × IsLintRefusal inputs.ascii s w place r
+    × IsLintRefusal inputs.alphabet s w place r
 
 -- The text is a report on a world, for every alert that counts, with this number of findings. What
 -- its sections say about routes and receivers, rules, silences and values is true. If `given`, a
@@ -41,24 +40,24 @@ RefusesLint inputs place r =
 -- Source: own choice.
 -- Example: if some ordinary alert ends at each route, each receiver gets one, and there are no
 -- rules, silences and alerts, the report is `# 0 findings, 0 notes`.
-pub record IsLintReport (ascii given : Bool) (s : Space) (w : World) (findings : ℕ)
+pub record IsLintReport (a : Alphabet) (given : Bool) (s : Space) (w : World) (findings : ℕ)
     (report : List ℕ) : Type 0 where
   pub routes : Section
   pub says_of_routes :
-      SaysOfRoutes ascii (undeclared s) w.config routes.findings routes.notes routes.lines
+      SaysOfRoutes a (undeclared s) w.config routes.findings routes.notes routes.lines
   pub rules : Section
-  pub says_of_rules : SaysOfRules (alphabet_of ascii) (undeclared s) w.config.rules rules
+  pub says_of_rules : SaysOfRules a (undeclared s) w.config.rules rules
   pub silences : Section
-  pub says_of_silences : SaysOfSilences (alphabet_of ascii) (undeclared s) w given silences
+  pub says_of_silences : SaysOfSilences a (undeclared s) w given silences
   pub counted : findings
       ≡ all_findings (routes ∷ rules ∷ silences ∷ values_section given w ∷ [])
   pub text : report ≡ report_text (routes ∷ rules ∷ silences ∷ values_section given w ∷ [])
 
 -- No label that the space declares lacks a value, and the text is such a report.
-pub record IsLinted (ascii given : Bool) (s : Space) (w : World) (findings : ℕ)
+pub record IsLinted (a : Alphabet) (given : Bool) (s : Space) (w : World) (findings : ℕ)
     (report : List ℕ) : Type 0 where
-  pub whole : AreDeclaredWhole (alphabet_of ascii) s (One w.config) s.labels
-  pub reports : IsLintReport ascii given s w findings report
+  pub whole : AreDeclaredWhole a s (One w.config) s.labels
+  pub reports : IsLintReport a given s w findings report
 
 -- The inputs are accepted, no label that the universe file declares lacks a value, and the text is
 -- a report of what is wrong with the configuration, for every possible alert; with `--ascii`, for
@@ -74,7 +73,7 @@ pub record LintsFiles (inputs : LintInputs) (found : Bool) (report : List ℕ) :
   pub findings : ℕ
   pub is_found : found ≡ nat_lt 0 findings
   pub linted :
-      IsLinted inputs.ascii (is_some inputs.files.alerts) space world findings report
+      IsLinted inputs.alphabet (is_some inputs.files.alerts) space world findings report
 
 -- What `lint` owes. It returns whether there is a finding.
 -- Source: own choice.

@@ -1,7 +1,7 @@
 -- Universes that are made in memory for the routes of one or two configurations, and why none is
 -- made. (This project's own.)
-use Rattle.std.specs.Prelude.{◌≡◌, ◌⊎◌, ℕ, List, [], ◌++◌, Some, slice_get, take, codes, decimal}
-use Rattle.std.specs.Prelude.{Contains, Bool}
+use Rattle.std.specs.Prelude.{◌≡◌, ◌⊎◌, ℕ, List, [], ◌++◌, Option, Some, None, slice_get, take}
+use Rattle.std.specs.Prelude.{Contains, codes, decimal}
 use Rattle.std.specs.List.{AllByRecursion}
 use Rattle.am_universe.specs.declared.kind.Kind.TheVariants as kinds
 use Rattle.am_universe.specs.declared.place.Place.{Place}
@@ -12,7 +12,7 @@ use Rattle.am_labels.specs.Space.{Space}
 use Rattle.am_json.specs.Pointer.{Refusal}
 use Rattle.am_config.specs.ConfigFile.{Configuration}
 use Rattle.am_classes.specs.declared.alphabet.Alphabet.{Alphabet}
-use Rattle.am_classes.specs.declared.alphabet.Alphabet.TheVariants.{Ascii}
+use Rattle.am_classes.specs.declared.alphabet.Alphabet.TheVariants.{Unicode, Ascii}
 use Rattle.am_complete.specs.declared.origin.Origin.{Origin}
 use Rattle.am_complete.specs.declared.label_state.Completeness.{Completeness}
 use Rattle.am_complete.specs.declared.label_state.Completeness.TheVariants as state_is
@@ -23,7 +23,6 @@ use Rattle.am_classes.specs.Alike.{HasPattern}
 use Rattle.am_every_alert.specs.Deciding.{StandsFor, space_of}
 use Rattle.am_asked.specs.OriginPointer.{origin_pointer}
 use Rattle.am_asked.specs.Made.{NoRoomFor, UnprovedFor}
-use Rattle.am_lint.specs.Findings.{alphabet_of}
 use Rattle.am_reports.specs.Configurations.{Configurations, One}
 use Rattle.am_reports.specs.Configurations.{conditions_of_routes, routing_conditions}
 use Rattle.am_reports.specs.Configurations.{labels_of_routes, first_place}
@@ -62,12 +61,17 @@ IsDeclaredWhole a s k label = IsSpaceCompleteAt a s (routing_conditions s k) lab
 abbrev pub AreDeclaredWhole : Alphabet → Space → Configurations → List Label → Type 0
 AreDeclaredWhole a s k labels = AllByRecursion (IsDeclaredWhole a s k) labels
 
+-- The alphabet of the alerts that count, by the universe for all alerts, which is made only if they
+-- all count.
+abbrev pub alphabet_over : Option (List Label) → Alphabet
+alphabet_over None = Ascii
+alphabet_over (Some u) = Unicode
+
 -- No universe is made for the alerts that count, or none for ordinary alerts.
 abbrev pub IsRoutesRefusal :
-    Bool → List (List Condition) → Configuration → Place → Refusal → Type 0
-IsRoutesRefusal ascii lists c place r =
-    IsMadeRefusal (alphabet_of ascii) lists (One c) place r
-    ⊎ IsMadeRefusal Ascii lists (One c) place r
+    Alphabet → List (List Condition) → Configuration → Place → Refusal → Type 0
+IsRoutesRefusal a lists c place r =
+    IsMadeRefusal a lists (One c) place r ⊎ IsMadeRefusal Ascii lists (One c) place r
 
 -- The refusal of a label at a position, which lacks a value; and that of a label of this name that
 -- is unproved, at the file of the first matcher on it, which has this origin.

@@ -1,12 +1,12 @@
 -- What `outcomes` owes. (This project's own.)
-use Rattle.std.specs.Prelude.{◌≡◌, ℕ, List, ◌++◌, Bool, ⊤}
+use Rattle.std.specs.Prelude.{◌≡◌, ℕ, List, ◌++◌, ⊤}
 use Rattle.am_universe.specs.declared.place.Place.{Place}
 use Rattle.am_universe.specs.Universe.{Label}
 use Rattle.am_labels.specs.Space.{Space}
 use Rattle.am_json.specs.Pointer.{Refusal}
 use Rattle.am_config.specs.ConfigFile.{Configuration}
 use Rattle.am_files.specs.Promise.{Promise}
-use Rattle.am_lint.specs.Findings.{alphabet_of}
+use Rattle.am_classes.specs.declared.alphabet.Alphabet.{Alphabet}
 use Rattle.am_outcomes.specs.OutcomeText.{outcomes_text}
 use Rattle.am_reports.specs.Configurations.{One}
 use Rattle.am_universe_command.specs.Universes.{later_stages}
@@ -15,15 +15,15 @@ use Rattle.am_reports.specs.LaterStages.{IsOutcomesRefusal}
 use Rattle.am_reports.specs.Made.{AreDeclaredWhole}
 use Rattle.am_reports.specs.AllOutcomes.{AreAllOutcomes}
 
--- The text is a report of the outcomes of a configuration, for all alerts of a space or only the
--- ordinary ones: a line for each outcome, and then `# end`.
+-- The text is a report of the outcomes of a configuration, for the alerts of a space over an
+-- alphabet: a line for each outcome, and then `# end`.
 -- Source: own choice.
 -- Example: `"db-mail" {team="db"}` says that `{team="db"}` goes to `db-mail`.
-pub record IsOutcomesReport (ascii : Bool) (s : Space) (c : Configuration) (report : List ℕ)
+pub record IsOutcomesReport (a : Alphabet) (s : Space) (c : Configuration) (report : List ℕ)
     : Type 0 where
   pub labels : List Label
   pub outcomes : List (List (List ℕ) × List ℕ)
-  pub are : AreAllOutcomes ascii s (One c) labels outcomes
+  pub are : AreAllOutcomes a s (One c) labels outcomes
   pub text : report ≡ outcomes_text labels c outcomes
 
 -- The inputs are accepted, no label that the universe file declares lacks a value, and the text is
@@ -36,14 +36,14 @@ pub record ReportsOutcomes (inputs : ReportInputs) (report : List ℕ) : Type 0 
   pub space : Space
   pub configuration : Configuration
   pub accepts : AcceptsReportInputs inputs space configuration
-  pub whole : AreDeclaredWhole (alphabet_of inputs.ascii) space (One configuration) space.labels
-  pub reports : IsOutcomesReport inputs.ascii space configuration report
+  pub whole : AreDeclaredWhole inputs.alphabet space (One configuration) space.labels
+  pub reports : IsOutcomesReport inputs.alphabet space configuration report
 
 -- The inputs are accepted, and what they say is refused at this place.
 abbrev pub RefusesOutcomes : ReportInputs → Place → Refusal → Type 0
 RefusesOutcomes inputs place r =
     (s : Space) × (c : Configuration) × AcceptsReportInputs inputs s c
-    × IsOutcomesRefusal (alphabet_of inputs.ascii) s (One c) place r
+    × IsOutcomesRefusal inputs.alphabet s (One c) place r
 
 -- What `outcomes` owes.
 -- Source: own choice.

@@ -1,17 +1,18 @@
 -- The inputs of a report on one configuration, when they are accepted, and the order of their
 -- faults. (This project's own.)
-use Rattle.std.specs.Prelude.{ℕ, List, [], ◌∷◌, Bool, Option}
+use Rattle.std.specs.Prelude.{ℕ, List, [], ◌∷◌, Option}
 use Rattle.am_labels.specs.Space.{Space}
 use Rattle.am_config.specs.ConfigFile.{Configuration, FileSaysConfig}
 use Rattle.am_files.specs.Faults.{Stage, config_stage}
+use Rattle.am_classes.specs.declared.alphabet.Alphabet.{Alphabet}
 use Rattle.am_universe_command.specs.UniverseInputs.{SaysUniverseIfAny, universe_stage_if_any}
 
--- The bytes of a universe file, if there is one, and those of the configuration file; and whether
--- only ordinary alerts count.
+-- The bytes of a universe file, if there is one, and those of the configuration file; and which
+-- texts the labels of alerts may have.
 pub record ReportInputs : Type 0 where
   pub universe : Option (List ℕ)
   pub config : List ℕ
-  pub ascii : Bool
+  pub alphabet : Alphabet
 
 -- The files are accepted: they say the space and the configuration. Without a universe file the
 -- space has no labels, and nothing is impossible in it.

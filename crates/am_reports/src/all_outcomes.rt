@@ -11,7 +11,6 @@ ghost use Rattle.am_universe.specs.declared.kind.Kind.TheVariants as kinds;
 ghost use Rattle.am_universe.specs.declared.place.Place.TheVariants as places;
 ghost use Rattle.am_json.specs.Pointer.{refusal_here};
 ghost use Rattle.am_json.specs.Reading.{refusal_of};
-ghost use Rattle.am_lint.specs.Findings.{alphabet_of};
 ghost use Rattle.am_outcomes.specs.Outcomes.{outcomes_of};
 ghost use Rattle.am_outcomes.specs.Ways.{HaveManyWays};
 ghost use Rattle.am_reports.specs.Configurations.{each_of};
@@ -21,7 +20,8 @@ ghost use Rattle.am_reports.specs.AllOutcomes.{AreAllOutcomes};
 ghost use Rattle.am_reports.specs.LaterStages.{IsOutcomesRefusal};
 
 use crate::configs::Configs;
-use crate::made::{alphabet_of, check_declared, universe_for_routes};
+use crate::made::{check_declared, universe_for_routes};
+use am_classes::Alphabet;
 use am_labels::Space;
 use am_outcomes::{Outcomes, find_outcomes};
 use am_universe::{Fault, Kind, Place, Universe};
@@ -35,19 +35,18 @@ use std::alloc::Global;
 /// there are more ways through the routes than there is room for; and with `Memory`.
 pub(crate) fn all_outcomes(
     alloc: Global,
-    ascii: bool,
+    alphabet: Alphabet,
     space: &mut Space,
     configs: Configs<'_>,
 ) -> Result<Outcomes, Fault>
-    ensures whole { OnOk result (AreDeclaredWhole (alphabet_of ascii) space.old
+    ensures whole { OnOk result (AreDeclaredWhole alphabet space.old
         (configurations_of configs.entry) space.old.labels) }
     ensures are { IfOk result
-        (AreAllOutcomes ascii space.old (configurations_of configs.entry) space.new.labels) }
+        (AreAllOutcomes alphabet space.old (configurations_of configs.entry) space.new.labels) }
     ensures refused { IfErr result (λ fault. fault.kind ≢ kinds.Memory
-        → IsOutcomesRefusal (alphabet_of ascii) space.old (configurations_of configs.entry)
-        fault.place (refusal_of fault)) }
+        → IsOutcomesRefusal alphabet space.old (configurations_of configs.entry) fault.place
+        (refusal_of fault)) }
 {
-    let alphabet = alphabet_of(ascii);
     check_declared(alloc, alphabet, space, configs)?;
     space.declare(Universe::empty(alloc));
     let universe = universe_for_routes(alloc, alphabet, space, configs)?;

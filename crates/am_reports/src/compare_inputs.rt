@@ -8,6 +8,7 @@ ghost use Rattle.am_config.specs.ConfigForm.{ConfigFileRefusedFor};
 ghost use Rattle.am_files.specs.Faults.{IsFirstFault};
 ghost use Rattle.am_reports.specs.CompareInputs.{AcceptsCompareInputs, compare_input_stages};
 
+use am_classes::Alphabet;
 use am_config::{Config, read_config};
 use am_labels::Space;
 use am_universe::{Fault, Place};
@@ -25,8 +26,8 @@ pub struct CompareInputs<'a> {
     pub old: &'a [u8],
     /// The bytes of the new configuration file.
     pub new: &'a [u8],
-    /// Whether only alerts whose values are printable ASCII count.
-    pub ascii: bool,
+    /// Which texts the labels of alerts may have.
+    pub alphabet: Alphabet,
 }
 
 impl<'a> Model for CompareInputs<'a> {
@@ -39,7 +40,7 @@ impl<'a> Model for CompareInputs<'a> {
       universe = option_copied inputs.universe;
       old = inputs.old.now;
       new = inputs.new.now;
-      ascii = inputs.ascii;
+      alphabet = inputs.alphabet;
     } };
 }
 

@@ -43,7 +43,7 @@ pub fn compare<W: Sink>(
     let mut read = read_compared(alloc, inputs)?;
     let (old, new) = (&read.old, &read.new);
     let configs = Configs::Pair(old, new);
-    let outcomes = all_outcomes(alloc, inputs.ascii, &mut read.space, configs)?;
+    let outcomes = all_outcomes(alloc, inputs.alphabet, &mut read.space, configs)?;
     let Ok(changes) = changes_text(alloc, read.space.universe(), old, new, &outcomes) else {
         return Err(Fault::memory(alloc));
     };

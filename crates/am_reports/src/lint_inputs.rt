@@ -4,6 +4,7 @@ ghost use Rattle.std.specs.Prelude.{◌≡◌, is_some, IfOk, IfErr};
 ghost use Rattle.am_files.specs.Faults.{IsFirstFault};
 ghost use Rattle.am_reports.specs.LintInputs.{AcceptsLintInputs, lint_input_stages};
 
+use am_classes::Alphabet;
 use am_eval::World;
 use am_files::{Files, read_world};
 use am_labels::Space;
@@ -21,8 +22,8 @@ pub struct LintInputs<'a> {
     /// The configuration, the silences, the firing alerts, and the instant at which silences are
     /// looked at. Each is optional, but silences need an instant.
     pub files: &'a Files<'a>,
-    /// Whether only alerts whose values are printable ASCII count.
-    pub ascii: bool,
+    /// Which texts the labels of alerts may have.
+    pub alphabet: Alphabet,
 }
 
 impl<'a> Model for LintInputs<'a> {
@@ -34,7 +35,7 @@ impl<'a> Model for LintInputs<'a> {
     ghost view = { λ inputs. record {
       universe = option_copied inputs.universe;
       files = inputs.files.now;
-      ascii = inputs.ascii;
+      alphabet = inputs.alphabet;
     } };
 }
 
@@ -45,13 +46,6 @@ impl<'a> LintInputs<'a> {
     {
         let files = self.files;
         files.alerts.is_some()
-    }
-
-    /// Whether only alerts whose values are printable ASCII count.
-    pub(crate) fn is_ascii(&self) -> bool
-        ensures { result ≡ self.now.ascii }
-    {
-        self.ascii
     }
 }
 

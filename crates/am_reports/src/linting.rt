@@ -10,9 +10,10 @@ use crate::LintInputs;
 use crate::configs::Configs;
 use crate::finding_sections::{rule_section, silence_section, value_section};
 use crate::lint_inputs::read_lint_inputs;
-use crate::made::{alphabet_of, check_declared};
+use crate::made::check_declared;
 use crate::route_section::route_section;
 use crate::section::{LintReport, report_of};
+use am_classes::Alphabet;
 use am_eval::World;
 use am_labels::Space;
 use am_universe::{Fault, Sink, Universe, answer_of_write, put_str};
@@ -50,8 +51,8 @@ pub fn lint<W: Sink>(alloc: Global, inputs: &LintInputs<'_>, out: &mut W) -> Res
     ensures kept { IsKept (lint_promise inputs.now) W.taken W.failures out.old out.new result }
 {
     let mut read = read_lint_inputs(alloc, inputs)?;
-    let (ascii, given) = (inputs.is_ascii(), inputs.has_alerts());
-    let lint = lint_report(alloc, ascii, given, &mut read.space, &read.world)?;
+    let given = inputs.has_alerts();
+    let lint = lint_report(alloc, inputs.alphabet, given, &mut read.space, &read.world)?;
     answer_of_write(
         alloc,
         put_str(out, lint.text.as_str()).and(Ok(lint.findings > 0)),
@@ -62,20 +63,19 @@ pub fn lint<W: Sink>(alloc: Global, inputs: &LintInputs<'_>, out: &mut W) -> Res
 /// space has no labels.
 fn lint_report(
     alloc: Global,
-    ascii: bool,
+    alphabet: Alphabet,
     given: bool,
     space: &mut Space,
     world: &World,
 ) -> Result<LintReport, Fault>
-    ensures reports { IfOk result (λ report. IsLinted ascii given space.old world.now
+    ensures reports { IfOk result (λ report. IsLinted alphabet given space.old world.now
         report.findings (string_bytes report.text)) }
     ensures refused { IfErr result (λ fault. fault.kind ≢ kinds.Memory
-        → IsLintRefusal ascii space.old world.now fault.place (refusal_of fault)) }
+        → IsLintRefusal alphabet space.old world.now fault.place (refusal_of fault)) }
 {
-    let alphabet = alphabet_of(ascii);
     check_declared(alloc, alphabet, space, Configs::One(world.config()))?;
     space.declare(Universe::empty(alloc));
-    let routes = route_section(alloc, ascii, space, world.config())?;
+    let routes = route_section(alloc, alphabet, space, world.config())?;
     let rules = rule_section(alloc, alphabet, space, world.config().rules())?;
     let silences = silence_section(alloc, alphabet, space, world, given)?;
     let Ok(values) = value_section(alloc, world, given) else {

@@ -6,7 +6,6 @@ ghost use Rattle.am_universe.specs.declared.kind.Kind.TheVariants as kinds;
 ghost use Rattle.am_universe.specs.declared.place.Place.TheVariants as places;
 ghost use Rattle.am_json.specs.Reading.{refusal_of};
 ghost use Rattle.am_complete.specs.LabelState.{is_settled};
-ghost use Rattle.am_lint.specs.Findings.{alphabet_of};
 ghost use Rattle.am_reports.specs.ConfigsView.{configurations_of};
 ghost use Rattle.am_reports.specs.Made.{StandsForAll, AreDeclaredWhole, IsMadeRefusal};
 ghost use Rattle.am_reports.specs.Made.{IsDeclaredRefusal, IsStateRefusal};
@@ -18,17 +17,6 @@ use am_complete::{Completeness, LabelState, label_states};
 use am_labels::Space;
 use am_universe::{Fault, Kind, Place, Universe};
 use std::alloc::Global;
-
-/// The alphabet of the alerts that count.
-pub(crate) fn alphabet_of(ascii: bool) -> Alphabet
-    ensures { result ≡ alphabet_of ascii }
-{
-    if ascii {
-        Alphabet::Ascii
-    } else {
-        Alphabet::Unicode
-    }
-}
 
 /// Makes a universe that stands for every alert over an alphabet, for the matchers of the routes
 /// and of the impossible lists of a space that declares no label.

@@ -43,7 +43,7 @@ pub fn outcomes<W: Sink>(alloc: Global, inputs: &ReportInputs<'_>, out: &mut W) 
 {
     let mut read = read_inputs(alloc, inputs)?;
     let configs = Configs::One(&read.config);
-    let outcomes = all_outcomes(alloc, inputs.ascii, &mut read.space, configs)?;
+    let outcomes = all_outcomes(alloc, inputs.alphabet, &mut read.space, configs)?;
     let Ok(text) = outcomes_text(alloc, read.space.universe(), &read.config, &outcomes) else {
         return Err(Fault::memory(alloc));
     };

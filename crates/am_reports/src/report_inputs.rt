@@ -5,6 +5,7 @@ ghost use Rattle.am_config.specs.ConfigView.{config_view};
 ghost use Rattle.am_files.specs.Faults.{IsFirstFault};
 ghost use Rattle.am_reports.specs.ReportInputs.{AcceptsReportInputs, report_input_stages};
 
+use am_classes::Alphabet;
 use am_config::{Config, read_config};
 use am_labels::Space;
 use am_universe::Fault;
@@ -20,8 +21,8 @@ pub struct ReportInputs<'a> {
     pub universe: Option<&'a [u8]>,
     /// The bytes of the configuration file.
     pub config: &'a [u8],
-    /// Whether only alerts whose values are printable ASCII count.
-    pub ascii: bool,
+    /// Which texts the labels of alerts may have.
+    pub alphabet: Alphabet,
 }
 
 impl<'a> Model for ReportInputs<'a> {
@@ -33,7 +34,7 @@ impl<'a> Model for ReportInputs<'a> {
     ghost view = { λ inputs. record {
       universe = option_copied inputs.universe;
       config = inputs.config.now;
-      ascii = inputs.ascii;
+      alphabet = inputs.alphabet;
     } };
 }
 

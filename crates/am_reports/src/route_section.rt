@@ -4,16 +4,15 @@
 //! dead route has a line too. So there is a line for exactly the routes that are dead, and these
 //! lines go when the upper route is mended.
 
-ghost use Rattle.std.specs.Prelude.{◌≡◌, ◌≢◌, [], IfOk, IfErr, OnOk, IfSome, IfNone, false, true};
-ghost use Rattle.std.specs.Prelude.{is_none};
+ghost use Rattle.std.specs.Prelude.{◌≡◌, ◌≢◌, [], IfOk, IfErr, OnOk, IfSome};
 ghost use Rattle.am_universe.specs.declared.kind.Kind.TheVariants as kinds;
 ghost use Rattle.am_classes.specs.declared.alphabet.Alphabet.TheVariants.{Unicode, Ascii};
 ghost use Rattle.am_json.specs.Reading.{refusal_of};
 ghost use Rattle.am_config.specs.ConfigView.{config_view};
 ghost use Rattle.am_lint.specs.Report.{SaysOfRoutes};
-ghost use Rattle.am_lint.specs.Findings.{alphabet_of};
 ghost use Rattle.am_reports.specs.Configurations.{One};
 ghost use Rattle.am_reports.specs.Made.{StandsForAll, IsMadeRefusal, IsRoutesRefusal};
+ghost use Rattle.am_reports.specs.Made.{alphabet_over};
 
 use crate::configs::Configs;
 use crate::made::universe_for_routes;
@@ -27,24 +26,24 @@ use am_lint::{
 use am_universe::{Fault, Universe};
 use std::alloc::{AllocError, Global};
 
-/// Makes the section on the routes and receivers of a configuration, for every alert of a space
-/// that declares no label; if `ascii`, only for the ordinary ones.
+/// Makes the section on the routes and receivers of a configuration, for every alert over an
+/// alphabet of a space that declares no label.
 pub(crate) fn route_section(
     alloc: Global,
-    ascii: bool,
+    alphabet: Alphabet,
     space: &mut Space,
     config: &Config,
 ) -> Result<Section, Fault>
     requires { space.old.labels ≡ [] }
-    ensures says { IfOk result (λ section. SaysOfRoutes ascii space.old (config_view config.now)
+    ensures says { IfOk result (λ section. SaysOfRoutes alphabet space.old (config_view config.now)
         section.findings section.notes section.lines) }
     ensures labels { OnOk result (space.new.labels ≡ []) }
     ensures impossible { OnOk result (space.new.impossible ≡ space.old.impossible) }
     ensures refused { IfErr result (λ fault. fault.kind ≢ kinds.Memory
-        → IsRoutesRefusal ascii space.old.impossible (config_view config.now) fault.place
+        → IsRoutesRefusal alphabet space.old.impossible (config_view config.now) fault.place
         (refusal_of fault)) }
 {
-    let every = every_universe(alloc, ascii, space, config)?;
+    let every = every_universe(alloc, alphabet, space, config)?;
     let ordinary = universe_for_routes(alloc, Alphabet::Ascii, space, Configs::One(config))?;
     let Ok(section) = section_over(alloc, space, config, ordinary, every) else {
         return Err(Fault::memory(alloc));
@@ -56,23 +55,25 @@ pub(crate) fn route_section(
 /// Makes a universe for every alert, unless only printable ASCII counts.
 fn every_universe(
     alloc: Global,
-    ascii: bool,
+    alphabet: Alphabet,
     space: &Space,
     config: &Config,
 ) -> Result<Option<Universe>, Fault>
     requires { space.now.labels ≡ [] }
-    ensures some { IfOk result (λ universe. IfSome universe (λ u. (ascii ≡ false)
-        × StandsForAll Unicode space.now.impossible (One (config_view config.now)) u)) }
-    ensures none { IfOk result (λ universe. IfNone universe (ascii ≡ true)) }
+    ensures stands { IfOk result (λ universe. IfSome universe
+        (StandsForAll Unicode space.now.impossible (One (config_view config.now)))) }
+    ensures over { IfOk result (λ universe. alphabet_over universe ≡ alphabet) }
     ensures refused { IfErr result (λ fault. fault.kind ≢ kinds.Memory
-        → IsMadeRefusal (alphabet_of ascii) space.now.impossible (One (config_view config.now))
-        fault.place (refusal_of fault)) }
+        → IsMadeRefusal alphabet space.now.impossible (One (config_view config.now)) fault.place
+        (refusal_of fault)) }
 {
-    if ascii {
-        return Ok(None);
+    match alphabet {
+        Alphabet::Ascii => Ok(None),
+        Alphabet::Unicode => {
+            let configs = Configs::One(config);
+            Ok(Some(universe_for_routes(alloc, alphabet, space, configs)?))
+        }
     }
-    let configs = Configs::One(config);
-    Ok(Some(universe_for_routes(alloc, Alphabet::Unicode, space, configs)?))
 }
 
 /// Makes the section over a universe for ordinary alerts and, if others count, one for every alert.
@@ -88,7 +89,7 @@ fn section_over(
         ordinary }
     requires every { IfSome every
         (StandsForAll Unicode space.old.impossible (One (config_view config.now))) }
-    ensures says { IfOk result (λ section. SaysOfRoutes (is_none every) space.old
+    ensures says { IfOk result (λ section. SaysOfRoutes (alphabet_over every) space.old
         (config_view config.now) section.findings section.notes section.lines) }
     ensures impossible { space.new.impossible ≡ space.old.impossible }
 {

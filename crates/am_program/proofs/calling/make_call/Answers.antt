@@ -4,22 +4,24 @@ use Rattle.am_program.proofs.calling.make_call.Goals as goal
 
 pub returns-in-Lint : goal.returns-in-Lint
 returns-in-Lint g c = record {
-  kept = rw c.in-Lint.is (rw (c.as_deref-given.ensures.value, c.files_of.ensures)
+  kept = rw c.in-Lint.is (rw (c.as_deref-given.ensures.value, c.files_of.ensures, c.alphabet_of.ensures)
       at c.lint.ensures.kept);
 }
 
 pub returns-in-Compare : goal.returns-in-Compare
 returns-in-Compare g c = record {
   kept = rw c.in-Compare.is (so_many_found c.something_found.ensures
-      (rw (c.as_deref-given.ensures.value, c.bytes_of.ensures, c.bytes_of-in-Compare.ensures)
-      at c.compare.ensures.kept));
+      (rw c.alphabet_of-in-Compare.ensures
+      at (rw (c.as_deref-given.ensures.value, c.bytes_of.ensures, c.bytes_of-in-Compare.ensures)
+      at c.compare.ensures.kept)));
 }
 
 pub returns-in-Outcomes : goal.returns-in-Outcomes
 returns-in-Outcomes g c = record {
   kept = rw c.in-Outcomes.is (nothing_found c.nothing_found.ensures
-      (rw (c.as_deref-given.ensures.value, c.config.ensures.bytes, c.files_of.ensures)
-      at c.outcomes.ensures.kept));
+      (rw c.alphabet_of-in-Outcomes.ensures
+      at (rw (c.as_deref-given.ensures.value, c.config.ensures.bytes, c.files_of.ensures)
+      at c.outcomes.ensures.kept)));
 }
 
 pub returns-in-Ask : goal.returns-in-Ask
@@ -59,7 +61,7 @@ returns-in-Alerts g c = record {
 pub returns-in-Universe : goal.returns-in-Universe
 returns-in-Universe g c = record {
   kept = rw c.in-Universe.is (nothing_found c.nothing_found-in-Universe.ensures
-      (rw c.alphabet_of.ensures
+      (rw c.alphabet_of-in-Universe.ensures
       at (rw (c.as_deref-given.ensures.value, c.files_of.ensures, c.as_slice-in-Universe.ensures.value)
       at c.universe.ensures.kept)));
 }

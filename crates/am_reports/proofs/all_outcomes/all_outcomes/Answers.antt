@@ -7,29 +7,18 @@ use Rattle.am_universe.specs.Universe.{Label}
 use Rattle.am_labels.specs.Space.{Space}
 use Rattle.am_json.specs.Reading.{refusal_of}
 use Rattle.am_files.proofs.FirstFaults.{handed_on}
-use Rattle.am_lint.specs.Findings.{alphabet_of}
+use Rattle.am_classes.specs.declared.alphabet.Alphabet.{Alphabet}
 use Rattle.am_outcomes.specs.Outcomes.{outcomes_of}
 use Rattle.am_outcomes.specs.Ways.{HaveManyWays}
 use Rattle.am_every_alert.specs.Deciding.{space_of}
-use Rattle.am_reports.specs.Configurations.{each_of}
+use Rattle.am_reports.specs.Configurations.{Configurations, each_of}
 use Rattle.am_reports.specs.ConfigsView.{configurations_of}
 use Rattle.am_reports.specs.AllOutcomes.{AreAllOutcomes}
 use Rattle.am_reports.specs.LaterStages.{IsOutcomesRefusal}
-use Rattle.am_reports.specs.Made.{StandsForAll, AreDeclaredWhole}
+use Rattle.am_reports.specs.Made.{StandsForAll}
 use Rattle.am_reports.proofs.OutcomesOver.{outcomes_are}
 use Rattle.am_reports.proofs.all_outcomes.all_outcomes.Goals as goal
-use Rattle.am_reports.proofs.all_outcomes.all_outcomes.Goals.{After-alphabet_of-alphabet}
-use Rattle.am_reports.proofs.all_outcomes.all_outcomes.Goals.{In_ok-check_declared, After-declare-2}
-
--- a fault is one that the contract allows
-abbrev IsRefused : (c : After-alphabet_of-alphabet) → Fault → Type 0
-IsRefused c f =
-    f.kind ≢ kinds.Memory → IsOutcomesRefusal (alphabet_of c.args.ascii) c.args.space.now
-    (configurations_of c.args.configs) f.place (refusal_of f)
-
-whole : (c : In_ok-check_declared) → AreDeclaredWhole (alphabet_of c.args.ascii) c.args.space.now
-    (configurations_of c.args.configs) c.args.space.now.labels
-whole c = rw c.alphabet_of-alphabet.ensures at c.in_ok-check_declared.ensures.whole
+use Rattle.am_reports.proofs.all_outcomes.all_outcomes.Goals.{After-declare-2}
 
 -- the space over which outcomes are found
 made : (c : After-declare-2)
@@ -39,29 +28,28 @@ made c = λ i. record {
   impossible = (c.declare-2.ensures.impossible ∙ c.declare.ensures.impossible) i;
 }
 
-stands : (c : After-declare-2) → StandsForAll (alphabet_of c.args.ascii)
-    c.args.space.now.impossible (configurations_of c.args.configs) c.in_ok-universe.universe
-stands c =
-    rw (c.alphabet_of-alphabet.ensures, c.declare.ensures.impossible)
-    at c.in_ok-universe.ensures.stands
+stands : (c : After-declare-2) → StandsForAll c.args.alphabet c.args.space.now.impossible
+    (configurations_of c.args.configs) c.in_ok-universe.universe
+stands c = rw c.declare.ensures.impossible at c.in_ok-universe.ensures.stands
+
+-- a fault is one that the contract allows
+abbrev IsRefused : Alphabet → Space → Configurations → Fault → Type 0
+IsRefused a s k f = f.kind ≢ kinds.Memory → IsOutcomesRefusal a s k f.place (refusal_of f)
 
 pub returns-in_err-check_declared-clause-refused : goal.returns-in_err-check_declared-clause-refused
 returns-in_err-check_declared-clause-refused c =
-    let at = (goal.at.returns-in_err-check_declared-clause-refused c).After-alphabet_of-alphabet in
-    handed_on (IsRefused at) c.in_err-check_declared.field-0.0 c.from_residual.result
-    c.from_residual.ensures.1
-    (λ remembered. inl (rw c.alphabet_of-alphabet.ensures
-    at (c.in_err-check_declared.ensures.refused remembered)))
+    handed_on (IsRefused c.args.alphabet c.args.space.now (configurations_of c.args.configs))
+    c.in_err-check_declared.field-0.0 c.from_residual.result c.from_residual.ensures.1
+    (λ remembered. inl (c.in_err-check_declared.ensures.refused remembered))
 
 pub returns-in_err-universe-clause-refused : goal.returns-in_err-universe-clause-refused
 returns-in_err-universe-clause-refused c =
-    let at = goal.at.returns-in_err-universe-clause-refused c in
-    handed_on (IsRefused at.After-alphabet_of-alphabet) c.in_err-universe.field-0.0
-    c.from_residual-in_err-universe.result c.from_residual-in_err-universe.ensures.1
+    handed_on (IsRefused c.args.alphabet c.args.space.now (configurations_of c.args.configs))
+    c.in_err-universe.field-0.0 c.from_residual-in_err-universe.result
+    c.from_residual-in_err-universe.ensures.1
     (λ remembered. inr (
-      whole at.In_ok-check_declared,
-      inl (rw (c.alphabet_of-alphabet.ensures, c.declare.ensures.impossible)
-          at (c.in_err-universe.ensures.refused remembered)),
+      c.in_ok-check_declared.ensures.whole,
+      inl (rw c.declare.ensures.impossible at (c.in_err-universe.ensures.refused remembered)),
     ))
 
 pub returns-clause-refused : goal.returns-clause-refused
@@ -71,7 +59,7 @@ returns-clause-refused c =
     (λ fault told remembered.
     let refused = told remembered in
     inr (
-      whole at.In_ok-check_declared,
+      c.in_ok-check_declared.ensures.whole,
       inr (
         refused.0,
         record {
@@ -88,7 +76,7 @@ returns-clause-refused c =
 pub returns-clause-whole : goal.returns-clause-whole
 returns-clause-whole c =
     IfOk-weaker c.outcomes_of_choices.result _ _
-    (λ outcomes is. whole (goal.at.returns-clause-whole c).In_ok-check_declared)
+    (λ outcomes is. c.in_ok-check_declared.ensures.whole)
     c.outcomes_of_choices.ensures.outcomes
 
 pub returns-clause-are : goal.returns-clause-are
@@ -99,8 +87,8 @@ returns-clause-are c =
     let u = c.in_ok-universe.universe in
     IfOk-weaker c.outcomes_of_choices.result _ _
     (λ outcomes order.
-    subst (λ (v : List Label). AreAllOutcomes c.args.ascii s k v outcomes)
+    subst (λ (v : List Label). AreAllOutcomes c.args.alphabet s k v outcomes)
     (sym c.declare-2.ensures.labels)
-    (outcomes_are c.args.ascii s k u (stands at) outcomes
+    (outcomes_are c.args.alphabet s k u (stands at) outcomes
     (subst (λ (t : Space). outcomes ≡ outcomes_of t (each_of k)) (made at) order)))
     c.outcomes_of_choices.ensures.outcomes

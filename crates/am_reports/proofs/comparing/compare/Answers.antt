@@ -1,18 +1,13 @@
 -- The faults of the inputs come first, and the comparison is what is written.
-use Rattle.std.proofs.Common.{Ok, refl, sym, string_bytes, subst}
+use Rattle.std.proofs.Common.{Ok, refl, sym, ap, string_bytes}
 use Rattle.std.specs.Result.{result_and}
 use Rattle.am_json.specs.Reading.{refusal_of}
 use Rattle.am_config.specs.ConfigView.{config_view}
 use Rattle.am_files.proofs.FirstFaults.{first_of_more}
 use Rattle.am_files.proofs.Promises.{refused, written}
-use Rattle.am_lint.specs.Findings.{alphabet_of}
-use Rattle.am_reports.specs.AllOutcomes.{AreAllOutcomes}
 use Rattle.am_every_alert.specs.Deciding.{space_of}
-use Rattle.am_reports.specs.Configurations.{Pair}
 use Rattle.am_universe_command.specs.Universes.{later_stages}
 use Rattle.am_reports.specs.CompareInputs.{CompareInputs, compare_input_stages}
-use Rattle.am_reports.specs.LaterStages.{IsOutcomesRefusal}
-use Rattle.am_reports.specs.Made.{AreDeclaredWhole}
 use Rattle.am_reports.specs.Comparing.{compare_promise, RefusesComparison}
 use Rattle.am_reports.proofs.ChangeLemmas.{compared}
 use Rattle.am_reports.proofs.LaterFaults.{comparison_refused}
@@ -42,10 +37,8 @@ returns-in_err-outcomes g c =
       kept = refused (compare_promise inputs) fault c.from_residual-in_err-outcomes.result refl
           c.from_residual-in_err-outcomes.ensures.1
           (λ remembered. comparison_refused inputs s old new fault.place (refusal_of fault)
-          c.in_ok-read.ensures.accepts
-          (subst (λ (i : CompareInputs).
-          IsOutcomesRefusal (alphabet_of i.ascii) s (Pair old new) fault.place (refusal_of fault))
-          c.inputs.view_is (c.in_err-outcomes.ensures.refused remembered)));
+          c.in_ok-read.ensures.accepts (rw (ap (λ (i : CompareInputs). i.alphabet) c.inputs.view_is)
+          at (c.in_err-outcomes.ensures.refused remembered)));
     }
 
 pub changes_text-requires : goal.changes_text-requires
@@ -65,9 +58,7 @@ returns g c =
     let after = c.all_outcomes.new.space in
     let outcomes = c.in_ok-outcomes.outcomes in
     let changes = c.in-Ok.changes in
-    let are = subst (λ (i : CompareInputs).
-    AreAllOutcomes i.ascii s (Pair old new) after.labels outcomes) c.inputs.view_is
-    c.in_ok-outcomes.ensures.are in
+    let over = ap (λ (i : CompareInputs). i.alphabet) c.inputs.view_is in
     record {
       kept = written (compare_promise inputs) changes.count (string_bytes changes.text)
           (result_and c.put_str.result (Ok changes.count)) c.answer_of_write.result
@@ -76,11 +67,10 @@ returns g c =
             old = old;
             new = new;
             accepts = c.in_ok-read.ensures.accepts;
-            whole = subst (λ (i : CompareInputs).
-                AreDeclaredWhole (alphabet_of i.ascii) s (Pair old new) s.labels)
-                c.inputs.view_is c.in_ok-outcomes.ensures.whole;
-            compares = compared inputs.ascii s old new after.labels outcomes are changes.count _
-                c.in-Ok.ensures.count (rw c.universe.ensures.labels at c.in-Ok.ensures.text);
+            whole = rw over at c.in_ok-outcomes.ensures.whole;
+            compares = compared inputs.alphabet s old new after.labels outcomes
+                (rw over at c.in_ok-outcomes.ensures.are) changes.count _ c.in-Ok.ensures.count
+                (rw c.universe.ensures.labels at c.in-Ok.ensures.text);
           })
           (told_beside c.put_str.result changes.count)
           (writes_beside c.put_str.result changes.count

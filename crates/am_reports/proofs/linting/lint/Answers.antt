@@ -1,11 +1,11 @@
 -- The faults of the inputs come first, and the report is what is written.
-use Rattle.std.proofs.Common.{Ok, refl, string_bytes}
+use Rattle.std.proofs.Common.{Ok, refl, ap, string_bytes}
 use Rattle.std.specs.Prelude.{nat_lt}
 use Rattle.std.specs.Result.{result_and}
 use Rattle.am_json.specs.Reading.{refusal_of}
 use Rattle.am_files.proofs.FirstFaults.{first_of_more}
 use Rattle.am_files.proofs.Promises.{refused, written}
-use Rattle.am_reports.specs.LintInputs.{lint_input_stages}
+use Rattle.am_reports.specs.LintInputs.{LintInputs, lint_input_stages}
 use Rattle.am_universe_command.specs.Universes.{later_stages}
 use Rattle.am_reports.specs.Linting.{lint_promise, RefusesLint}
 use Rattle.am_reports.proofs.LaterFaults.{lint_refused}
@@ -32,7 +32,8 @@ returns-in_err-lint g c =
       kept = refused (lint_promise inputs) fault c.from_residual-in_err-lint.result refl
           c.from_residual-in_err-lint.ensures.1
           (λ remembered. lint_refused inputs read.space read.world fault.place (refusal_of fault)
-          c.in_ok-read.ensures.accepts (rw c.is_ascii-ascii.ensures at (c.in_err-lint.ensures.refused remembered)));
+          c.in_ok-read.ensures.accepts (rw (ap (λ (i : LintInputs). i.alphabet) c.inputs.view_is)
+          at (c.in_err-lint.ensures.refused remembered)));
     }
 
 pub returns : goal.returns
@@ -41,6 +42,7 @@ returns g c =
     let read = c.in_ok-read.read in
     let lint = c.in_ok-lint.lint in
     let found = nat_lt 0 lint.findings in
+    let over = ap (λ (i : LintInputs). i.alphabet) c.inputs.view_is in
     record {
       kept = written (lint_promise inputs) found (string_bytes lint.text)
           (result_and c.put_str.result (Ok found)) c.answer_of_write.result
@@ -50,7 +52,7 @@ returns g c =
             accepts = c.in_ok-read.ensures.accepts;
             findings = lint.findings;
             is_found = refl;
-            linted = rw (c.is_ascii-ascii.ensures, c.has_alerts-given.ensures) at c.in_ok-lint.ensures.reports;
+            linted = rw (over, c.has_alerts-given.ensures) at c.in_ok-lint.ensures.reports;
           })
           (told_beside c.put_str.result found)
           (writes_beside c.put_str.result found

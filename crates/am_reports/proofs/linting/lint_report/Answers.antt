@@ -3,23 +3,24 @@ use Rattle.std.proofs.Common.{◌≡◌, ◌≢◌, List, ◌∷◌, [], ap, ◌
 use Rattle.am_universe.specs.declared.fault.Fault.{Fault}
 use Rattle.am_universe.specs.declared.kind.Kind.TheVariants as kinds
 use Rattle.am_labels.specs.Matcher.{Condition}
+use Rattle.am_labels.specs.Space.{Space}
 use Rattle.am_json.specs.Reading.{refusal_of}
 use Rattle.am_config.specs.ConfigFile.{Configuration}
+use Rattle.am_eval.specs.World.{World}
 use Rattle.am_files.proofs.FirstFaults.{handed_on}
-use Rattle.am_lint.specs.Findings.{alphabet_of}
+use Rattle.am_classes.specs.declared.alphabet.Alphabet.{Alphabet}
 use Rattle.am_reports.specs.Configurations.{One}
 use Rattle.am_reports.specs.Linting.{IsLintRefusal}
 use Rattle.am_reports.specs.Sections.{Section, report_text, all_findings}
 use Rattle.am_asked.specs.Made.{undeclared}
 use Rattle.am_reports.specs.Made.{IsRoutesRefusal, AreDeclaredWhole}
 use Rattle.am_reports.proofs.linting.lint_report.Goals as goal
-use Rattle.am_reports.proofs.linting.lint_report.Goals.{After-alphabet_of-alphabet, After-declare, In_ok-routes}
+use Rattle.am_reports.proofs.linting.lint_report.Goals.{After-declare, In_ok-routes}
 use Rattle.am_reports.proofs.linting.lint_report.Goals.{In_ok-rules, In_ok-check_declared}
 
 -- a fault is one that the contract allows
-abbrev IsRefused : (c : After-alphabet_of-alphabet) → Fault → Type 0
-IsRefused c f =
-    f.kind ≢ kinds.Memory → IsLintRefusal c.args.ascii c.args.space.now c.args.world.now f.place (refusal_of f)
+abbrev IsRefused : Alphabet → Space → World → Fault → Type 0
+IsRefused a s w f = f.kind ≢ kinds.Memory → IsLintRefusal a s w f.place (refusal_of f)
 
 -- the space without its labels, at first, after the section on routes, and after that on rules
 cleared : (c : After-declare) → c.declare.new.self ≡ undeclared c.args.space.now
@@ -42,30 +43,27 @@ rules_cleared c = λ i. record {
 }
 
 -- no label that the universe file declares lacks a value
-declared_whole : (c : In_ok-check_declared) → AreDeclaredWhole (alphabet_of c.args.ascii)
-    c.args.space.now (One c.args.world.now.config) c.args.space.now.labels
-declared_whole c =
-    rw (c.alphabet_of-alphabet.ensures, c.config.ensures.config)
-    at c.in_ok-check_declared.ensures.whole
+declared_whole : (c : In_ok-check_declared) → AreDeclaredWhole c.args.alphabet c.args.space.now
+    (One c.args.world.now.config) c.args.space.now.labels
+declared_whole c = rw c.config.ensures.config at c.in_ok-check_declared.ensures.whole
 
 pub returns-in_err-check_declared-clause-refused : goal.returns-in_err-check_declared-clause-refused
 returns-in_err-check_declared-clause-refused c =
-    let at = (goal.at.returns-in_err-check_declared-clause-refused c).After-alphabet_of-alphabet in
-    handed_on (IsRefused at) c.in_err-check_declared.field-0.0 c.from_residual.result
-    c.from_residual.ensures.1
-    (λ remembered. inl (rw (c.alphabet_of-alphabet.ensures, c.config.ensures.config)
+    handed_on (IsRefused c.args.alphabet c.args.space.now c.args.world.now)
+    c.in_err-check_declared.field-0.0 c.from_residual.result c.from_residual.ensures.1
+    (λ remembered. inl (rw c.config.ensures.config
     at (c.in_err-check_declared.ensures.refused remembered)))
 
 pub returns-in_err-routes-clause-refused : goal.returns-in_err-routes-clause-refused
 returns-in_err-routes-clause-refused c =
     let at = goal.at.returns-in_err-routes-clause-refused c in
     let fault = c.in_err-routes.field-0.0 in
-    handed_on (IsRefused at.After-alphabet_of-alphabet) fault
+    handed_on (IsRefused c.args.alphabet c.args.space.now c.args.world.now) fault
     c.from_residual-in_err-routes.result c.from_residual-in_err-routes.ensures.1
     (λ remembered. inr (
       declared_whole at.In_ok-check_declared,
       inl (subst (λ (x : List (List Condition) × Configuration).
-          IsRoutesRefusal c.args.ascii x.0 x.1 fault.place (refusal_of fault))
+          IsRoutesRefusal c.args.alphabet x.0 x.1 fault.place (refusal_of fault))
           (λ i. (c.declare.ensures.impossible i, c.config-2.ensures.config i))
           (c.in_err-routes.ensures.refused remembered)),
     ))
@@ -75,22 +73,22 @@ returns-in_err-rules-clause-refused c =
     let at = goal.at.returns-in_err-rules-clause-refused c in
     let rules : c.rules.result.now ≡ c.args.world.now.config.rules =
     c.rules.ensures.rules ∙ ap (λ (x : Configuration). x.rules) c.config-3.ensures.config in
-    handed_on (IsRefused at.After-alphabet_of-alphabet) c.in_err-rules.field-0.0
+    handed_on (IsRefused c.args.alphabet c.args.space.now c.args.world.now) c.in_err-rules.field-0.0
     c.from_residual-in_err-rules.result c.from_residual-in_err-rules.ensures.1
     (λ remembered. inr (
       declared_whole at.In_ok-check_declared,
-      inr (inl (rw (c.alphabet_of-alphabet.ensures, routes_cleared at.In_ok-routes, rules)
+      inr (inl (rw (routes_cleared at.In_ok-routes, rules)
           at (c.in_err-rules.ensures.refused remembered))),
     ))
 
 pub returns-in_err-silences-clause-refused : goal.returns-in_err-silences-clause-refused
 returns-in_err-silences-clause-refused c =
     let at = goal.at.returns-in_err-silences-clause-refused c in
-    handed_on (IsRefused at.After-alphabet_of-alphabet) c.in_err-silences.field-0.0
+    handed_on (IsRefused c.args.alphabet c.args.space.now c.args.world.now) c.in_err-silences.field-0.0
     c.from_residual-in_err-silences.result c.from_residual-in_err-silences.ensures.1
     (λ remembered. inr (
       declared_whole at.In_ok-check_declared,
-      inr (inr (rw (c.alphabet_of-alphabet.ensures, rules_cleared at.In_ok-rules)
+      inr (inr (rw (rules_cleared at.In_ok-rules)
           at (c.in_err-silences.ensures.refused remembered))),
     ))
 
@@ -110,13 +108,9 @@ returns-in-Ok-report_of-clause-reports c =
         says_of_routes = rw (c.config-2.ensures.config, cleared at.After-declare)
             at c.in_ok-routes.ensures.says;
         rules = rules;
-        says_of_rules = rw (
-          c.alphabet_of-alphabet.ensures,
-          routes_cleared at.In_ok-routes,
-          listed,
-        ) at c.in_ok-rules.ensures.says;
+        says_of_rules = rw (routes_cleared at.In_ok-routes, listed) at c.in_ok-rules.ensures.says;
         silences = silences;
-        says_of_silences = rw (c.alphabet_of-alphabet.ensures, rules_cleared at.In_ok-rules)
+        says_of_silences = rw (rules_cleared at.In_ok-rules)
             at c.in_ok-silences.ensures.says;
         counted = c.in-Ok-report_of.ensures.findings
             ∙ ap (λ (v : Section). all_findings (routes ∷ rules ∷ silences ∷ v ∷ [])) values;

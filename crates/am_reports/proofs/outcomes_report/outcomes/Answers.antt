@@ -1,17 +1,12 @@
 -- The faults of the inputs come first, and the report is what is written.
-use Rattle.std.proofs.Common.{refl, sym, string_bytes, subst}
+use Rattle.std.proofs.Common.{refl, sym, ap, string_bytes}
 use Rattle.am_json.specs.Reading.{refusal_of}
 use Rattle.am_config.specs.ConfigView.{config_view}
 use Rattle.am_files.proofs.FirstFaults.{first_of_more}
 use Rattle.am_files.proofs.Promises.{refused, written, nothing_told}
-use Rattle.am_lint.specs.Findings.{alphabet_of}
-use Rattle.am_reports.specs.AllOutcomes.{AreAllOutcomes}
 use Rattle.am_every_alert.specs.Deciding.{space_of}
-use Rattle.am_reports.specs.Configurations.{One}
 use Rattle.am_universe_command.specs.Universes.{later_stages}
 use Rattle.am_reports.specs.ReportInputs.{ReportInputs, report_input_stages}
-use Rattle.am_reports.specs.LaterStages.{IsOutcomesRefusal}
-use Rattle.am_reports.specs.Made.{AreDeclaredWhole}
 use Rattle.am_reports.specs.OutcomesReport.{outcomes_promise, RefusesOutcomes}
 use Rattle.am_reports.proofs.LaterFaults.{outcomes_refused}
 use Rattle.am_reports.proofs.outcomes_report.outcomes.Goals as goal
@@ -38,10 +33,8 @@ returns-in_err-outcomes g c =
       kept = refused (outcomes_promise inputs) fault c.from_residual-in_err-outcomes.result refl
           c.from_residual-in_err-outcomes.ensures.1
           (λ remembered. outcomes_refused inputs s config fault.place (refusal_of fault)
-          c.in_ok-read.ensures.accepts
-          (subst (λ (i : ReportInputs).
-          IsOutcomesRefusal (alphabet_of i.ascii) s (One config) fault.place (refusal_of fault))
-          c.inputs.view_is (c.in_err-outcomes.ensures.refused remembered)));
+          c.in_ok-read.ensures.accepts (rw (ap (λ (i : ReportInputs). i.alphabet) c.inputs.view_is)
+          at (c.in_err-outcomes.ensures.refused remembered)));
     }
 
 pub outcomes_text-requires : goal.outcomes_text-requires
@@ -57,8 +50,7 @@ returns g c =
     let inputs = c.args.inputs.now in
     let s = c.in_ok-read.read.space in
     let config = config_view c.in_ok-read.read.config in
-    let after = c.all_outcomes.new.space in
-    let outcomes = c.in_ok-outcomes.outcomes in
+    let over = ap (λ (i : ReportInputs). i.alphabet) c.inputs.view_is in
     record {
       kept = written (outcomes_promise inputs) tt (string_bytes c.in-Ok.text)
           c.put_str.result c.answer_of_write.result
@@ -66,15 +58,11 @@ returns g c =
             space = s;
             configuration = config;
             accepts = c.in_ok-read.ensures.accepts;
-            whole = subst (λ (i : ReportInputs).
-                AreDeclaredWhole (alphabet_of i.ascii) s (One config) s.labels) c.inputs.view_is
-                c.in_ok-outcomes.ensures.whole;
+            whole = rw over at c.in_ok-outcomes.ensures.whole;
             reports = record {
-              labels = after.labels;
-              outcomes = outcomes;
-              are = subst (λ (i : ReportInputs).
-                  AreAllOutcomes i.ascii s (One config) after.labels outcomes) c.inputs.view_is
-                  c.in_ok-outcomes.ensures.are;
+              labels = c.all_outcomes.new.space.labels;
+              outcomes = c.in_ok-outcomes.outcomes;
+              are = rw over at c.in_ok-outcomes.ensures.are;
               text = rw c.universe.ensures.labels at c.in-Ok.ensures.text;
             };
           })

@@ -13,6 +13,6 @@ returns-in_err-ordinary-clause-refused c =
     let config = config_view c.args.config.now in
     let fault = c.in_err-ordinary.field-0.0 in
     handed_on (λ f. f.kind ≢ kinds.Memory
-    → IsRoutesRefusal c.args.ascii lists config f.place (refusal_of f)) fault
+    → IsRoutesRefusal c.args.alphabet lists config f.place (refusal_of f)) fault
     c.from_residual-in_err-ordinary.result c.from_residual-in_err-ordinary.ensures.1
     (λ remembered. inr (c.in_err-ordinary.ensures.refused remembered))

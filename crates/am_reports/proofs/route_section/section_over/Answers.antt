@@ -1,5 +1,5 @@
 -- What is found over the universes is true of the alerts that they stand for, and the lines say it.
-use Rattle.std.proofs.Common.{List, is_none, length, sym, ap, subst, ◌∙◌}
+use Rattle.std.proofs.Common.{List, length, sym, ap, subst, ◌∙◌}
 use Rattle.std.specs.List.{AllByRecursion, AllZip}
 use Rattle.std.proofs.lemmas.List.FromFn.{length-map-range_with_len}
 use Rattle.am_config.specs.ConfigView.{config_view}
@@ -8,6 +8,7 @@ use Rattle.am_lint.specs.Table.{IsRoute}
 use Rattle.am_lint.specs.FoundView.{IsSameButEvery, receiver_finding}
 use Rattle.am_lint.proofs.FoundLemmas.{lines_so}
 use Rattle.am_lint.proofs.FoundOver.{found_there, found_shown}
+use Rattle.am_reports.specs.Made.{alphabet_over}
 use Rattle.am_reports.proofs.RoutesFound.{AreFoundSo, IsSpaceWith, found_ordinary, found_every}
 use Rattle.am_reports.proofs.route_section.section_over.Goals as goal
 use Rattle.am_reports.proofs.route_section.section_over.Goals.{in-Some+in_ok-look_further, in_default}
@@ -25,7 +26,7 @@ look_further-requires c =
 
 -- what is found about the routes is true, whether every alert counts or only ordinary ones
 so : (c : After-as_slice-2)
-    → AreFoundSo (is_none c.args.every) c.args.space.now c.match-every-2.space.labels
+    → AreFoundSo (alphabet_over c.args.every) c.args.space.now c.match-every-2.space.labels
     (config_view c.args.config.now) c.match-every-2.routes.items
 so c =
     let s = c.args.space.now in
@@ -61,7 +62,7 @@ lint_lines-requires-clause-shown c =
     let routes = c.match-every-2.routes.items in
     let found = so (goal.at.lint_lines-requires-clause-shown c).After-as_slice-2 in
     rw (c.universe.ensures.labels, c.as_slice-2.ensures.value)
-    (found_shown (is_none every) s found.0 labels config routes c.args.config.now.sound found.1)
+    (found_shown (alphabet_over every) s found.0 labels config routes c.args.config.now.sound found.1)
 
 pub lint_lines-requires-clause-each : goal.lint_lines-requires-clause-each
 lint_lines-requires-clause-each c =
@@ -84,6 +85,6 @@ returns-clause-says c =
     at c.count_notes.ensures.count in
     let text = rw (c.universe.ensures.labels, c.as_slice-2.ensures.value, c.as_slice-3.ensures.value)
     at c.in_ok-lines.ensures.text in
-    lines_so (is_none every) s found.0 labels config routes found.1
+    lines_so (alphabet_over every) s found.0 labels config routes found.1
     c.in_ok-receivers.receivers.items c.count_findings.result c.count_notes.result _ are count notes
     text
