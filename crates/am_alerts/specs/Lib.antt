@@ -1,5 +1,5 @@
 pub mod SilenceIds
-pub mod Fates
+pub mod Outcome
 pub mod AlertLines
 pub mod FoundView
 pub mod Alerts

@@ -5,13 +5,13 @@ ghost use Rattle.am_eval.specs.QuestionView.{question_view};
 ghost use Rattle.am_alerts.specs.FoundView.{line_view};
 ghost use Rattle.am_alerts.specs.AlertLines.{lines_of};
 
-use crate::fates::fate_of;
+use crate::outcome::outcome_of;
 use crate::truth::satisfies;
 use am_eval::{Question, World};
 use am_universe::LabelSet;
 use std::alloc::{AllocError, Global};
 
-/// An alert of which a question is true, and its fate.
+/// An alert of which a question is true, and its outcome.
 #[derive(Drop)]
 pub(crate) struct Found<'w> {
     /// Its position in the file.
@@ -39,14 +39,14 @@ pub(crate) fn find_asked<'w>(
     let mut found = Vec::new(alloc);
     for position in 0..world.alerts().len() {
         let set = world.alerts().get(position);
-        let fate = fate_of(alloc, world, set)?;
-        if satisfies(alloc, world, question, set, &fate)? {
+        let outcome = outcome_of(alloc, world, set)?;
+        if satisfies(alloc, world, question, set, &outcome)? {
             found.push(Found {
                 position,
                 set,
-                receivers: fate.receivers,
-                silencers: fate.silencers,
-                inhibitors: fate.inhibitors,
+                receivers: outcome.receivers,
+                silencers: outcome.silencers,
+                inhibitors: outcome.inhibitors,
             })?;
         }
     }

@@ -5,8 +5,8 @@
 //! inhibition rules and firing alerts that inhibit it.
 #![tactic(auto)]
 
-// The fate of an alert, and whether a question is true of it.
-mod fates;
+// The outcome of an alert, and whether a question is true of it.
+mod outcome;
 mod truth;
 
 pub use truth::is_true_of;

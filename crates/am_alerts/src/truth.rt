@@ -6,9 +6,9 @@ ghost use Rattle.am_universe.specs.LabelSet.{LabelMap};
 ghost use Rattle.am_eval.specs.QuestionView.{question_view};
 ghost use Rattle.am_eval.specs.Question.{has_property, reaches, satisfies};
 ghost use Rattle.am_eval.specs.World.{World};
-ghost use Rattle.am_alerts.specs.Fates.{IsFate};
+ghost use Rattle.am_alerts.specs.Outcome.{HasOutcome};
 
-use crate::fates::{Fate, fate_of};
+use crate::outcome::{Outcome, outcome_of};
 use am_config::Path;
 use am_eval::{Property, Question, Reach, World};
 use am_universe::LabelSet;
@@ -26,51 +26,51 @@ pub fn is_true_of(
     ensures truth { IfOk result (λ truth.
         truth ≡ satisfies world.now (question_view question.now) set.now) }
 {
-    let fate = fate_of(alloc, world, set)?;
-    satisfies(alloc, world, question, set, &fate)
+    let outcome = outcome_of(alloc, world, set)?;
+    satisfies(alloc, world, question, set, &outcome)
 }
 
-/// Whether a question is true of an alert with these labels and this fate. Fails only if memory
-/// runs out.
+/// Whether a question is true of an alert with these labels and this outcome. Fails only if
+/// memory runs out.
 pub(crate) fn satisfies(
     alloc: Global,
     world: &World,
     question: &Question,
     set: &LabelSet,
-    fate: &Fate,
+    outcome: &Outcome,
 ) -> Result<bool, AllocError>
-    requires { IsFate world.now set.now fate.now }
+    requires { HasOutcome world.now set.now outcome.now }
     ensures { IfOk result (λ truth.
         truth ≡ satisfies world.now (question_view question.now) set.now) }
 {
     match question {
-        Question::Is(property) => Ok(has_property(fate, *property)),
-        Question::Receiver(receiver) => Ok(has_receiver(fate.receivers.as_slice(), *receiver)),
-        Question::Route(reach, path) => Ok(reaches(fate.ends.as_slice(), *reach, path)),
+        Question::Is(property) => Ok(has_property(outcome, *property)),
+        Question::Receiver(receiver) => Ok(has_receiver(outcome.receivers.as_slice(), *receiver)),
+        Question::Route(reach, path) => Ok(reaches(outcome.ends.as_slice(), *reach, path)),
         Question::Braces(matchers) => matchers.matches(alloc, set),
-        Question::Not(question) => Ok(!satisfies(alloc, world, question, set, fate)?),
+        Question::Not(question) => Ok(!satisfies(alloc, world, question, set, outcome)?),
         Question::And(left, right) => {
-            let first = satisfies(alloc, world, left, set, fate)?;
-            let second = satisfies(alloc, world, right, set, fate)?;
+            let first = satisfies(alloc, world, left, set, outcome)?;
+            let second = satisfies(alloc, world, right, set, outcome)?;
             Ok(first && second)
         }
         Question::Or(left, right) => {
-            let first = satisfies(alloc, world, left, set, fate)?;
-            let second = satisfies(alloc, world, right, set, fate)?;
+            let first = satisfies(alloc, world, left, set, outcome)?;
+            let second = satisfies(alloc, world, right, set, outcome)?;
             Ok(first || second)
         }
     }
 }
 
-/// Whether an alert with this fate has a property.
-fn has_property(fate: &Fate, property: Property) -> bool
-    ensures { (w : World) (s : LabelMap) → IsFate w s fate.now
+/// Whether an alert with this outcome has a property.
+fn has_property(outcome: &Outcome, property: Property) -> bool
+    ensures { (w : World) (s : LabelMap) → HasOutcome w s outcome.now
         → result ≡ has_property w property s }
 {
     match property {
         Property::Any => true,
-        Property::Silenced => !fate.silencers.is_empty(),
-        Property::Inhibited => !fate.inhibitors.is_empty(),
+        Property::Silenced => !outcome.silencers.is_empty(),
+        Property::Inhibited => !outcome.inhibitors.is_empty(),
     }
 }
 

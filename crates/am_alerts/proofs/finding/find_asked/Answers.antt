@@ -14,14 +14,14 @@ loop-position-preserved c =
     let w = c.args.world.now in
     let i = c.loop-position.position in
     let s = c.get-set.result.now in
-    let fate = c.in_ok-fate.ensures.fate in
+    let outcome = c.in_ok-outcome.ensures.outcome in
     let here : slice_get w.alerts i ≡ Some s =
     ap (λ xs. slice_get xs i) (sym c.alerts-in-loop-position.ensures.alerts)
     ∙ c.get-set.ensures.alert in
     elim c.if-branch.branch [
       | then-branch+in_ok-push b ↦
           let passes = sym c.in_ok-satisfies.ensures ∙ b.if-branch.true in
-          rw (b.found-is, b.in_ok-push.ensures.items, map-append, fate.receivers, fate.silencers, fate.inhibitors)
+          rw (b.found-is, b.in_ok-push.ensures.items, map-append, outcome.receivers, outcome.silencers, outcome.inhibitors)
           (append_assoc (map line_view c.loop-position.found.items) (line_of w (i, s) ∷ []) _
           ∙ (rw (left_at w.alerts i s here, passes) at c.loop-position.invariant))
       | else-branch b ↦

@@ -1,4 +1,4 @@
--- The fate of an alert tells whether a part of a question is true of it.
+-- The outcome of an alert tells whether a part of a question is true of it.
 use Rattle.std.proofs.Common.{ap, sym, ◌∙◌}
 use Rattle.std.specs.Prelude.{◌==◌}
 use Rattle.std.specs.List.{list_any}
