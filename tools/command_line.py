@@ -1,5 +1,5 @@
 """The commands and options of amcover, for the scripts beside this file. They are read from the
-sources that define them, in crates/am_command_line/src: table.rt, help.rt, and the version in
+sources that define them, in crates/am_command_line/src: table.rt, options.rt, and the version in
 commands.rt. A script ends if a source has another form than the one that is read here.
 """
 import re
@@ -10,12 +10,12 @@ from documents import ROOT
 FOLDER = ROOT / "crates/am_command_line/src"
 TEXT = r'"((?:[^"\\]|\\.)*)"'
 ARGUMENT = re.compile(
-    rf"^const (\w+): Argument = Argument {{\n    id: {TEXT},\n    form: Form::(\w+)\((.*)\),\n"
+    rf"^pub\(crate\) const (\w+): Argument = Argument {{\n    id: {TEXT},\n    form: Form::(\w+)\((.*)\),\n"
     rf"    help: {TEXT},\n}};$",
     re.M,
 )
 COMMAND = re.compile(
-    rf"CommandRow {{\s+name: {TEXT},\s+about: (\w+),\s+help: (\w+),\s+takes: &\[(.*?)\],\s+}}",
+    rf"CommandRow {{\s+name: {TEXT},\s+about: {TEXT},\s+help: {TEXT},\s+takes: &\[(.*?)\],\s+}}",
     re.S,
 )
 TAKEN = re.compile(rf"\((\w+), Need::(?:(Optional)|(Required)|Without\({TEXT}\))\)")
@@ -60,20 +60,20 @@ class Program:
     """The program: its version, what its own help says, and its commands in order."""
 
     def __init__(self):
-        texts = texts_of((FOLDER / "help.rt").read_text(encoding="utf-8"))
+        options = (FOLDER / "options.rt").read_text(encoding="utf-8")
         table = (FOLDER / "table.rt").read_text(encoding="utf-8")
         source = (FOLDER / "commands.rt").read_text(encoding="utf-8")
         self.version = re.search(rf"\.version\({TEXT}\)", source)[1]
-        self.arguments = {name: parts for name, *parts in ARGUMENT.findall(table)}
-        if len(self.arguments) != table.count(": Argument ="):
-            stop("an argument of table.rt is not read")
+        self.arguments = {name: parts for name, *parts in ARGUMENT.findall(options)}
+        if len(self.arguments) != options.count(": Argument ="):
+            stop("an argument of options.rt is not read")
         rows = COMMAND.findall(table)
         if len(rows) != table.count(' name: "'):
             stop("a command of table.rt is not read")
         (_, about, example, _), *rows = rows
-        self.about, self.example = texts[about], texts[example]
+        self.about, self.example = meant(about), meant(example)
         self.commands = [
-            Command(name, texts[about], texts[help_text], self.taken(takes))
+            Command(name, meant(about), meant(help_text), self.taken(takes))
             for name, about, help_text, takes in rows
         ]
 
@@ -88,14 +88,6 @@ class Program:
         if len(found) != takes.count("Need::"):
             stop("what a command takes is not read")
         return found
-
-
-def texts_of(source):
-    """Returns the texts of a file of constants, by name."""
-    found = re.findall(rf"^pub\(crate\) const (\w+): &str =\s*{TEXT};$", source, re.M | re.S)
-    if len(found) != source.count("\npub(crate) const "):
-        stop("a text of help.rt is not read")
-    return {name: meant(text) for name, text in found}
 
 
 def meant(text):

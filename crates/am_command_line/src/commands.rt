@@ -1,6 +1,7 @@
 //! The commands as `clap` takes them, made from the table.
 
-use crate::table::{Argument, COMMANDS, CommandRow, Form, Need, PROGRAM};
+use crate::options::{Argument, CommandRow, Form, Need};
+use crate::table::{COMMANDS, PROGRAM};
 use clap::builder::ValueParser;
 use clap::{Arg, ArgAction, Command};
 use std::alloc::{AllocError, Global};

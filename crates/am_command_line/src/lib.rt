@@ -8,7 +8,7 @@
 
 mod command_line;
 mod commands;
-mod help;
+mod options;
 mod steps;
 mod table;
 

@@ -1,62 +1,35 @@
-//! The commands of `amcover`, and the options and words that each of them takes, as a table. The
-//! man page and the completions are made from it too.
+//! The commands of `amcover`, with their help texts. The man page and the completions are made from
+//! them too.
 
-use crate::help::{
-    ABOUT, ALERTS_ABOUT, ALERTS_HELP, ASK_ABOUT, ASK_HELP, COMPARE_ABOUT, COMPARE_HELP, DEAD_ABOUT,
-    DEAD_HELP, EXAMPLE, EXPLAIN_ABOUT, EXPLAIN_HELP, LINT_ABOUT, LINT_HELP, OUTCOMES_ABOUT,
-    OUTCOMES_HELP, RECEIVERS_ABOUT, RECEIVERS_HELP, UNIVERSE_ABOUT, UNIVERSE_HELP,
+use crate::options::{
+    AFTER, ALERTS, ASCII, ASKED, ASKED_OF_ALERTS, AT, CHECK, CONFIG, COUNTED, CommandRow, FROM,
+    IMPOSSIBLE, LIMIT, NEW, Need, OLD, OPEN, ROUTES, SET, SILENCES, STEPS, UNIVERSE,
 };
-use crate::steps::MIN_STEPS;
-
-/// A command: its name, what it is for, its help, and what it takes, in the order of the help.
-#[derive(Clone, Copy)]
-pub(crate) struct CommandRow<'a> {
-    pub(crate) name: &'a str,
-    pub(crate) about: &'a str,
-    pub(crate) help: &'a str,
-    pub(crate) takes: &'a [(Argument<'a>, Need<'a>)],
-}
-
-/// An option or a word. The values that a command line gives it are found by its `id`.
-#[derive(Clone, Copy)]
-pub(crate) struct Argument<'a> {
-    pub(crate) id: &'a str,
-    pub(crate) form: Form<'a>,
-    pub(crate) help: &'a str,
-}
-
-/// How an option or a word is written. An option's name comes first, without its `--`, and then
-/// what the help calls its value.
-#[derive(Clone, Copy)]
-pub(crate) enum Form<'a> {
-    /// An option with no value.
-    Flag(&'a str),
-    /// An option with a value.
-    Value(&'a str, &'a str),
-    /// An option with a value, which may be repeated.
-    Values(&'a str, &'a str),
-    /// An option with a number, which is at least this one.
-    Number(&'a str, u64),
-    /// A word.
-    Word(&'a str),
-    /// One or more words.
-    Words(&'a str),
-}
-
-/// Whether a command needs an option or a word.
-#[derive(Clone, Copy)]
-pub(crate) enum Need<'a> {
-    Optional,
-    Required,
-    /// It is optional, and excludes the option with this id.
-    Without(&'a str),
-}
 
 /// The program itself, with which the help begins.
 pub(crate) const PROGRAM: CommandRow = CommandRow {
     name: "amcover",
-    about: ABOUT,
-    help: EXAMPLE,
+    about: "\
+Shows where Alertmanager routes alerts, and what silences or inhibits them
+
+Begin with your own alertmanager.yml:
+
+  yq -o=json . alertmanager.yml > alertmanager.json  # Debian's yq: yq . alertmanager.yml
+  amcover lint --config alertmanager.json",
+    help: "\
+Examples:
+
+  amcover lint --config alertmanager.json
+  amcover compare --old old.json --new alertmanager.json
+  amcover outcomes --config alertmanager.json
+  amcover explain --config alertmanager.json 'team=db,severity=warning'
+  amcover alerts --config alertmanager.json --alerts alerts.json 'receiver db-pager'
+  amcover universe --config alertmanager.json > u.json
+  amcover ask --universe u.json --config alertmanager.json 'receiver db-pager'
+  amcover dead --universe u.json --config alertmanager.json
+  amcover receivers --universe u.json --config alertmanager.json
+
+Each command has help on what it reads and prints, for example `amcover lint --help`.",
     takes: &[],
 };
 
@@ -64,8 +37,104 @@ pub(crate) const PROGRAM: CommandRow = CommandRow {
 pub(crate) const COMMANDS: [CommandRow; 9] = [
     CommandRow {
         name: "lint",
-        about: LINT_ABOUT,
-        help: LINT_HELP,
+        about: "Say what is wrong with a configuration, and why",
+        help: "\
+Convert your alertmanager.yml to JSON, and check it:
+
+  yq -o=json . alertmanager.yml > alertmanager.json  # Debian's yq: yq . alertmanager.yml
+  amcover lint --config alertmanager.json
+
+This prints a line for each finding and each note: first on routes, then on receivers, then
+on inhibition rules. The last line counts them. For example:
+
+  /2 hands on: \"db-mail\" {team=\"db\"}: taken by /2/0 {env=\"prod\"}, /2/1 {env!=\"prod\"}
+  /3/2 dead: \"web-chat\" {env!=\"prod\"}: taken by /1 {env!=\"prod\"}
+  receiver \"web-chat\" unmatched: /3/2 {env!=\"prod\"} dead
+  rule 1 idle: no alert matches source {severity=\"critical\",severity=\"high\"}
+  # 3 findings, 1 note
+
+A path names a route, and counts from 0: / is the top-level route, /3 is its fourth child,
+and /3/2 is the third child of /3. After the path come the kind of finding or note, the
+receiver of the route, its matchers, and the reason. The kinds are:
+
+  dead       a finding: no alert enters the route, whatever its labels are
+  unusual    a note: no ordinary alert enters the route, but some other alert does. The
+             line shows the label set of such an alert
+  hands on   a note: ordinary alerts enter the route, and its children take all of them
+
+An alert is ordinary if its values consist of printable ASCII, from the space to ~. So an
+alert with a line feed in a value, which . does not match, is not ordinary.
+
+The reason names routes. Together they are enough, and each of them is needed: without it,
+the reason would not hold. For an unusual route, and for one that hands on, the reason speaks
+only of ordinary alerts.
+
+  excluded by ROUTES    no alert matches all of these. They are the route itself, or routes
+                        above it
+  taken by ROUTES       each alert that could enter the dead or unusual route matches one
+                        of these first. They are siblings of the route, or of a route above
+                        it; they come earlier, and have no continue. If a route hands on,
+                        they are its children
+  no alert is possible  the universe file calls all these alerts impossible
+
+A receiver is unmatched, a finding, if no alert goes to it. It is unusual, a note, if some
+alert does, but no ordinary one. The line names the routes that have the receiver, each with
+its kind, or says that there are none.
+
+A rule is idle, a finding, if no alert inhibits another by it, whatever fires. Its number is
+its position in inhibit_rules, from 0. The reason is one of these. The matchers that it
+names are enough, and each of them is needed:
+
+  no alert matches source MATCHERS, or target MATCHERS
+  source MATCHERS and target MATCHERS exclude each other through equal
+             if one alert matches the first and another the second, they differ in a label
+             of equal
+  each two alerts that match source and target match both sides
+             and such alerts do not inhibit each other
+
+The usual mistake is a source of critical alerts, a target of warnings, and severity in equal.
+
+With --silences and --at, lint also checks the silences, except those that are over at that
+time. Their numbers are positions in the file, from 0. With --alerts, notes say what no alert
+of that file matches or has:
+
+  amcover lint --config alertmanager.json --silences silences.json \\
+    --at \"$(date -u +%FT%TZ)\" --alerts alerts.json
+
+  silence 3 idle: no alert matches {team=\"db\",team=\"web\"}
+             a finding: it can hide no alert
+  silence 4 all: every alert matches {team=~\"(?s).*\"}
+             a finding: it hides every alert
+  silence 5 unused: no alert of the file matches {team=\"ops\"}
+             a note: it is active, and hides none of the alerts of the file
+  /2/0 unseen: no alert has severity=\"critcal\", some have \"critical\"
+             a note: a matcher of a route, a rule or a silence has = and a value that no
+             alert of the file has, though some alert has the label. The line shows the
+             most similar value of an alert, if at most two characters need to change
+
+lint speaks of every alert that there can be, whatever its labels are. If some alerts never
+occur, say so in a universe file, such as never.json:
+
+  {\"labels\": [], \"impossible\": [\"team=web,severity=critical\"]}
+
+  amcover lint --config alertmanager.json --universe never.json
+
+The file may declare labels too. Then each needs a value for every case that the matchers of
+the routes tell apart. If one lacks such a value, lint refuses the file:
+
+  amcover: universe: /labels/0: incomplete
+
+amcover universe --from never.json --config alertmanager.json adds what a file lacks.
+
+With --ascii, only ordinary alerts count. A route that is unusual without --ascii is then
+dead. If a pattern has \\b, use --ascii: without it, lint refuses the configuration as
+unproved.
+
+lint ignores time intervals. Silences and inhibition do not change what it says of routes and
+receivers.
+
+Exit status: 0 done without a finding, 1 refused input, 2 usage, 3 out of memory, 4 the
+output failed, 5 done with a finding.",
         takes: &[
             (CONFIG, Need::Required),
             (SILENCES, Need::Optional),
@@ -77,8 +146,57 @@ pub(crate) const COMMANDS: [CommandRow; 9] = [
     },
     CommandRow {
         name: "compare",
-        about: COMPARE_ABOUT,
-        help: COMPARE_HELP,
+        about: "Say which alerts a change sends to other receivers",
+        help: "\
+In a merge request, compare your alertmanager.yml with that of the main branch:
+
+  git show origin/main:alertmanager.yml > old.yml
+  yq -o=json . old.yml > old.json                    # Debian's yq: yq . old.yml
+  yq -o=json . alertmanager.yml > alertmanager.json  # Debian's yq: yq . alertmanager.yml
+  amcover compare --old old.json --new alertmanager.json
+
+The exit status is 0 if the merge sends no alert elsewhere, and 5 if it does. With any other
+status there is no answer.
+
+The output has a line for each change, and the last line counts them. For example:
+
+  \"db-mail\" -> \"web-pager\" {team=\"web\",severity=\"info\"}
+  \"web-pager\" -> \"web-pager\",\"incident-log\" {team=\"web\",severity=\"critical\"}
+  # 2 changes
+
+Before the arrow are the receivers of an alert under the old configuration, and after it
+those under the new one. They are in the order of the routes at which the alert ends. A
+receiver appears twice if the alert ends at two routes that have it. The line ends with the
+first label set of such an alert. All alerts that go from the same receivers to the same other
+ones share a line, however many they are.
+
+Every alert counts, whatever its labels are. If it goes to other receivers than before, it has
+a line. So if there is no line, each alert goes to the same receivers as before, in the same
+order, however the routes are written. Receivers with the same name are the same. compare
+ignores what a receiver does with an alert, and also grouping, silences, inhibition and time
+intervals.
+
+If some alerts never occur, say so in a universe file, such as never.json:
+
+  {\"labels\": [], \"impossible\": [\"team=web,severity=critical\"]}
+
+  amcover compare --old old.json --new alertmanager.json --universe never.json
+
+The file may declare labels too. Then each needs a value for every case that the matchers of
+the routes of both files tell apart. If one lacks such a value, compare refuses the file:
+
+  amcover: universe: /labels/0: incomplete
+
+With --ascii, only alerts count whose values consist of printable ASCII, from the space to ~.
+So an alert does not count if a value has a line feed, which . does not match. If a pattern
+has \\b, use --ascii: without it, compare refuses the configuration as unproved.
+
+A refusal names the file at fault as old or new:
+
+  amcover: old: /route/receiver: undefined-receiver
+
+Exit status: 0 done without a change, 1 refused input, 2 usage, 3 out of memory, 4 the
+output failed, 5 done with a change.",
         takes: &[
             (OLD, Need::Required),
             (NEW, Need::Required),
@@ -88,8 +206,51 @@ pub(crate) const COMMANDS: [CommandRow; 9] = [
     },
     CommandRow {
         name: "outcomes",
-        about: OUTCOMES_ABOUT,
-        help: OUTCOMES_HELP,
+        about: "Show each list of receivers that some alert goes to",
+        help: "\
+Convert your alertmanager.yml to JSON, and list where alerts go:
+
+  yq -o=json . alertmanager.yml > alertmanager.json  # Debian's yq: yq . alertmanager.yml
+  amcover outcomes --config alertmanager.json
+
+This prints a line for each list of receivers that some alert goes to, and then `# end`. For
+example:
+
+  \"default\" {}
+  \"db-mail\" {team=\"db\"}
+  \"db-pager\",\"incident-log\" {team=\"db\",severity=\"critical\"}
+  # end
+
+The receivers are in the order of the routes at which an alert ends. A receiver appears twice
+if the alert ends at two routes that have it. The line ends with the first label set of such
+an alert. Every alert counts: whatever its labels are, its receivers are one of these lists.
+
+Keep the output beside the configuration. A review then shows which lists come and go:
+
+  amcover outcomes --config alertmanager.json > outcomes.txt
+
+To see which alerts go elsewhere, use `amcover compare`.
+
+If some alerts never occur, say so in a universe file, such as never.json:
+
+  {\"labels\": [], \"impossible\": [\"team=web,severity=critical\"]}
+
+  amcover outcomes --config alertmanager.json --universe never.json
+
+The file may declare labels too. Then each needs a value for every case that the matchers of
+the routes tell apart. If one lacks such a value, outcomes refuses the file:
+
+  amcover: universe: /labels/0: incomplete
+
+amcover universe --from never.json --config alertmanager.json adds what a file lacks.
+
+With --ascii, only alerts count whose values consist of printable ASCII, from the space to ~.
+So an alert does not count if a value has a line feed, which . does not match. If a pattern
+has \\b, use --ascii: without it, outcomes refuses the configuration as unproved.
+
+outcomes ignores silences, inhibition and time intervals.
+
+Exit status: 0 done, 1 refused input, 2 usage, 3 out of memory, 4 the output failed.",
         takes: &[
             (CONFIG, Need::Required),
             (IMPOSSIBLE, Need::Optional),
@@ -98,8 +259,150 @@ pub(crate) const COMMANDS: [CommandRow; 9] = [
     },
     CommandRow {
         name: "ask",
-        about: ASK_ABOUT,
-        help: ASK_HELP,
+        about: "List the label sets of a universe for which a question is true",
+        help: "\
+Convert your alertmanager.yml to JSON, make a universe for it, and ask:
+
+  yq -o=json . alertmanager.yml > alertmanager.json  # Debian's yq: yq . alertmanager.yml
+  amcover universe --config alertmanager.json > u.json
+  amcover ask --universe u.json --config alertmanager.json 'receiver db-pager'
+
+This prints the label sets of the alerts that go to the receiver db-pager.
+
+The universe is a JSON file. It declares labels, and the values that each may have. null
+stands for a missing label:
+
+  {\"labels\": [
+    {\"name\": \"team\", \"values\": [\"db\", \"web\", null]},
+    {\"name\": \"severity\", \"values\": [\"critical\", \"warning\"]}
+  ]}
+
+Beside the labels, it may have lists of matchers that say which label sets never occur. ask
+leaves out a label set that matches all matchers of one of these lists:
+
+  \"impossible\": [\"team=web,severity=critical\"]
+
+A label set has one of the values of each label. It stands for an alert with these labels,
+and the configuration of --config says where this alert goes. Without --config there is one
+route, /, and its receiver is called none. If ask refuses a file, it names the file and, as a
+JSON Pointer, the part at fault.
+
+amtool exports the file of --silences:
+
+  amtool --alertmanager.url=http://localhost:9093 \\
+    silence query -o json > silences.json
+
+Silences need --at, the time that you ask about: a silence hides alerts from its start on,
+and until its end. The time has a date, and Z or an offset from UTC, as in
+2024-05-01T10:00:00Z and 2024-05-01T12:00:00+02:00. Now is
+
+  --at \"$(date -u +%FT%TZ)\"
+
+amtool exports the file of --alerts too: the alerts that fire. Without -a -s -i -u it leaves
+out the silenced and the inhibited ones, which still inhibit others:
+
+  amtool --alertmanager.url=http://localhost:9093 \\
+    alert query -a -s -i -u -o json > alerts.json
+
+Every alert of that file counts as firing, whatever --at says. Without --silences no alert
+is silenced, and without --alerts none is inhibited. ask ignores time intervals.
+
+A question is one of these:
+
+  receiver NAME    the alert goes to this receiver
+                     receiver db-pager
+  ends PATH        this route handles the alert, and none below it does
+                     ends /2
+  enters PATH      this route or one below it handles the alert
+                     enters /2
+  silenced         a silence hides the alert at the time of --at
+                     silenced
+  inhibited        an alert of --alerts inhibits the alert, by a rule of --config
+                     inhibited
+  any              every alert
+                     any
+  {MATCHERS}       the labels of the alert match all of these matchers
+                     {team=\"db\",severity=~\"crit.*\"}
+  not Q            the question Q is false
+                     not enters /2
+  Q and Q          both questions are true
+                     enters /2 and not ends /2/0
+  Q or Q           one of the questions is true, or both are
+                     receiver db-pager or receiver web-pager
+  (Q)              the question Q, as one part of another
+                     not (ends /2 or ends /3)
+
+`not` binds closest, then `and`, then `or`. In a shell, put the question between single
+quotes.
+
+A PATH names a route, and counts from 0: / is the top-level route, /2 is its third child, and
+/2/0 is the first child of /2. A NAME may be in quotes. It needs quotes if it has whitespace,
+a quote, a parenthesis or a { in it: receiver \"on call\".
+
+The matchers are in the classic syntax of Alertmanager, with =, !=, =~ and !~. A pattern must
+match the whole value. A missing label counts as the empty value.
+
+ask prints a line for each label set for which the question is true, and then `# end`. The
+lines are in declared order, in which the first label counts most. With the universe above as
+u.json:
+
+  amcover ask --universe u.json '{team=\"db\"}'
+
+  {team=\"db\",severity=\"critical\"}
+  {team=\"db\",severity=\"warning\"}
+  # end
+
+This prints the label sets that go to db-pager and that a silence hides now:
+
+  amcover ask --universe u.json --config alertmanager.json \\
+    --silences silences.json --at \"$(date -u +%FT%TZ)\" \\
+    'silenced and receiver db-pager'
+
+And this prints those that go to db-pager and that no firing alert inhibits:
+
+  amcover ask --universe u.json --config alertmanager.json --alerts alerts.json \\
+    'receiver db-pager and not inhibited'
+
+With --limit 1, ask prints only the first answer. If there are more, the last line has a
+token:
+
+  amcover ask --universe u.json --limit 1 '{team=\"db\"}'
+
+  {team=\"db\",severity=\"critical\"}
+  # next t2:05333def3ae3b054572609919ffa7605:0.0
+
+To continue, run the same command with --after and that token. Without --limit it prints all
+that is left. The 32 digits stand for the bytes of the files, the time and the question. If
+one of them has changed, ask refuses the token.
+
+  amcover ask --universe u.json --limit 1 \\
+    --after t2:05333def3ae3b054572609919ffa7605:0.0 '{team=\"db\"}'
+
+  {team=\"db\",severity=\"warning\"}
+  # end
+
+A search may take long to find an answer, or to see that none is left. --steps stops it. A
+step looks once at the values of the first labels. It shows that all label sets with these
+values are answers, that none is, or that the search must look at more labels. For example,
+switches.json has seven labels a to g, each with the values 0 and 1:
+
+  amcover ask --universe switches.json --steps 65 '{g=\"0\"}'
+
+This prints 16 label sets, and then
+
+  # stopped s2:f8767580b17370ba6de9d23d71956bec:0.1
+
+The answer is complete up to there. To continue, run the same command with --after and that
+token:
+
+  amcover ask --universe switches.json --steps 65 \\
+    --after s2:f8767580b17370ba6de9d23d71956bec:0.1 '{g=\"0\"}'
+
+The output of one run is a page. It may stop before its first line although more answers
+follow: continue until `# end`. With --steps 1000000 a page ends after at most a million
+steps.
+
+Exit status: 0 done, 1 refused input, 2 usage, 3 out of memory, 4 the output failed.",
         takes: &[
             (UNIVERSE, Need::Required),
             (CONFIG, Need::Optional),
@@ -114,20 +417,126 @@ pub(crate) const COMMANDS: [CommandRow; 9] = [
     },
     CommandRow {
         name: "dead",
-        about: DEAD_ABOUT,
-        help: DEAD_HELP,
+        about: "Say which routes are dead: no label set of a universe ends there",
+        help: "\
+Convert your alertmanager.yml to JSON, make a universe for its routes, and check them:
+
+  yq -o=json . alertmanager.yml > alertmanager.json  # Debian's yq: yq . alertmanager.yml
+  amcover universe --routes --config alertmanager.json > u.json
+  amcover dead --universe u.json --config alertmanager.json
+
+This prints a line for each route, a route before those below it, and then `# end`. For
+example:
+
+  / live {team=\"web\",severity=\"critical\"}
+  /0 dead entered
+  /0/0 live {team=\"db\",severity=\"critical\"}
+  /1 dead never-entered
+  # end
+
+A path names a route, and counts from 0: / is the top-level route, /0 is its first child, and
+/0/0 is the first child of /0. After the path comes one of these:
+
+  live SET             the label set SET ends there. It is the first of the universe that does
+  dead entered         none ends there, but some end below it: its children take every alert
+                       that enters it
+  dead never-entered   none ends there or below it. For example, earlier routes without
+                       continue take all that it matches; or its matchers and those of its
+                       parent are never true together; or they ask for a value that the
+                       universe does not declare
+
+The universe is a JSON file that declares labels and the values that each may have, as
+`amcover ask --help` shows. Each of its label sets stands for the labels of an alert. A label
+set ends at a route if that route handles the alert, and none below it does. dead ignores
+silences, inhibition and time intervals.
+
+A route is dead for this universe alone. An alert with other labels or values may end there,
+unless the universe stands for every alert. `amcover universe` makes such a universe, and
+`amcover universe --check` says what another one lacks. `amcover lint` needs no universe.
+
+Labels that no route asks about cost no time, and neither do many label sets. A label set that
+never occurs may keep a route live, unless the universe calls it impossible.
+
+Exit status: 0 done, with dead routes or without, 1 refused input, 2 usage, 3 out of
+memory, 4 the output failed.",
         takes: &[(UNIVERSE, Need::Required), (CONFIG, Need::Required)],
     },
     CommandRow {
         name: "receivers",
-        about: RECEIVERS_ABOUT,
-        help: RECEIVERS_HELP,
+        about: "Say which receivers are unmatched: no label set of a universe goes there",
+        help: "\
+Convert your alertmanager.yml to JSON, make a universe for its routes, and check the receivers:
+
+  yq -o=json . alertmanager.yml > alertmanager.json  # Debian's yq: yq . alertmanager.yml
+  amcover universe --routes --config alertmanager.json > u.json
+  amcover receivers --universe u.json --config alertmanager.json
+
+This prints a line for each receiver, in the order of the configuration, and then `# end`.
+For example:
+
+  \"db-pager\" live {team=\"db\",severity=\"critical\"}
+  \"db-mail\" unmatched
+  # end
+
+The label set is the first of the universe that goes to db-pager. None goes to db-mail: no
+route has that receiver, or each route that has it is dead, as `amcover dead` shows.
+
+The universe is a JSON file that declares labels and the values that each may have, as
+`amcover ask --help` shows. Each of its label sets stands for the labels of an alert. The alert
+goes to the receiver of each route that handles it, if no route below that one does. A route
+that names no receiver has that of its parent. receivers ignores silences, inhibition and time
+intervals.
+
+A receiver is unmatched for this universe alone. An alert with other labels or values may go
+there, unless the universe stands for every alert, as one of `amcover universe` does.
+`amcover lint` needs no universe.
+
+Exit status: 0 done, with unmatched receivers or without, 1 refused input, 2 usage, 3 out
+of memory, 4 the output failed.",
         takes: &[(UNIVERSE, Need::Required), (CONFIG, Need::Required)],
     },
     CommandRow {
         name: "explain",
-        about: EXPLAIN_ABOUT,
-        help: EXPLAIN_HELP,
+        about: "Say where an alert goes, and what hides it",
+        help: "\
+Convert your alertmanager.yml to JSON, and ask about the labels of one alert:
+
+  yq -o=json . alertmanager.yml > alertmanager.json  # Debian's yq: yq . alertmanager.yml
+  amcover explain --config alertmanager.json 'team=db,severity=warning'
+
+Write the labels as one word, a list of matchers: team=db,severity=warning. Or write each as
+a word of its own, as in amtool config routes test: team=db severity=warning. They are in the
+classic syntax of Alertmanager, each with =. The alert need not fire.
+
+amtool exports the files of --silences and --alerts:
+
+  amtool --alertmanager.url=http://localhost:9093 \\
+    silence query -o json > silences.json
+  amtool --alertmanager.url=http://localhost:9093 \\
+    alert query -a -s -i -u -o json > alerts.json
+
+Without -a -s -i -u amtool leaves out the silenced and the inhibited alerts, which still
+inhibit others. Every alert of the file counts as firing, whatever --at says. Silences need
+--at, the time that you ask about, such as 2024-05-01T10:00:00Z, or now:
+
+  amcover explain --config alertmanager.json --silences silences.json \\
+    --alerts alerts.json --at \"$(date -u +%FT%TZ)\" 'team=db,severity=warning'
+
+This prints the label set, and then the reasons, for example
+
+  {severity=\"warning\",team=\"db\"}
+  end /0 \"dba\"
+  silenced 0
+  inhibited 1 4
+
+The route /0 handles the alert, and its receiver is dba. The first silence of the file hides
+the alert. By the second rule, the fifth alert inhibits it: positions count from 0. There is
+a line for each such route, for each such silence, and for each such rule with an alert. If
+there is no line silenced or inhibited, no silence and no alert of these files hides the
+alert. If you leave out a file, it hides nothing. explain ignores time intervals, which may
+mute the alert too.
+
+Exit status: 0 done, 1 refused input, 2 usage, 3 out of memory, 4 the output failed.",
         takes: &[
             (CONFIG, Need::Required),
             (SILENCES, Need::Optional),
@@ -138,8 +547,57 @@ pub(crate) const COMMANDS: [CommandRow; 9] = [
     },
     CommandRow {
         name: "alerts",
-        about: ALERTS_ABOUT,
-        help: ALERTS_HELP,
+        about: "List the firing alerts for which a question is true",
+        help: "\
+Convert your alertmanager.yml to JSON, export the alerts that fire, and ask:
+
+  yq -o=json . alertmanager.yml > alertmanager.json  # Debian's yq: yq . alertmanager.yml
+  amtool --alertmanager.url=http://localhost:9093 \\
+    alert query -a -s -i -u -o json > alerts.json
+  amcover alerts --config alertmanager.json --alerts alerts.json 'receiver db-pager'
+
+Every alert of the file counts as firing. Without -a -s -i -u amtool leaves out the silenced
+and the inhibited ones, which still inhibit others. amtool exports the file of --silences too:
+
+  amtool --alertmanager.url=http://localhost:9093 \\
+    silence query -o json > silences.json
+
+Silences need --at, the time that you ask about, such as 2024-05-01T10:00:00Z. Now is
+
+  --at \"$(date -u +%FT%TZ)\"
+
+Without --silences no alert is silenced.
+
+alerts prints a line for each alert of the file for which the question is true, in the order
+of the file, and then `# end`. `amcover ask --help` lists the questions. Without a question,
+alerts asks `any`, which is true of every alert. For example,
+
+  amcover alerts --config alertmanager.json --alerts alerts.json \\
+    --silences silences.json --at \"$(date -u +%FT%TZ)\" 'enters /0'
+
+may print
+
+  0 {alertname=\"PostgresDown\",team=\"db\"} -> \"db-pager\",\"incident-log\" silenced \"5a41\"
+  3 {alertname=\"Slow\",team=\"db\"} -> \"db-mail\" inhibited 1/0
+  # end
+
+The first alert of the file goes to two receivers, in the order of the routes that handle
+it. The silence with the identifier 5a41 hides it. The first alert inhibits the fourth one by
+the second rule: positions count from 0. If a silence has no identifier in its file, its
+position stands for it. If a line does not say silenced or inhibited, no silence and no alert
+of these files hides the alert.
+
+This prints the alerts of web-pager that no silence and no other alert hides now:
+
+  amcover alerts --config alertmanager.json --alerts alerts.json \\
+    --silences silences.json --at \"$(date -u +%FT%TZ)\" \\
+    'receiver web-pager and not silenced and not inhibited'
+
+With the question `silenced or inhibited` it prints the alerts that are hidden, and with
+`silenced` and a file with only one silence what that silence hides. alerts ignores time
+intervals, which may mute alerts too.
+
+Exit status: 0 done, 1 refused input, 2 usage, 3 out of memory, 4 the output failed.",
         takes: &[
             (CONFIG, Need::Required),
             (ALERTS, Need::Required),
@@ -150,8 +608,97 @@ pub(crate) const COMMANDS: [CommandRow; 9] = [
     },
     CommandRow {
         name: "universe",
-        about: UNIVERSE_ABOUT,
-        help: UNIVERSE_HELP,
+        about: "Make a universe that stands for every alert, or say what one lacks",
+        help: "\
+Convert your alertmanager.yml to JSON, and make a universe for it:
+
+  yq -o=json . alertmanager.yml > alertmanager.json  # Debian's yq: yq . alertmanager.yml
+  amcover universe --config alertmanager.json > u.json
+
+This prints a universe file with a line for each label, for example
+
+  {\"labels\": [
+    {\"name\": \"team\", \"values\": [null, \"db\", \"web\"]},
+    {\"name\": \"severity\", \"values\": [null, \"critical\", \"other\"]}
+  ]}
+
+null stands for a missing label. A class is all values of a label that the matchers cannot
+tell apart. Each label that a matcher asks about has one value of each class. So whatever
+labels an alert has, some label set of this universe ends at the same routes. If
+`amcover dead` calls a route dead over this universe, no alert can end there.
+
+The matchers are those of the routes and of the inhibition rules. With --silences, those of
+the silences count too, whatever the time. With --alerts, the labels in `equal` count, with
+the values of each alert that matches the source of the rule. amtool exports these files:
+
+  amtool --alertmanager.url=http://localhost:9093 \\
+    silence query -o json > silences.json
+  amtool --alertmanager.url=http://localhost:9093 \\
+    alert query -a -s -i -u -o json > alerts.json
+
+If no matcher names a value of a class, --alerts decides which one stands for it: the one that
+most of these alerts have. For `amcover dead` and `amcover receivers`, --routes is enough: it
+counts only the matchers of routes, and the universe is smaller.
+
+With --question, the matchers in the braces of a question of `amcover ask` count too. You
+may repeat it:
+
+  amcover universe --config alertmanager.json --question '{team=\"db\"}' > u.json
+
+If a question has no answer over such a universe, it is true of no alert.
+
+If some alerts never occur, say so in a universe file, such as never.json:
+
+  {\"labels\": [], \"impossible\": [\"team=web,severity=critical\"]}
+
+With --from, the universe keeps the labels of that file, their values and its impossible
+lists, in their order. To these amcover adds what the file lacks:
+
+  amcover universe --from never.json --config alertmanager.json > u.json
+
+A value may have any character, even a line feed, which . does not match. So a route after
+one with team=~\".*\" is live. With --ascii, only alerts count whose values consist of printable
+ASCII, from the space to ~. The universe is then smaller, and is made faster. Use --ascii with
+--check too, which then says that the universe lacks nothing.
+
+For some patterns, amcover cannot find which values they tell apart: for those with \\b, for
+example, unless --ascii is given. And no universe can declare some names, such as a:b. Then
+amcover prints no universe, and says which route, rule, silence, question or list asks:
+
+  amcover: config: /route/routes/0: unproved
+
+With --open, amcover makes a universe all the same. Such a label then has the values that were
+found, if any. Classes may be missing, so nothing is promised of that universe.
+
+With --check, amcover makes no universe, and says what one lacks:
+
+  amcover universe --check u.json --config alertmanager.json
+
+This prints a line for each label of the universe, and then for each other label that a
+matcher asks about. Then come the number of label sets, and `# complete` or `# incomplete`.
+For example:
+
+  team complete 3
+  severity lacks absent
+  service lacks \"basket\"
+  rack unasked
+  30 label sets
+  # incomplete
+
+After the name comes one of these:
+
+  complete N           each of the N classes has a value
+  lacks VALUE          no value is in the class of this one; absent is a missing label
+  unasked              no matcher asks about it. It multiplies the label sets, and does no harm
+  undeclarable         no universe can declare the name, and absence alone is not enough
+  unproved POINTER     amcover could not find which values the matchers tell apart
+
+With --alerts, `unseen` follows if none of these alerts has the label. The matchers of the
+impossible lists of the universe count too. A label may lack a value that an impossible list
+of this label alone rules out.
+
+Exit status: 0 done, complete or not, 1 refused input, 2 usage, 3 out of memory, 4 the
+output failed.",
         takes: &[
             (CHECK, Need::Optional),
             (FROM, Need::Without("universe")),
@@ -165,125 +712,3 @@ pub(crate) const COMMANDS: [CommandRow; 9] = [
         ],
     },
 ];
-
-const CONFIG: Argument = Argument {
-    id: "config",
-    form: Form::Value("config", "FILE"),
-    help: "The Alertmanager configuration, as JSON",
-};
-
-const OLD: Argument = Argument {
-    id: "old",
-    form: Form::Value("old", "FILE"),
-    help: "The old Alertmanager configuration, as JSON",
-};
-
-const NEW: Argument = Argument {
-    id: "new",
-    form: Form::Value("new", "FILE"),
-    help: "The new Alertmanager configuration, as JSON",
-};
-
-const SILENCES: Argument = Argument {
-    id: "silences",
-    form: Form::Value("silences", "FILE"),
-    help: "The silences, as exported by amtool silence query -o json",
-};
-
-const ALERTS: Argument = Argument {
-    id: "alerts",
-    form: Form::Value("alerts", "FILE"),
-    help: "The firing alerts, as exported by amtool alert query -a -s -i -u -o json",
-};
-
-const AT: Argument = Argument {
-    id: "at",
-    form: Form::Value("at", "TIME"),
-    help: "The time to ask about, such as 2024-05-01T10:00:00Z",
-};
-
-const UNIVERSE: Argument = Argument {
-    id: "universe",
-    form: Form::Value("universe", "FILE"),
-    help: "The universe, a JSON file",
-};
-
-/// The universe file of a command that makes its own universe.
-const IMPOSSIBLE: Argument = Argument {
-    id: "universe",
-    form: Form::Value("universe", "FILE"),
-    help: "A universe, a JSON file, that says which label sets never occur",
-};
-
-const ASCII: Argument = Argument {
-    id: "ascii",
-    form: Form::Flag("ascii"),
-    help: "Count only alerts whose values are printable ASCII",
-};
-
-const LIMIT: Argument = Argument {
-    id: "limit",
-    form: Form::Number("limit", 1),
-    help: "Print at most N label sets, 1 to 4294967295, and a token if there are more",
-};
-
-const STEPS: Argument = Argument {
-    id: "steps",
-    form: Form::Number("steps", MIN_STEPS),
-    help: "Stop the search after N steps, 65 to 4294967295, with a token to continue",
-};
-
-const AFTER: Argument = Argument {
-    id: "after",
-    form: Form::Value("after", "TOKEN"),
-    help: "Continue after the page of the same inputs that ended with this token",
-};
-
-const ASKED: Argument = Argument {
-    id: "question",
-    form: Form::Word("QUESTION"),
-    help: "The question, such as receiver db-pager or {team=\"db\"}",
-};
-
-const ASKED_OF_ALERTS: Argument = Argument {
-    id: "question",
-    form: Form::Word("QUESTION"),
-    help: "The question, such as receiver db-pager or silenced; without one, any",
-};
-
-const SET: Argument = Argument {
-    id: "set",
-    form: Form::Words("SET"),
-    help: "The label set, such as team=db,severity=warning or team=db severity=warning",
-};
-
-const CHECK: Argument = Argument {
-    id: "universe",
-    form: Form::Value("check", "UNIVERSE"),
-    help: "Say what this universe, a JSON file, lacks, and make none",
-};
-
-const FROM: Argument = Argument {
-    id: "from",
-    form: Form::Value("from", "UNIVERSE"),
-    help: "Keep this universe, a JSON file, and add what it lacks",
-};
-
-/// A question of which `universe` counts the matchers.
-const COUNTED: Argument = Argument {
-    id: "question",
-    form: Form::Values("question", "QUESTION"),
-    help: "Count the matchers of this question too; may be repeated",
-};
-
-const ROUTES: Argument = Argument {
-    id: "routes",
-    form: Form::Flag("routes"),
-    help: "Count only the matchers of routes",
-};
-
-const OPEN: Argument = Argument {
-    id: "open",
-    form: Form::Flag("open"),
-    help: "Print the universe even if a label is unproved",
-};
