@@ -10,7 +10,7 @@ use Rattle.am_universe.specs.Text.{same_text}
 use Rattle.am_universe.proofs.ListLemmas.{IsIn, IsIn-left, IsIn-right, IsIn-map, IsIn-unmap}
 use Rattle.am_universe.proofs.ListLemmas.{Contains-from_IsIn, AllByRecursion-each}
 use Rattle.am_universe.proofs.DistinctLists.{distinct_none, distinct_push}
-use Rattle.am_labels.specs.Matcher.{Condition}
+use Rattle.am_labels.specs.Matcher.{Matcher}
 use Rattle.am_labels.proofs.Passing.{any_in, in_any, passes_from_kept, kept_from_passes}
 use Rattle.am_complete.specs.declared.origin.Origin.{Origin}
 use Rattle.am_complete.specs.Complete.{about, HaveSameMatchers}
@@ -22,23 +22,23 @@ use Rattle.am_complete.proofs.GatheringLemmas.{with_matcher_name}
 use Rattle.am_complete.proofs.Pushed.{in_pushed}
 use Rattle.am_complete.proofs.SameMatchers.{equal_is, same_by}
 use Rattle.am_asked.specs.Placed.{is_named}
-use Rattle.am_asked.proofs.PlacedConditions.{conditions_of, Places}
+use Rattle.am_asked.proofs.PlacedMatchers.{conditions_of, Places}
 
 -- a label has exactly those of some matchers that are on it
-record HasThoseOn (ms : List Condition) (l : AskedLabel) : Type 0 where
-  there : (x : Condition) → IsIn l.matchers x → IsIn ms x × (x.name ≡ l.name)
-  back : (x : Condition) → IsIn ms x → x.name ≡ l.name → IsIn l.matchers x
+record HasThoseOn (ms : List Matcher) (l : AskedLabel) : Type 0 where
+  there : (x : Matcher) → IsIn l.matchers x → IsIn ms x × (x.name ≡ l.name)
+  back : (x : Matcher) → IsIn ms x → x.name ≡ l.name → IsIn l.matchers x
 
 -- no two labels have the same name, each label has the matchers on it, and no label is missing
-record Gathers (labels : List AskedLabel) (ms : List Condition) : Type 0 where
+record Gathers (labels : List AskedLabel) (ms : List Matcher) : Type 0 where
   distinct : IsDistinct same_text (asked_names labels)
   matchers : (l : AskedLabel) → IsIn labels l → HasThoseOn ms l
-  every : (x : Condition) → IsIn ms x → IsIn (asked_names labels) x.name
+  every : (x : Matcher) → IsIn ms x → IsIn (asked_names labels) x.name
 
 -- ---- One matcher more.
 
 -- a label with another name keeps the same matchers
-stays : (m : Condition) (ms : List Condition) (l : AskedLabel) → m.name ≢ l.name
+stays : (m : Matcher) (ms : List Matcher) (l : AskedLabel) → m.name ≢ l.name
     → HasThoseOn ms l → HasThoseOn (ms ++ m ∷ []) l
 stays m ms l other h = record {
   there = λ x i. (IsIn-left ms (m ∷ []) x (h.there x i).0, (h.there x i).1);
@@ -46,7 +46,7 @@ stays m ms l other h = record {
 }
 
 -- the label with its name has the matcher too, once
-gains_it : (m : Condition) (ms : List Condition) (l : AskedLabel) → m.name ≡ l.name
+gains_it : (m : Matcher) (ms : List Matcher) (l : AskedLabel) → m.name ≡ l.name
     → HasThoseOn ms l → HasThoseOn (ms ++ m ∷ []) (with_matcher m l)
 gains_it m ms l named h = elim (cases_Bool (list_any (asks_same m) l.matchers)) [
   | inl some ↦
@@ -63,18 +63,18 @@ gains_it m ms l named h = elim (cases_Bool (list_any (asks_same m) l.matchers)) 
       })
 ]
 
-gains : (m : Condition) (ms : List Condition) (l : AskedLabel) → HasThoseOn ms l
+gains : (m : Matcher) (ms : List Matcher) (l : AskedLabel) → HasThoseOn ms l
     → HasThoseOn (ms ++ m ∷ []) (and_asked m l)
 gains m ms l h =
     grind (arith, common_steps, cases_Bool, bytes_decides l.name m.name, gains_it, stays, h)
 
-names_stay : (m : Condition) (labels : List AskedLabel)
+names_stay : (m : Matcher) (labels : List AskedLabel)
     → asked_names (map (and_asked m) labels) ≡ asked_names labels
 names_stay m [] = refl
 names_stay m (l ∷ labels) =
     grind (arith, common_steps, cases_Bool, with_matcher_name, names_stay m labels)
 
-step : (labels : List AskedLabel) (ms : List Condition) (origin : Origin) (m : Condition)
+step : (labels : List AskedLabel) (ms : List Matcher) (origin : Origin) (m : Matcher)
     → Gathers labels ms → Gathers (with_asked labels (origin, m)) (ms ++ m ∷ [])
 step labels ms origin m h =
     let test : AskedLabel → Bool = λ l. same_text l.name m.name in
@@ -124,7 +124,7 @@ step labels ms origin m h =
 
 -- ---- All of them.
 
-steps : (placed : List (Origin × Condition)) (labels : List AskedLabel) (ms : List Condition)
+steps : (placed : List (Origin × Matcher)) (labels : List AskedLabel) (ms : List Matcher)
     → Gathers labels ms → Gathers (fold with_asked labels placed) (ms ++ conditions_of placed)
 steps [] labels ms h = subst (Gathers labels) (sym (append-nil ms)) h
 steps (p ∷ placed) labels ms h =
@@ -138,14 +138,14 @@ some_text [] h = absurd (h refl)
 some_text (c ∷ cs) h = refl
 
 -- a matcher with a name is in both of two lists that differ in matchers without a name alone
-in_other : (xs ys : List Condition) → filter is_named xs ≡ filter is_named ys → (x : Condition)
+in_other : (xs ys : List Matcher) → filter is_named xs ≡ filter is_named ys → (x : Matcher)
     → IsIn xs x → x.name ≢ [] → IsIn ys x
 in_other xs ys same x i some =
     let kept = kept_from_passes is_named xs x i (some_text x.name some) in
-    (passes_from_kept is_named ys x (subst (λ (zs : List Condition). IsIn zs x) same kept)).0
+    (passes_from_kept is_named ys x (subst (λ (zs : List Matcher). IsIn zs x) same kept)).0
 
 -- the labels that are gathered from placed matchers are those that these matchers ask about
-pub asked_of : {placed : List (Origin × Condition)} {ms : List Condition} → Places placed ms
+pub asked_of : {placed : List (Origin × Matcher)} {ms : List Matcher} → Places placed ms
     → IsAskedOf (asked_labels placed) ms
 asked_of {placed} {ms} places =
     let labels = asked_labels placed in

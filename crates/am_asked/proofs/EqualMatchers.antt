@@ -13,7 +13,7 @@ use Rattle.std.proofs.lemmas.List.Elements.{filter-append}
 use Rattle.am_universe.specs.LabelSet.{LabelMap, value_of}
 use Rattle.am_universe.proofs.ListLemmas.{IsIn}
 use Rattle.am_labels.specs.declared.op.Op.TheVariants.{Equal}
-use Rattle.am_labels.specs.Matcher.{Condition, all_hold}
+use Rattle.am_labels.specs.Matcher.{Matcher, all_hold}
 use Rattle.am_config.specs.ConfigFile.{Rule}
 use Rattle.am_eval.specs.World.{World}
 use Rattle.am_eval.specs.Pairs.{pair_of, pairs_of_rule, pairs_of}
@@ -28,11 +28,11 @@ use Rattle.am_asked.specs.Placed.{is_named}
 -- ---- Of one pair, name by name.
 
 -- the matchers of some names, which are texts in memory
-abbrev pub of_names : ℕ → LabelMap → List (String Global) → List (Origin × Condition)
+abbrev pub of_names : ℕ → LabelMap → List (String Global) → List (Origin × Matcher)
 of_names rule a names =
     placed_at (origin_is.Rule rule) (filter is_named (equal_to_alert (map string_bytes names) a))
 
-abbrev of_name : ℕ → List ℕ → List ℕ → List (Origin × Condition)
+abbrev of_name : ℕ → List ℕ → List ℕ → List (Origin × Matcher)
 of_name rule name value =
     placed_at (origin_is.Rule rule)
     (filter is_named (record { name = name; op = Equal; value = value } ∷ []))
@@ -41,7 +41,7 @@ first_name : (rule : ℕ) (a : LabelMap) (name : String Global) (names : List (S
     → of_names rule a (name ∷ names)
     ≡ of_name rule (string_bytes name) (value_of a (string_bytes name)) ++ of_names rule a names
 first_name rule a name names =
-    let here : List Condition = record {
+    let here : List Matcher = record {
       name = string_bytes name;
       op = Equal;
       value = value_of a (string_bytes name);

@@ -1,5 +1,5 @@
 pub mod PlacedSteps
-pub mod PlacedConditions
+pub mod PlacedMatchers
 pub mod AskedLemmas
 pub mod EqualMatchers
 pub mod Undeclared

@@ -5,7 +5,7 @@ use Rattle.std.specs.Prelude.{slice_get}
 use Rattle.std.specs.List.{flat_map, enumerate_from}
 use Rattle.std.proofs.lemmas.List.{at_drop_more}
 use Rattle.std.proofs.lemmas.List.Sums.{fold-append}
-use Rattle.am_labels.specs.Matcher.{Condition}
+use Rattle.am_labels.specs.Matcher.{Matcher}
 use Rattle.am_universe.proofs.Members.{left_at}
 use Rattle.am_config.specs.ConfigFile.{RouteTree}
 use Rattle.am_complete.specs.declared.origin.Origin.{Origin}
@@ -13,20 +13,20 @@ use Rattle.am_asked.specs.Placed.{placed_at, placed_by_route}
 
 -- what there is now, with the matchers that are left, gives what the first state gives with all
 -- matchers
-abbrev pub IsOnTheWay : {S : Type 0} → (S → Origin × Condition → S) → S
-    → List (Origin × Condition) → S → List (Origin × Condition) → Type 0
+abbrev pub IsOnTheWay : {S : Type 0} → (S → Origin × Matcher → S) → S
+    → List (Origin × Matcher) → S → List (Origin × Matcher) → Type 0
 IsOnTheWay after before all now left = fold after now left ≡ fold after before all
 
-module _ {S : Type 0} (after : S → Origin × Condition → S) where
+module _ {S : Type 0} (after : S → Origin × Matcher → S) where
   -- the matchers before the others
-  pub passed : (front rest : List (Origin × Condition)) (now next whole : S)
+  pub passed : (front rest : List (Origin × Matcher)) (now next whole : S)
       → next ≡ fold after now front → fold after now (front ++ rest) ≡ whole
       → fold after next rest ≡ whole
   passed front rest now next whole step before =
       ap (λ s. fold after s rest) step ∙ sym (fold-append after now front rest) ∙ before
 
   -- one more matcher of a list
-  pub one_more_matcher : (origin : Origin) (ms : List Condition) (i : ℕ) (m : Condition)
+  pub one_more_matcher : (origin : Origin) (ms : List Matcher) (i : ℕ) (m : Matcher)
       (now next whole : S) → slice_get ms i ≡ Some m → next ≡ after now (origin, m)
       → fold after now (placed_at origin (drop i ms)) ≡ whole
       → fold after next (placed_at origin (drop (i + 1) ms)) ≡ whole
@@ -35,7 +35,7 @@ module _ {S : Type 0} (after : S → Origin × Condition → S) where
       ∙ ap (λ left. fold after now (placed_at origin left)) (sym (left_at ms i m there)) ∙ before
 
   -- the matchers of one more thing, from a list of things that each have matchers
-  pub one_more_thing : {X : Type 0} (f : ℕ × X → List (Origin × Condition)) (xs : List X) (i : ℕ)
+  pub one_more_thing : {X : Type 0} (f : ℕ × X → List (Origin × Matcher)) (xs : List X) (i : ℕ)
       (x : X) (now next whole : S) → i < length xs → x ≡ get_or xs i x
       → next ≡ fold after now (f (i, x))
       → fold after now (flat_map f (enumerate_from i (drop i xs))) ≡ whole

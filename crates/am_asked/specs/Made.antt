@@ -5,7 +5,7 @@ use Rattle.am_universe.specs.declared.kind.Kind.TheVariants as kinds
 use Rattle.am_universe.specs.declared.place.Place.{Place}
 use Rattle.am_universe.specs.declared.place.Place.TheVariants as places
 use Rattle.am_universe.specs.Universe.{Label, IsUniverse}
-use Rattle.am_labels.specs.Matcher.{Condition}
+use Rattle.am_labels.specs.Matcher.{Matcher}
 use Rattle.am_labels.specs.Space.{Space}
 use Rattle.am_json.specs.Pointer.{Refusal, refusal_here}
 use Rattle.am_classes.specs.declared.alphabet.Alphabet.{Alphabet}
@@ -25,7 +25,7 @@ undeclared s = record { labels = []; impossible = s.impossible }
 -- are its own.
 -- Source: own choice.
 -- Example: from a space without labels, for `team="db"`, it has `team` with absence and `db`.
-pub record IsMadeBeside (a : Alphabet) (may_lack : Bool) (s : Space) (ms : List Condition)
+pub record IsMadeBeside (a : Alphabet) (may_lack : Bool) (s : Space) (ms : List Matcher)
     (u : List Label) : Type 0 where
   pub universe : IsUniverse u
   pub complete : may_lack ≡ false

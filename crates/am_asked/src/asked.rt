@@ -3,9 +3,9 @@
 ghost use Rattle.std.specs.Prelude.{◌≡◌, ◌++◌, fold, map, IfOk, OnOk};
 ghost use Rattle.am_config.specs.ConfigView.{config_view};
 ghost use Rattle.am_eval.specs.QuestionView.{question_view};
-ghost use Rattle.am_asked.specs.Asked.{route_conditions, world_conditions, question_conditions};
-ghost use Rattle.am_asked.specs.Asked.{questions_conditions};
-ghost use Rattle.am_complete.specs.Complete.{impossible_conditions};
+ghost use Rattle.am_asked.specs.Asked.{route_matchers, world_matchers, question_matchers};
+ghost use Rattle.am_asked.specs.Asked.{questions_matchers};
+ghost use Rattle.am_complete.specs.Complete.{impossible_matchers};
 ghost use Rattle.am_complete.specs.AskedLabel.{IsAskedOf, asked_labels, with_asked};
 ghost use Rattle.am_asked.specs.Placed.{placed_at, placed_in_routes, placed_in_equal};
 ghost use Rattle.am_asked.specs.Placed.{placed_in_silences, placed_in_lists, placed_in_world};
@@ -30,9 +30,9 @@ pub fn asked_by_routes<'m>(
     impossible: &'m [Matchers],
 ) -> Result<Vec<AskedLabel<'m>>, AllocError>
     ensures asked { IfOk result (λ labels. IsAskedOf labels.items
-        (route_conditions (config_view config.now).root
-        ++ (questions_conditions (map question_view questions.now)
-        ++ impossible_conditions impossible.now))) }
+        (route_matchers (config_view config.now).root
+        ++ (questions_matchers (map question_view questions.now)
+        ++ impossible_matchers impossible.now))) }
     ensures labels { IfOk result (λ labels. labels.items
         ≡ asked_labels (placed_in_routes (config_view config.now)
         ++ (placed_in_questions (map question_view questions.now)
@@ -56,9 +56,9 @@ pub fn asked_by_both<'m>(
     impossible: &'m [Matchers],
 ) -> Result<Vec<AskedLabel<'m>>, AllocError>
     ensures asked { IfOk result (λ labels. IsAskedOf labels.items
-        (route_conditions (config_view old.now).root
-        ++ (route_conditions (config_view new.now).root
-        ++ impossible_conditions impossible.now))) }
+        (route_matchers (config_view old.now).root
+        ++ (route_matchers (config_view new.now).root
+        ++ impossible_matchers impossible.now))) }
     ensures labels { IfOk result (λ labels. labels.items
         ≡ asked_labels (placed_in_routes (config_view old.now)
         ++ (placed_in_routes (config_view new.now)
@@ -86,8 +86,8 @@ pub fn asked_in_world<'m>(
 ) -> Result<Vec<AskedLabel<'m>>, AllocError>
     requires { equal.now ≡ placed_in_equal world.now }
     ensures asked { IfOk result (λ labels. IsAskedOf labels.items
-        (world_conditions world.now ++ (questions_conditions (map question_view questions.now)
-        ++ impossible_conditions impossible.now))) }
+        (world_matchers world.now ++ (questions_matchers (map question_view questions.now)
+        ++ impossible_matchers impossible.now))) }
     ensures labels { IfOk result (λ labels. labels.items
         ≡ asked_labels (placed_in_world world.now
         ++ (placed_in_questions (map question_view questions.now)
@@ -113,8 +113,8 @@ pub fn asked_by_lists<'m>(
     impossible: &'m [Matchers],
 ) -> Result<Vec<AskedLabel<'m>>, AllocError>
     ensures asked { IfOk result (λ labels. IsAskedOf labels.items
-        (impossible_conditions (map (λ list. list.now) lists.now)
-        ++ impossible_conditions impossible.now)) }
+        (impossible_matchers (map (λ list. list.now) lists.now)
+        ++ impossible_matchers impossible.now)) }
     ensures labels { IfOk result (λ labels. labels.items
         ≡ asked_labels (placed_in_lists (map (λ list. list.now) lists.now)
         ++ placed_in_lists impossible.now)) }
@@ -182,7 +182,7 @@ fn add_question<'m>(
     question: &'m Question,
 ) -> Result<(), AllocError>
     ensures { OnOk result (gathering.new ≡ fold with_asked gathering.old
-        (placed_at origin.now (question_conditions (question_view question.now)))) }
+        (placed_at origin.now (question_matchers (question_view question.now)))) }
 {
     match question {
         Question::Is(_) | Question::Receiver(_) | Question::Route(_, _) => Ok(()),

@@ -22,11 +22,11 @@ pub struct EqualMatcher {
 }
 
 impl Model for EqualMatcher {
-    ghost use Rattle.am_labels.specs.Matcher.{Condition};
+    ghost use Rattle.am_labels.specs.Matcher.{Matcher};
     ghost use Rattle.am_complete.specs.declared.origin.Origin.{Origin};
     ghost use Rattle.am_complete.specs.declared.origin.Origin.TheVariants as origin_is;
 
-    ghost Value = { Origin × Condition };
+    ghost Value = { Origin × Matcher };
 
     ghost view = { λ m. (origin_is.Rule m.rule, m.matcher) };
 }

@@ -4,10 +4,10 @@ ghost use Rattle.std.specs.Prelude.{◌≡◌, ◌≢◌, ◌<◌, ℕ, List, []
 ghost use Rattle.std.specs.Prelude.{false, length, slice_get};
 ghost use Rattle.std.specs.List.{AllByRecursion};
 ghost use Rattle.am_universe.specs.declared.kind.Kind.TheVariants as kinds;
-ghost use Rattle.am_labels.specs.Matcher.{Condition};
+ghost use Rattle.am_labels.specs.Matcher.{Matcher};
 ghost use Rattle.am_json.specs.Reading.{refusal_of};
 ghost use Rattle.am_complete.specs.AskedLabel.{IsAskedOf};
-ghost use Rattle.am_complete.specs.Complete.{AreAmong, impossible_conditions};
+ghost use Rattle.am_complete.specs.Complete.{AreAmong, impossible_matchers};
 ghost use Rattle.am_asked.specs.Made.{IsMadeBeside, IsFirstUnproved, NoRoomFor};
 ghost use Rattle.am_asked.specs.OriginPointer.{origin_place, origin_pointer};
 
@@ -32,9 +32,9 @@ pub fn universe_for<'a, 'm>(
     asked: &'a [AskedLabel<'m>],
     alerts: Option<&Alerts>,
 ) -> Result<Result<Universe, &'a AskedLabel<'m>>, Fault>
-    requires { (ms : List Condition) × IsAskedOf asked.now ms
-        × AreAmong (impossible_conditions space.now.impossible) ms }
-    ensures made { IfOk result (λ found. IfOk found (λ universe. (ms : List Condition)
+    requires { (ms : List Matcher) × IsAskedOf asked.now ms
+        × AreAmong (impossible_matchers space.now.impossible) ms }
+    ensures made { IfOk result (λ found. IfOk found (λ universe. (ms : List Matcher)
         → IsAskedOf asked.now ms → IsMadeBeside alphabet may_lack space.now ms universe)) }
     ensures unproved { IfOk result (λ found. IfErr found (λ label. (may_lack ≡ false)
         × IsFirstUnproved alphabet space.now asked.now label.now)) }

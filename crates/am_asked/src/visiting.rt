@@ -1,7 +1,7 @@
 //! Visiting matchers, each with its origin.
 
 ghost use Rattle.std.specs.Prelude.{◌≡◌, fold, OnOk};
-ghost use Rattle.am_labels.specs.Matcher.{Condition};
+ghost use Rattle.am_labels.specs.Matcher.{Matcher};
 ghost use Rattle.am_config.specs.ConfigView.{config_view};
 ghost use Rattle.am_complete.specs.declared.origin.Origin.{Origin};
 ghost use Rattle.am_complete.specs.AskedLabel.{with_asked};
@@ -16,7 +16,7 @@ use std::alloc::{AllocError, Global};
 /// Takes matchers one after another.
 pub trait Visitor<'m> {
     /// The visitor after a matcher with this origin.
-    ghost after: { Self → Origin × Condition → Self };
+    ghost after: { Self → Origin × Matcher → Self };
 
     /// Takes a matcher with this origin. Fails only if memory runs out.
     fn visit(&mut self, origin: &Origin, matcher: &'m Matcher) -> Result<(), AllocError>

@@ -12,7 +12,7 @@ use Rattle.am_universe.proofs.ListLemmas.{IsIn}
 use Rattle.am_universe.proofs.Members.{at_in, in_at}
 use Rattle.am_labels.specs.declared.op.Comparison.{Comparison}
 use Rattle.am_labels.specs.declared.op.Comparison.TheVariants.{Text, Pattern}
-use Rattle.am_labels.specs.Matcher.{Condition, comparison}
+use Rattle.am_labels.specs.Matcher.{Matcher, comparison}
 use Rattle.am_labels.proofs.Passing.{any_in, in_any}
 use Rattle.am_classes.specs.Alike.{HasPattern}
 use Rattle.am_classes.specs.declared.alphabet.Alphabet.{Alphabet}
@@ -20,16 +20,16 @@ use Rattle.am_classes.specs.Values.{AreValues, counts}
 use Rattle.am_scan.proofs.Places.{get_pushed, get_kept, get_last, contains_from_get}
 
 -- A value that comes from a matcher still does with one more matcher.
-from_kept : (a : Alphabet) (ms : List Condition) (m : Condition) (t : Comparison) (vs : List (List ℕ))
+from_kept : (a : Alphabet) (ms : List Matcher) (m : Matcher) (t : Comparison) (vs : List (List ℕ))
     → AreValues a ms t vs
     → (j : ℕ) (value : List ℕ) → slice_get vs j ≡ Some value
-    → (k : ℕ) × (n : Condition) × (slice_get (ms ++ m ∷ []) k ≡ Some n) × (comparison n.op ≡ t)
+    → (k : ℕ) × (n : Matcher) × (slice_get (ms ++ m ∷ []) k ≡ Some n) × (comparison n.op ≡ t)
     × (n.value ≡ value)
 from_kept a ms m t vs h j value e =
     let f = h.from j value e in (f.0, f.1, get_kept ms (m ∷ []) f.1 f.0 f.2, f.3, f.4)
 
 -- A matcher with another comparison, or whose value does not count, adds no value.
-pub values_skip : (a : Alphabet) (ms : List Condition) (m : Condition) (t : Comparison)
+pub values_skip : (a : Alphabet) (ms : List Matcher) (m : Matcher) (t : Comparison)
     (vs : List (List ℕ)) → AreValues a ms t vs
     → (comparison m.op ≡ t → IsTrue (counts a t m.value) → ⊥) → AreValues a (ms ++ m ∷ []) t vs
 values_skip a ms m t vs h other = record {
@@ -44,7 +44,7 @@ values_skip a ms m t vs h other = record {
 }
 
 -- A matcher whose value is there already adds no value.
-pub values_same : (a : Alphabet) (ms : List Condition) (m : Condition) (t : Comparison)
+pub values_same : (a : Alphabet) (ms : List Matcher) (m : Matcher) (t : Comparison)
     (vs : List (List ℕ)) → AreValues a ms t vs → (j : ℕ) → slice_get vs j ≡ Some m.value
     → AreValues a (ms ++ m ∷ []) t vs
 values_same a ms m t vs h j there = record {
@@ -58,7 +58,7 @@ values_same a ms m t vs h j there = record {
 }
 
 -- A new value is added.
-pub values_push : (a : Alphabet) (ms : List Condition) (m : Condition) (t : Comparison)
+pub values_push : (a : Alphabet) (ms : List Matcher) (m : Matcher) (t : Comparison)
     (vs : List (List ℕ)) → AreValues a ms t vs → comparison m.op ≡ t
     → IsTrue (counts a t m.value) → ((j : ℕ) → slice_get vs j ≡ Some m.value → ⊥)
     → AreValues a (ms ++ m ∷ []) t (vs ++ m.value ∷ [])
@@ -123,7 +123,7 @@ one_of_all (x ∷ xs) text (suc k) e = grind (arith, common_steps, one_of_all xs
 pub ruleset no_longer = (length_of_all, one_of_all, length-append)
 
 -- If some values are not compared as texts, one of the matchers takes a pattern.
-pub has_pattern : (a : Alphabet) (ms : List Condition) (so : Comparison) (values : List (List ℕ))
+pub has_pattern : (a : Alphabet) (ms : List Matcher) (so : Comparison) (values : List (List ℕ))
     → AreValues a ms so values → (so ≡ Text → ⊥) → 0 < length values → HasPattern ms
 has_pattern a ms so [] h other some = absurd (omega (arith, some))
 has_pattern a ms so (value ∷ values) h other some =
@@ -135,7 +135,7 @@ pub known : (so : Comparison) → (so ≡ Text) ⊎ (so ≡ Pattern)
 known Text = inl refl
 known Pattern = inr refl
 
-pub all_known : (ms : List Condition)
+pub all_known : (ms : List Matcher)
     → AllByRecursion (λ m. (comparison m.op ≡ Text) ⊎ (comparison m.op ≡ Pattern)) ms
 all_known [] = tt
 all_known (m ∷ ms) = (known (comparison m.op), all_known ms)

@@ -8,7 +8,7 @@ use Rattle.std.proofs.lemmas.List.{length-map}
 use Rattle.std.proofs.lemmas.Option.{same_Some}
 use Rattle.std.proofs.lemmas.Grind.{common_steps}
 use Rattle.am_universe.specs.Text.{same_text}
-use Rattle.am_labels.specs.Matcher.{Condition, holds}
+use Rattle.am_labels.specs.Matcher.{Matcher, holds}
 use Rattle.am_labels.specs.Pattern.{finds}
 use Rattle.am_labels.proofs.OperatorLemmas.{holds_same, asks_same, asks_text, asks_pattern}
 use Rattle.am_scan.specs.Automaton.{pattern_of}
@@ -38,7 +38,7 @@ foreign_differs : (a : Alphabet) (value x : List ℕ) → is_over a value ≡ fa
 foreign_differs a value x foreign over = grind (arith, common_steps, false_from_ne_true, bytes_eq-Decides, is_over_from)
 
 -- Texts with the same answers are alike.
-alike_from : (ms : List Condition) (q : Questions) → AreAsked ms q → (x y : List ℕ)
+alike_from : (ms : List Matcher) (q : Questions) → AreAsked ms q → (x y : List ℕ)
     → IsOver q.alphabet x → IsOver q.alphabet y → SameAnswers q x y → AreAlike ms x y
 alike_from ms q asked x y x_over y_over same =
     all_from_places (λ m. holds m.op m.value x ≡ holds m.op m.value y) ms
@@ -60,7 +60,7 @@ alike_from ms q asked x y x_over y_over same =
     ]))
 
 -- Alike texts have the same answers.
-answers_from : (ms : List Condition) (q : Questions) → AreAsked ms q → (x y : List ℕ)
+answers_from : (ms : List Matcher) (q : Questions) → AreAsked ms q → (x y : List ℕ)
     → AreAlike ms x y → SameAnswers q x y
 answers_from ms q asked x y alike = record {
   texts = λ k named at.
@@ -113,7 +113,7 @@ unnamed_differs q x unnamed k named at = grind (arith, common_steps, false_from_
 abbrev pub class_texts : Questions → List Candidate → List (List ℕ)
 class_texts q cs = named_texts q ++ map (λ c. string_bytes c.text) cs
 
-pub classes_cover : (ms : List Condition) (q : Questions) (cs : List Candidate) → AreAsked ms q
+pub classes_cover : (ms : List Matcher) (q : Questions) (cs : List Candidate) → AreAsked ms q
     → AreCandidates q cs → Covers q.alphabet ms (class_texts q cs)
 classes_cover ms q cs asked candidates = λ text over.
     elim (among_cases (named_texts q) text) [
@@ -145,7 +145,7 @@ named_is_alone q x y k at same =
 same_answers_sym : (q : Questions) (x y : List ℕ) → SameAnswers q x y → SameAnswers q y x
 same_answers_sym q x y same = grind (arith, common_steps)
 
-pub classes_apart : (ms : List Condition) (q : Questions) (cs : List Candidate) → AreAsked ms q
+pub classes_apart : (ms : List Matcher) (q : Questions) (cs : List Candidate) → AreAsked ms q
     → AreApartCandidates q cs → AreApart ms (class_texts q cs)
 classes_apart ms q cs asked distinct = λ i j x y at also alike.
     let same = answers_from ms q asked x y alike in
@@ -177,7 +177,7 @@ classes_apart ms q cs asked distinct = λ i j x y at also alike.
     ]
 
 -- The texts of the classes are over the alphabet.
-pub classes_over : (ms : List Condition) (q : Questions) (cs : List Candidate) → AreAsked ms q
+pub classes_over : (ms : List Matcher) (q : Questions) (cs : List Candidate) → AreAsked ms q
     → AreApartCandidates q cs → AreOver q.alphabet (class_texts q cs)
 classes_over ms q cs asked distinct =
     all_from_places (IsOver q.alphabet) (class_texts q cs)

@@ -3,7 +3,7 @@
 use Rattle.std.specs.Prelude.{◌≡◌, ◌≢◌, ℕ, List, Some, slice_get, Contains}
 use Rattle.std.specs.List.{AllByRecursion}
 use Rattle.am_labels.specs.declared.op.Comparison.TheVariants.{Text}
-use Rattle.am_labels.specs.Matcher.{Condition, holds, comparison}
+use Rattle.am_labels.specs.Matcher.{Matcher, holds, comparison}
 use Rattle.am_classes.specs.declared.alphabet.Alphabet.{Alphabet}
 use Rattle.am_classes.specs.Alphabet.{IsOver}
 
@@ -12,13 +12,13 @@ use Rattle.am_classes.specs.Alphabet.{IsOver}
 -- test tells them apart.
 -- Example: to `team=~"db.*"` and `team!="web"` the texts `db` and `db2` are alike, and `db` and
 -- `web` are not.
-abbrev pub AreAlike : List Condition → List ℕ → List ℕ → Type 0
+abbrev pub AreAlike : List Matcher → List ℕ → List ℕ → Type 0
 AreAlike ms x y = AllByRecursion (λ m. holds m.op m.value x ≡ holds m.op m.value y) ms
 
 -- One of some texts is alike to a text.
 -- Source: own choice.
 -- Example: to `team="db"` alone, `web` is alike to `ops`, so one of `db` and `web` is.
-abbrev pub HasAlikeIn : List Condition → List (List ℕ) → List ℕ → Type 0
+abbrev pub HasAlikeIn : List Matcher → List (List ℕ) → List ℕ → Type 0
 HasAlikeIn ms texts text = (x : List ℕ) × Contains texts x × AreAlike ms x text
 
 -- Some texts cover all texts over an alphabet: whatever text is over it, one of them is alike to
@@ -27,13 +27,13 @@ HasAlikeIn ms texts text = (x : List ℕ) × Contains texts x × AreAlike ms x t
 -- Example: to `team="db"` alone, `db` and the empty text cover all. To `team=~".*"` alone, the
 -- empty text covers all that are over ASCII. Over Unicode it does not, because `.` does not match a
 -- line feed.
-abbrev pub Covers : Alphabet → List Condition → List (List ℕ) → Type 0
+abbrev pub Covers : Alphabet → List Matcher → List (List ℕ) → Type 0
 Covers a ms texts = (text : List ℕ) → IsOver a text → HasAlikeIn ms texts text
 
 -- No two of some texts are alike.
 -- Source: own choice.
 -- Example: to `team="db"` alone, `db` and `web` are apart; `db`, `web` and `ops` are not.
-abbrev pub AreApart : List Condition → List (List ℕ) → Type 0
+abbrev pub AreApart : List Matcher → List (List ℕ) → Type 0
 AreApart ms texts =
     (i j : ℕ) (x y : List ℕ) → slice_get texts i ≡ Some x → slice_get texts j ≡ Some y
     → AreAlike ms x y → i ≡ j
@@ -42,5 +42,5 @@ AreApart ms texts =
 -- the classes of texts can always be computed.
 -- Source: Alertmanager configuration reference 0.25, "<matcher>": `=~` and `!~` take patterns.
 -- Example: one of `team="db"` and `team=~"w.*"` takes a pattern. `team="db"` alone does not.
-abbrev pub HasPattern : List Condition → Type 0
-HasPattern ms = (m : Condition) × Contains ms m × (comparison m.op ≢ Text)
+abbrev pub HasPattern : List Matcher → Type 0
+HasPattern ms = (m : Matcher) × Contains ms m × (comparison m.op ≢ Text)

@@ -2,7 +2,7 @@
 use Rattle.std.specs.Prelude.{◌≡◌, ◌⊎◌, List}
 use Rattle.std.specs.List.{AllByRecursion}
 use Rattle.am_labels.specs.declared.op.Comparison.TheVariants.{Text, Pattern}
-use Rattle.am_labels.specs.Matcher.{Condition, comparison}
+use Rattle.am_labels.specs.Matcher.{Matcher, comparison}
 use Rattle.am_classes.specs.declared.questions.Questions.{Questions}
 use Rattle.am_classes.specs.State.{named_texts, patterns_of}
 use Rattle.am_classes.specs.Values.{AreValues}
@@ -10,7 +10,7 @@ use Rattle.am_classes.specs.Values.{AreValues}
 -- These are the questions of matchers, each of which compares with a text or with a pattern.
 -- Source: own choice.
 -- Example: `team="db"` and `team=~"w.*"` ask whether a text is `db`, and whether `w.*` finds it.
-pub record AreAsked (ms : List Condition) (q : Questions) : Type 0 where
+pub record AreAsked (ms : List Matcher) (q : Questions) : Type 0 where
   pub texts : AreValues q.alphabet ms Text (named_texts q)
   pub patterns : AreValues q.alphabet ms Pattern (patterns_of q)
   pub only : AllByRecursion (λ m. (comparison m.op ≡ Text) ⊎ (comparison m.op ≡ Pattern)) ms

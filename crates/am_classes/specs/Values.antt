@@ -2,7 +2,7 @@
 use Rattle.std.specs.Prelude.{◌≡◌, ℕ, List, Bool, true, Some, slice_get, IsTrue}
 use Rattle.am_labels.specs.declared.op.Comparison.{Comparison}
 use Rattle.am_labels.specs.declared.op.Comparison.TheVariants.{Text}
-use Rattle.am_labels.specs.Matcher.{Condition, comparison}
+use Rattle.am_labels.specs.Matcher.{Matcher, comparison}
 use Rattle.am_classes.specs.declared.alphabet.Alphabet.{Alphabet}
 use Rattle.am_classes.specs.Alphabet.{is_over}
 
@@ -17,14 +17,14 @@ counts a other value = true
 -- Source: own choice.
 -- Example: for `team="db"`, `team!="db"` and `team=~"w.*"` they are `db` alone, or `w.*` alone.
 -- Over ASCII, `team="é"` has none.
-pub record AreValues (a : Alphabet) (ms : List Condition) (so : Comparison)
+pub record AreValues (a : Alphabet) (ms : List Matcher) (so : Comparison)
     (values : List (List ℕ)) : Type 0 where
-  pub each : (k : ℕ) (m : Condition) → slice_get ms k ≡ Some m → comparison m.op ≡ so
+  pub each : (k : ℕ) (m : Matcher) → slice_get ms k ≡ Some m → comparison m.op ≡ so
       → IsTrue (counts a so m.value) → (j : ℕ) × (slice_get values j ≡ Some m.value)
   pub counted : (j : ℕ) (value : List ℕ) → slice_get values j ≡ Some value
       → IsTrue (counts a so value)
   pub from : (j : ℕ) (value : List ℕ) → slice_get values j ≡ Some value
-      → (k : ℕ) × (m : Condition) × (slice_get ms k ≡ Some m) × (comparison m.op ≡ so)
+      → (k : ℕ) × (m : Matcher) × (slice_get ms k ≡ Some m) × (comparison m.op ≡ so)
       × (m.value ≡ value)
   pub once : (i j : ℕ) (value : List ℕ) → slice_get values i ≡ Some value
       → slice_get values j ≡ Some value → i ≡ j

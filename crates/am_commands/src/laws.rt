@@ -47,7 +47,7 @@ ghost use Rattle.am_complete.specs.Covering.{HasTextsOver};
 ghost use Rattle.am_coverage.specs.declared.coverage.RouteCoverage.TheVariants as route_is;
 ghost use Rattle.am_coverage.specs.Coverage.{route_coverage, first_receipt};
 ghost use Rattle.am_every_alert.specs.EveryAlert.{IsAlertOf};
-ghost use Rattle.am_every_alert.specs.Deciding.{coverage_conditions};
+ghost use Rattle.am_every_alert.specs.Deciding.{coverage_matchers};
 
 /// The answers from the first choice on are all answers to the question.
 pub fn answers_from_the_first_choice_on_are_all()
@@ -207,13 +207,13 @@ pub fn an_explanation_is_one_text()
 /// alert, for the matchers of the routes and the impossible lists.
 pub fn a_dead_route_of_a_complete_universe_has_no_alert()
     ensures dead { (a : Alphabet) (s : Space) (c : Configuration) (path : List ℕ)
-        → IsUniverse s.labels → IsSpaceComplete a s (coverage_conditions s c)
+        → IsUniverse s.labels → IsSpaceComplete a s (coverage_matchers s c)
         → IsDead (IsSetOf s) c path → IsDead (IsAlertOf a s) c path }
     ensures never_entered { (a : Alphabet) (s : Space) (c : Configuration) (path : List ℕ)
-        → IsUniverse s.labels → IsSpaceComplete a s (coverage_conditions s c)
+        → IsUniverse s.labels → IsSpaceComplete a s (coverage_matchers s c)
         → IsNeverEntered (IsSetOf s) c path → IsNeverEntered (IsAlertOf a s) c path }
     ensures unmatched { (a : Alphabet) (s : Space) (c : Configuration) (receiver : ℕ)
-        → IsUniverse s.labels → IsSpaceComplete a s (coverage_conditions s c)
+        → IsUniverse s.labels → IsSpaceComplete a s (coverage_matchers s c)
         → IsUnmatched (IsSetOf s) c receiver → IsUnmatched (IsAlertOf a s) c receiver }
 {}
 
@@ -241,24 +241,24 @@ pub fn a_route_is_live_in_any_universe()
 /// over ASCII, a route is dead exactly if no possible alert with such values ends there.
 pub fn over_a_complete_universe_dead_is_exact()
     ensures dead { (universe_file path : List ℕ) (s : Space) (c : Configuration)
-        → FileSaysUniverse universe_file s → IsSpaceComplete Unicode s (coverage_conditions s c)
+        → FileSaysUniverse universe_file s → IsSpaceComplete Unicode s (coverage_matchers s c)
         → IsDead (IsSetOf s) c path ↔ IsDead (IsAlertOf Unicode s) c path }
     ensures never_entered { (universe_file path : List ℕ) (s : Space) (c : Configuration)
-        → FileSaysUniverse universe_file s → IsSpaceComplete Unicode s (coverage_conditions s c)
+        → FileSaysUniverse universe_file s → IsSpaceComplete Unicode s (coverage_matchers s c)
         → IsNeverEntered (IsSetOf s) c path ↔ IsNeverEntered (IsAlertOf Unicode s) c path }
     ensures unmatched { (universe_file : List ℕ) (s : Space) (c : Configuration) (receiver : ℕ)
-        → FileSaysUniverse universe_file s → IsSpaceComplete Unicode s (coverage_conditions s c)
+        → FileSaysUniverse universe_file s → IsSpaceComplete Unicode s (coverage_matchers s c)
         → IsUnmatched (IsSetOf s) c receiver ↔ IsUnmatched (IsAlertOf Unicode s) c receiver }
     ensures dead_over { (a : Alphabet) (s : Space) (c : Configuration) (path : List ℕ)
         → IsUniverse s.labels → HasTextsOver a s.labels
-        → IsSpaceComplete a s (coverage_conditions s c)
+        → IsSpaceComplete a s (coverage_matchers s c)
         → IsDead (IsSetOf s) c path ↔ IsDead (IsAlertOf a s) c path }
     ensures never_entered_over { (a : Alphabet) (s : Space) (c : Configuration) (path : List ℕ)
         → IsUniverse s.labels → HasTextsOver a s.labels
-        → IsSpaceComplete a s (coverage_conditions s c)
+        → IsSpaceComplete a s (coverage_matchers s c)
         → IsNeverEntered (IsSetOf s) c path ↔ IsNeverEntered (IsAlertOf a s) c path }
     ensures unmatched_over { (a : Alphabet) (s : Space) (c : Configuration) (receiver : ℕ)
         → IsUniverse s.labels → HasTextsOver a s.labels
-        → IsSpaceComplete a s (coverage_conditions s c)
+        → IsSpaceComplete a s (coverage_matchers s c)
         → IsUnmatched (IsSetOf s) c receiver ↔ IsUnmatched (IsAlertOf a s) c receiver }
 {}

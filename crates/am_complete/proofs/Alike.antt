@@ -4,20 +4,20 @@ use Rattle.std.specs.Cmp.Lexicographic.{bytes_decides}
 use Rattle.std.proofs.lemmas.Grind.{common_steps}
 use Rattle.am_universe.proofs.ListLemmas.{IsIn, IsIn-from_Contains}
 use Rattle.am_universe.specs.Text.{same_text}
-use Rattle.am_labels.specs.Matcher.{Condition}
+use Rattle.am_labels.specs.Matcher.{Matcher}
 use Rattle.am_labels.proofs.Passing.{passes_from_kept, kept_from_passes}
 use Rattle.am_classes.specs.Alike.{AreAlike}
 use Rattle.am_complete.specs.Complete.{about, AreAmong}
 
-pub alike_itself : (ms : List Condition) (x : List ℕ) → AreAlike ms x x
+pub alike_itself : (ms : List Matcher) (x : List ℕ) → AreAlike ms x x
 alike_itself [] x = tt
 alike_itself (m ∷ ms) x = (refl, alike_itself ms x)
 
-pub alike_turned : (ms : List Condition) (x y : List ℕ) → AreAlike ms x y → AreAlike ms y x
+pub alike_turned : (ms : List Matcher) (x y : List ℕ) → AreAlike ms x y → AreAlike ms y x
 alike_turned [] x y h = tt
 alike_turned (m ∷ ms) x y h = (sym h.0, alike_turned ms x y h.1)
 
-pub alike_joined : (ms : List Condition) (x y z : List ℕ) → AreAlike ms x y → AreAlike ms y z
+pub alike_joined : (ms : List Matcher) (x y z : List ℕ) → AreAlike ms x y → AreAlike ms y z
     → AreAlike ms x z
 alike_joined [] x y z g h = tt
 alike_joined (m ∷ ms) x y z g h = (g.0 ∙ h.0, alike_joined ms x y z g.1 h.1)
@@ -27,18 +27,18 @@ pub only : {X : Type 0} (y x : X) → Contains (y ∷ []) x → y ≡ x
 only y x there = grind (arith, common_steps)
 
 -- a matcher on a label is one of the matchers, and has the label's name
-pub is_about : (name : List ℕ) (ms : List Condition) (m : Condition) → IsIn ms m
+pub is_about : (name : List ℕ) (ms : List Matcher) (m : Matcher) → IsIn ms m
     → m.name ≡ name → IsIn (about name ms) m
 is_about name ms m i e =
     kept_from_passes (λ n. same_text n.name name) ms m i ((bytes_decides m.name name).1 e)
 
-pub about_is : (name : List ℕ) (ms : List Condition) (m : Condition) → IsIn (about name ms) m
+pub about_is : (name : List ℕ) (ms : List Matcher) (m : Matcher) → IsIn (about name ms) m
     → IsIn ms m × (m.name ≡ name)
 about_is name ms m i =
     let r = passes_from_kept (λ n. same_text n.name name) ms m i in
     (r.0, (bytes_decides m.name name).0 r.1)
 
-pub is_among : (ns ms : List Condition) (m : Condition) → AreAmong ns ms → IsIn ns m → IsIn ms m
+pub is_among : (ns ms : List Matcher) (m : Matcher) → AreAmong ns ms → IsIn ns m → IsIn ms m
 is_among [] ms m h i = absurd i
 is_among (n ∷ ns) ms m h (inl e) = rw (← e) (IsIn-from_Contains ms n h.0)
 is_among (n ∷ ns) ms m h (inr i) = is_among ns ms m h.1 i

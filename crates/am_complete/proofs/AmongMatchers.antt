@@ -3,19 +3,19 @@ use Rattle.std.proofs.Common.{List, ◌++◌, Contains, arith}
 use Rattle.std.proofs.lemmas.Grind.{common_steps}
 use Rattle.am_universe.proofs.ListLemmas.{IsIn, Contains-from_IsIn, IsIn-left, IsIn-right}
 use Rattle.am_universe.proofs.ListLemmas.{AllByRecursion-each}
-use Rattle.am_labels.specs.Matcher.{Condition}
+use Rattle.am_labels.specs.Matcher.{Matcher}
 use Rattle.am_complete.specs.Complete.{AreAmong}
 use Rattle.am_complete.proofs.Alike.{is_among}
 
-pub among_by : (ns ms : List Condition) → ((m : Condition) → IsIn ns m → IsIn ms m) → AreAmong ns ms
+pub among_by : (ns ms : List Matcher) → ((m : Matcher) → IsIn ns m → IsIn ms m) → AreAmong ns ms
 among_by ns ms each =
     AllByRecursion-each (Contains ms) ns (λ m i. Contains-from_IsIn ms m (each m i))
 
-pub first_among : (ms ns : List Condition) → AreAmong ms (ms ++ ns)
+pub first_among : (ms ns : List Matcher) → AreAmong ms (ms ++ ns)
 first_among ms ns = among_by ms (ms ++ ns) (λ m i. IsIn-left ms ns m i)
 
-pub last_among : (ms ns : List Condition) → AreAmong ns (ms ++ ns)
+pub last_among : (ms ns : List Matcher) → AreAmong ns (ms ++ ns)
 last_among ms ns = among_by ns (ms ++ ns) (λ m i. IsIn-right ms ns m i)
 
-pub among_through : (ks ns ms : List Condition) → AreAmong ks ns → AreAmong ns ms → AreAmong ks ms
+pub among_through : (ks ns ms : List Matcher) → AreAmong ks ns → AreAmong ns ms → AreAmong ks ms
 among_through ks ns ms h k = grind (arith, common_steps, among_by, is_among)

@@ -11,7 +11,7 @@ use Rattle.std.proofs.lemmas.Option.{slice_get-get_or}
 use Rattle.std.proofs.lemmas.Grind.{common_steps}
 use Rattle.am_universe.specs.Text.{same_text}
 use Rattle.am_universe.proofs.ListLemmas.{IsIn, IsIn-from_Contains, AllByRecursion-at}
-use Rattle.am_labels.specs.Matcher.{Condition}
+use Rattle.am_labels.specs.Matcher.{Matcher}
 use Rattle.am_labels.proofs.Passing.{any_in, in_any}
 use Rattle.am_universe.proofs.Members.{in_at}
 use Rattle.am_classes.specs.Alike.{AreAlike, AreApart, HasAlikeIn}
@@ -27,12 +27,12 @@ pub one_distinct : (x : List ℕ) → IsDistinct same_text (x ∷ [])
 unfolding IsDistinct
 one_distinct x = (tt, tt)
 
-pub one_apart : (ms : List Condition) (t : List ℕ) → AreApart ms (t ∷ [])
+pub one_apart : (ms : List Matcher) (t : List ℕ) → AreApart ms (t ∷ [])
 one_apart ms t zero zero x y at_x at_y alike = refl
 one_apart ms t zero (suc j) x y at_x at_y alike = absurd (cc)
 one_apart ms t (suc i) j x y at_x at_y alike = absurd (cc)
 
-pub distinct_where_apart : (ms : List Condition) (xs : List (List ℕ)) → AreApart ms xs
+pub distinct_where_apart : (ms : List Matcher) (xs : List (List ℕ)) → AreApart ms xs
     → IsDistinct same_text xs
 distinct_where_apart ms xs apart =
     IsDistinct-from_apart same_text xs (λ i j d before inside.
@@ -50,25 +50,25 @@ distinct_where_apart ms xs apart =
 
 -- ---- One text more.
 
-pub apart_pushed : (ms : List Condition) (xs : List (List ℕ)) (x : List ℕ) → AreApart ms xs
+pub apart_pushed : (ms : List Matcher) (xs : List (List ℕ)) (x : List ℕ) → AreApart ms xs
     → ((y : List ℕ) → IsIn xs y → AreAlike ms y x → ⊥) → AreApart ms (xs ++ x ∷ [])
 apart_pushed ms xs x apart none i j y z at_y at_z same =
     grind (arith, common_steps, got_either, in_at, alike_turned)
 
 -- ---- How many there are.
 
-alike_through : (ms : List Condition) (x y z : List ℕ) → alike ms x y ≡ true
+alike_through : (ms : List Matcher) (x y z : List ℕ) → alike ms x y ≡ true
     → alike ms x z ≡ alike ms y z
 alike_through ms x y z e =
     grind (arith, common_steps, is_alike, same_where_both, alike_is, alike_joined, alike_turned)
 
-alike_equivalence : (ms : List Condition) → IsEquivalence (alike ms)
+alike_equivalence : (ms : List Matcher) → IsEquivalence (alike ms)
 alike_equivalence ms =
     grind (arith, common_steps, alike_is, alike_itself, turned, alike_through)
 
 -- if no two of some texts are alike, and each is alike to one of others, they are no more than the
 -- others
-pub apart_are_no_more : (ms : List Condition) (xs ys : List (List ℕ)) → AreApart ms xs
+pub apart_are_no_more : (ms : List Matcher) (xs ys : List (List ℕ)) → AreApart ms xs
     → AllByRecursion (HasAlikeIn ms ys) xs → length xs ≤ length ys
 apart_are_no_more ms xs ys apart each =
     length-le_from_is_member (alike_equivalence ms) xs ys (distinct_from_apart ms xs apart)

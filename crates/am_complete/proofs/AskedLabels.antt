@@ -9,8 +9,8 @@ use Rattle.am_universe.specs.Text.{same_text}
 use Rattle.am_universe.specs.Universe.{is_label_name}
 use Rattle.am_universe.proofs.ListLemmas.{IsIn, AllByRecursion-each, AllByRecursion-at}
 use Rattle.am_universe.proofs.Members.{joined_in}
-use Rattle.am_labels.specs.Matcher.{Condition}
-use Rattle.am_complete.specs.Complete.{about, asks_only_of, AreAmong, impossible_conditions}
+use Rattle.am_labels.specs.Matcher.{Matcher}
+use Rattle.am_complete.specs.Complete.{about, asks_only_of, AreAmong, impossible_matchers}
 use Rattle.am_complete.specs.Complete.{HaveSameMatchers}
 use Rattle.am_complete.specs.AskedLabel.{AskedLabel, IsAskedOf}
 use Rattle.am_complete.specs.FoundState.{HasThoseOfLists}
@@ -25,7 +25,7 @@ pub no_name : (name : List ℕ) → IsTrue (is_label_name name) → name ≡ [] 
 no_name [] h e = absurd (cc)
 no_name (c ∷ cs) h e = absurd (cc)
 
-pub none_on : (name : List ℕ) (ms : List Condition) → ((m : Condition) → IsIn ms m → m.name ≡ name → ⊥)
+pub none_on : (name : List ℕ) (ms : List Matcher) → ((m : Matcher) → IsIn ms m → m.name ≡ name → ⊥)
     → about name ms ≡ []
 none_on name [] none = refl
 none_on name (m ∷ ms) none = elim (cases_Bool (same_text m.name name)) [
@@ -34,16 +34,16 @@ none_on name (m ∷ ms) none = elim (cases_Bool (same_text m.name name)) [
 ]
 
 -- a label that is asked about has the same matchers as those that are on it
-pub on_name : (asked : List AskedLabel) (ms : List Condition) (l : AskedLabel) → IsAskedOf asked ms
+pub on_name : (asked : List AskedLabel) (ms : List Matcher) (l : AskedLabel) → IsAskedOf asked ms
     → IsIn asked l → l.name ≢ [] → HaveSameMatchers l.matchers (about l.name ms)
 on_name asked ms l asks i some =
     AllByRecursion-at (λ x. x.name ≢ [] → HaveSameMatchers x.matchers (about x.name ms)) asked l
     asks.matchers i some
 
 -- and the matchers of impossible lists that ask about it alone are among them
-pub asked_for : (impossible : List (List Condition)) (asked : List AskedLabel)
-    (ms : List Condition) (l : AskedLabel) → IsAskedOf asked ms
-    → AreAmong (impossible_conditions impossible) ms → IsIn asked l → l.name ≢ []
+pub asked_for : (impossible : List (List Matcher)) (asked : List AskedLabel)
+    (ms : List Matcher) (l : AskedLabel) → IsAskedOf asked ms
+    → AreAmong (impossible_matchers impossible) ms → IsIn asked l → l.name ≢ []
     → HasThoseOfLists impossible l
 asked_for impossible asked ms l asks among i some =
     AllByRecursion-each (λ list. IsTrue (asks_only_of l.name list) → AreAmong list l.matchers)
@@ -51,11 +51,11 @@ asked_for impossible asked ms l asks among i some =
     among_by list l.matchers (λ m k.
     let there = joined_in (λ xs. xs) impossible list m j k in
     in_back l.matchers (about l.name ms) m (on_name asked ms l asks i some)
-    (is_about l.name ms m (is_among (impossible_conditions impossible) ms m among there)
+    (is_about l.name ms m (is_among (impossible_matchers impossible) ms m among there)
     ((bytes_decides m.name l.name).0 (all_pass (λ n. same_text n.name l.name) list m alone k)))))
 
 -- a name that is not asked about has no matcher on it
-pub not_asked : (asked : List AskedLabel) (ms : List Condition) (name : List ℕ)
+pub not_asked : (asked : List AskedLabel) (ms : List Matcher) (name : List ℕ)
     → IsAskedOf asked ms → find (λ l. same_text l.name name) asked ≡ None → name ≢ []
     → about name ms ≡ []
 not_asked asked ms name asks none some =

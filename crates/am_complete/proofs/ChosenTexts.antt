@@ -19,7 +19,7 @@ use Rattle.am_universe.proofs.ListLemmas.{IsIn, IsIn-map, IsIn-unmap, IsIn-from_
 use Rattle.am_universe.proofs.ListLemmas.{Contains-from_IsIn}
 use Rattle.am_universe.proofs.ListLemmas.{AllByRecursion-at, AllByRecursion-each}
 use Rattle.am_universe.proofs.Members.{at_in, in_at}
-use Rattle.am_labels.specs.Matcher.{Condition, holds}
+use Rattle.am_labels.specs.Matcher.{Matcher, holds}
 use Rattle.am_classes.specs.declared.alphabet.Alphabet.{Alphabet}
 use Rattle.am_classes.specs.Alphabet.{IsOver, AreOver}
 use Rattle.am_classes.specs.Alike.{AreAlike, AreApart}
@@ -32,27 +32,27 @@ use Rattle.am_complete.proofs.Pushed.{zip_left, zip_right}
 
 -- ---- Alike texts have the same truths.
 
-same_truths : (ms : List Condition) (x y : List ℕ) → AreAlike ms x y → truths ms x ≡ truths ms y
+same_truths : (ms : List Matcher) (x y : List ℕ) → AreAlike ms x y → truths ms x ≡ truths ms y
 same_truths [] x y h = refl
 same_truths (m ∷ ms) x y h = λ i. h.0 i ∷ same_truths ms x y h.1 i
 
-alike_from_truths : (ms : List Condition) (x y : List ℕ) → truths ms x ≡ truths ms y → AreAlike ms x y
+alike_from_truths : (ms : List Matcher) (x y : List ℕ) → truths ms x ≡ truths ms y → AreAlike ms x y
 alike_from_truths [] x y e = tt
 alike_from_truths (m ∷ ms) x y e =
     let first : holds m.op m.value x ≡ holds m.op m.value y = cc in
     let rest : truths ms x ≡ truths ms y = cc in (first, alike_from_truths ms x y rest)
 
-pub alike_is : (ms : List Condition) (x y : List ℕ) → AreAlike ms x y → alike ms x y ≡ true
+pub alike_is : (ms : List Matcher) (x y : List ℕ) → AreAlike ms x y → alike ms x y ≡ true
 alike_is ms x y h =
     (slice_eq-Decides beq-Decides (truths ms x) (truths ms y) _ refl).1 (same_truths ms x y h)
 
-pub is_alike : (ms : List Condition) (x y : List ℕ) → alike ms x y ≡ true → AreAlike ms x y
+pub is_alike : (ms : List Matcher) (x y : List ℕ) → alike ms x y ≡ true → AreAlike ms x y
 is_alike ms x y h =
     alike_from_truths ms x y
     ((slice_eq-Decides beq-Decides (truths ms x) (truths ms y) _ refl).0 h)
 
 -- a chosen text is alike to the wanted one
-chosen_alike : (ms : List Condition) (usual : List Tested) (w : Tested) (x : List ℕ)
+chosen_alike : (ms : List Matcher) (usual : List Tested) (w : Tested) (x : List ℕ)
     → AreTested ms usual → w.truths.items ≡ truths ms (string_bytes w.text) → IsChosen usual w x
     → AreAlike ms x (string_bytes w.text)
 chosen_alike ms usual w x tested here (inl same) =
@@ -67,7 +67,7 @@ chosen_alike ms usual w x tested here (inr r) =
 
 -- ---- Others of their classes.
 
-module _ (alphabet : Alphabet) (ms : List Condition) (usual ws : List Tested)
+module _ (alphabet : Alphabet) (ms : List Matcher) (usual ws : List Tested)
     (xs : List (List ℕ)) (tested : AreTested ms usual) (here : AreTested ms ws)
     (over : AreOver alphabet (texts_of usual)) (each : AreChosenEach usual ws xs) where
   like : (w : Tested) (x : List ℕ) → IsIn ws w → IsChosen usual w x
@@ -132,10 +132,10 @@ same_where_both true b f g = sym (f refl)
 same_where_both false true f g = g refl
 same_where_both false false f g = refl
 
-pub turned : (ms : List Condition) (x y : List ℕ) → alike ms x y ≡ alike ms y x
+pub turned : (ms : List Matcher) (x y : List ℕ) → alike ms x y ≡ alike ms y x
 turned ms x y = grind (arith, common_steps, same_where_both, alike_is, alike_turned, is_alike)
 
-pub distinct_from_apart : (ms : List Condition) (xs : List (List ℕ)) → AreApart ms xs
+pub distinct_from_apart : (ms : List Matcher) (xs : List (List ℕ)) → AreApart ms xs
     → IsDistinct (alike ms) xs
 distinct_from_apart ms xs apart =
     IsDistinct-from_apart (alike ms) xs (λ i j d before inside.
@@ -149,7 +149,7 @@ distinct_from_apart ms xs apart =
       | inr differs ↦ differs
     ])
 
-apart_before : (ms : List Condition) (xs : List (List ℕ)) (i j : ℕ) (x y : List ℕ)
+apart_before : (ms : List Matcher) (xs : List (List ℕ)) (i j : ℕ) (x y : List ℕ)
     → IsDistinct (alike ms) xs → slice_get xs i ≡ Some x → slice_get xs j ≡ Some y
     → AreAlike ms x y → i < j → ⊥
 apart_before ms xs i j x y distinct at_x at_y h before =
@@ -160,12 +160,12 @@ apart_before ms xs i j x y distinct at_x at_y h before =
     ∙ ap (alike ms x) (get_or_from_slice_get xs j y x at_y) ∙ alike_is ms x y h in
     both_ways (alike ms (get_or xs i x) (get_or xs j x)) differs same
 
-pub apart_from_distinct_texts : (ms : List Condition) (xs : List (List ℕ))
+pub apart_from_distinct_texts : (ms : List Matcher) (xs : List (List ℕ))
     → IsDistinct (alike ms) xs → AreApart ms xs
 apart_from_distinct_texts ms xs distinct i j x y at_x at_y h =
     grind (arith, common_steps, cases_lt, apart_before, alike_turned)
 
-pub classes_moved : (alphabet : Alphabet) (ms : List Condition) (xs ys : List (List ℕ)) (all : Bool)
+pub classes_moved : (alphabet : Alphabet) (ms : List Matcher) (xs ys : List (List ℕ)) (all : Bool)
     → IsPermutation xs ys → AreClasses alphabet ms xs all → AreClasses alphabet ms ys all
 classes_moved alphabet ms xs ys all moved classes = record {
   covers = λ whole text valid.

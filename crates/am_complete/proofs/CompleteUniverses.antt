@@ -11,7 +11,7 @@ use Rattle.am_universe.specs.Universe.{Label, Values, IsLabel, IsUniverse}
 use Rattle.am_universe.specs.LabelSet.{LabelMap, value_of}
 use Rattle.am_universe.proofs.ListLemmas.{IsIn, IsIn-from_Contains, Contains-from_IsIn}
 use Rattle.am_universe.proofs.ListLemmas.{AllByRecursion-at, IsIn-unmap}
-use Rattle.am_labels.specs.Matcher.{Condition, holds, all_hold}
+use Rattle.am_labels.specs.Matcher.{Matcher, holds, all_hold}
 use Rattle.am_labels.specs.Space.{Space}
 use Rattle.am_classes.specs.declared.alphabet.Alphabet.{Alphabet}
 use Rattle.am_classes.specs.Alike.{AreAlike}
@@ -34,7 +34,7 @@ some_text u name h =
     texts_by (λ texts. (x : List ℕ) × IsIn texts x) u name ([], inl refl) (λ l i same.
     some_value_text l.values (AllByRecursion-at IsLabel u l h.labels i).some_value)
 
-pub complete_without_matchers : (alphabet : Alphabet) (u : List Label) (ms : List Condition) (name : List ℕ)
+pub complete_without_matchers : (alphabet : Alphabet) (u : List Label) (ms : List Matcher) (name : List ℕ)
     → IsUniverse u → about name ms ≡ [] → IsCompleteAt alphabet u ms name
 complete_without_matchers alphabet u ms name h none text valid =
     let one = some_text u name h in (
@@ -46,8 +46,8 @@ complete_without_matchers alphabet u ms name h none text valid =
 -- ---- By the labels of the matchers alone.
 
 -- no matcher is on a label, or there is a matcher on it
-pub some_about : (name : List ℕ) (ms : List Condition)
-    → (about name ms ≡ []) ⊎ ((m : Condition) × IsIn ms m × (m.name ≡ name))
+pub some_about : (name : List ℕ) (ms : List Matcher)
+    → (about name ms ≡ []) ⊎ ((m : Matcher) × IsIn ms m × (m.name ≡ name))
 some_about name [] = inl refl
 some_about name (m ∷ ms) = elim (cases_Bool (same_text m.name name)) [
   | inl same ↦ inr (m, inl refl, (bytes_decides m.name name).0 same)
@@ -58,14 +58,14 @@ some_about name (m ∷ ms) = elim (cases_Bool (same_text m.name name)) [
 ]
 
 -- it is enough to look at the names that matchers ask about
-pub by_names : (P : List ℕ → Type 0) (ms : List Condition)
+pub by_names : (P : List ℕ → Type 0) (ms : List Matcher)
     → ((name : List ℕ) → about name ms ≡ [] → P name)
-    → ((m : Condition) → IsIn ms m → m.name ≢ [] → P m.name)
+    → ((m : Matcher) → IsIn ms m → m.name ≢ [] → P m.name)
     → (name : List ℕ) → name ≢ [] → P name
 by_names P ms without on name some = grind (arith, common_steps, some_about)
 
 -- or at the labels that are asked about
-pub named_by : (asked : List AskedLabel) (ms : List Condition) (m : Condition) → IsAskedOf asked ms
+pub named_by : (asked : List AskedLabel) (ms : List Matcher) (m : Matcher) → IsAskedOf asked ms
     → IsIn ms m → m.name ≢ [] → (l : AskedLabel) × IsIn asked l × (l.name ≡ m.name)
 named_by asked ms m asks i some =
     IsIn-unmap (λ l. l.name) asked m.name
@@ -75,12 +75,12 @@ named_by asked ms m asks i some =
 
 -- ---- Spaces.
 
-pub space_complete_without_matchers : (alphabet : Alphabet) (s : Space) (ms : List Condition) (name : List ℕ)
+pub space_complete_without_matchers : (alphabet : Alphabet) (s : Space) (ms : List Matcher) (name : List ℕ)
     → IsUniverse s.labels → about name ms ≡ [] → IsSpaceCompleteAt alphabet s ms name
 space_complete_without_matchers alphabet s ms name h none text valid possible =
     complete_without_matchers alphabet s.labels ms name h none text valid
 
-pub space_complete_where_asked : (alphabet : Alphabet) (s : Space) (asked : List AskedLabel) (ms : List Condition)
+pub space_complete_where_asked : (alphabet : Alphabet) (s : Space) (asked : List AskedLabel) (ms : List Matcher)
     → IsUniverse s.labels → IsAskedOf asked ms
     → ((l : AskedLabel) → IsIn asked l → l.name ≢ [] → IsSpaceCompleteAt alphabet s ms l.name)
     → IsSpaceComplete alphabet s ms
@@ -94,7 +94,7 @@ space_complete_where_asked alphabet s asked ms h asks on =
 -- ---- Impossible lists that ask about one label alone.
 
 -- a list about one label alone matches a label set exactly if it matches its text of that label
-pub alone_truth : (set : LabelMap) (name : List ℕ) (list : List Condition)
+pub alone_truth : (set : LabelMap) (name : List ℕ) (list : List Matcher)
     → IsTrue (asks_only_of name list) → all_hold set list ≡ matches_text (value_of set name) list
 alone_truth set name [] alone = refl
 alone_truth set name (m ∷ list) alone =
@@ -103,5 +103,5 @@ alone_truth set name (m ∷ list) alone =
     λ i. holds m.op m.value (value_of set (named i)) && alone_truth set name list asks.1 i
 
 -- whether an impossible list takes a text of a label away
-abbrev pub takes_away : List ℕ → List ℕ → List Condition → Bool
+abbrev pub takes_away : List ℕ → List ℕ → List Matcher → Bool
 takes_away name text list = asks_only_of name list && matches_text text list

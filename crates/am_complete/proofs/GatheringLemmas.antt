@@ -12,7 +12,7 @@ use Rattle.std.proofs.lemmas.List.{map-append, length-map}
 use Rattle.std.proofs.lemmas.Option.{slice_get_within, slice_get-map, same_Some}
 use Rattle.std.proofs.lemmas.Grind.{common_steps}
 use Rattle.am_universe.specs.Text.{same_text}
-use Rattle.am_labels.specs.Matcher.{Condition}
+use Rattle.am_labels.specs.Matcher.{Matcher}
 use Rattle.am_labels.proofs.Passing.{any_in, in_any}
 use Rattle.am_universe.proofs.ListLemmas.{IsIn-unmap}
 use Rattle.am_universe.proofs.Members.{at_in, in_at}
@@ -102,7 +102,7 @@ names_set (x ∷ labels) zero l next h same = grind (arith, common_steps)
 names_set (x ∷ labels) (suc i) l next h same =
     grind (arith, common_steps, names_set labels i l next h same)
 
-none_gain : (m : Condition) (labels : List AskedLabel)
+none_gain : (m : Matcher) (labels : List AskedLabel)
     → ((j : ℕ) → slice_get (asked_names labels) j ≡ Some m.name → ⊥)
     → labels ≡ map (and_asked m) labels
 none_gain m [] none = refl
@@ -113,7 +113,7 @@ none_gain m (x ∷ labels) none =
       | inr other ↦ rw other (ap (λ ls. x ∷ ls) later)
     ]
 
-one_gains : (m : Condition) (labels : List AskedLabel) (i : ℕ) (l : AskedLabel)
+one_gains : (m : Matcher) (labels : List AskedLabel) (i : ℕ) (l : AskedLabel)
     → slice_get labels i ≡ Some l → l.name ≡ m.name
     → ((j : ℕ) → slice_get (asked_names labels) j ≡ Some m.name → j ≡ i)
     → set labels i (with_matcher m l) ≡ map (and_asked m) labels
@@ -134,7 +134,7 @@ one_gains m (x ∷ labels) (suc i) l h named alone =
 
 -- if a label has the name, that label alone gets one more matcher
 pub asked_again : (positions : BTreeMap (Bor (List ℕ)) ℕ) (labels : List AskedLabel)
-    (origin : Origin) (m : Condition) (i : ℕ) (l : AskedLabel) → IsIndexed positions labels
+    (origin : Origin) (m : Matcher) (i : ℕ) (l : AskedLabel) → IsIndexed positions labels
     → position_in positions m.name ≡ Some i → slice_get labels i ≡ Some l
     → set labels i (with_matcher m l) ≡ with_asked labels (origin, m)
 asked_again positions labels origin m i l indexed at there =
@@ -149,10 +149,10 @@ asked_again positions labels origin m i l indexed at there =
     ∙ rw some refl
 
 -- a label keeps its name, whether the matcher was added or memory was refused
-pub with_matcher_name : (m : Condition) (l : AskedLabel) → (with_matcher m l).name ≡ l.name
+pub with_matcher_name : (m : Matcher) (l : AskedLabel) → (with_matcher m l).name ≡ l.name
 with_matcher_name m l = grind (arith, common_steps, cases_Bool)
 
-pub name_kept : {T E : Type 0} (m : Condition) (l next : AskedLabel) (r : Result T E)
+pub name_kept : {T E : Type 0} (m : Matcher) (l next : AskedLabel) (r : Result T E)
     → OnOk r (next ≡ with_matcher m l) → OnErr r (next ≡ l) → next.name ≡ l.name
 name_kept m l next (Ok x) added same = ap (λ k. k.name) added ∙ with_matcher_name m l
 name_kept m l next (Err e) added same = ap (λ k. k.name) same

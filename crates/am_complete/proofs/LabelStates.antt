@@ -19,7 +19,7 @@ use Rattle.am_universe.specs.Universe.{Label, Values, IsUniverse, names, label_p
 use Rattle.am_universe.proofs.ListLemmas.{IsIn, IsIn-left, IsIn-right, IsIn-map, IsIn-unmap}
 use Rattle.am_universe.proofs.ListLemmas.{Contains-from_IsIn, AllByRecursion-at}
 use Rattle.am_universe.proofs.UniverseLemmas.{no_label}
-use Rattle.am_labels.specs.Matcher.{Condition}
+use Rattle.am_labels.specs.Matcher.{Matcher}
 use Rattle.am_labels.specs.Space.{Space}
 use Rattle.am_labels.proofs.Passing.{any_in, in_any, kept_from_passes}
 use Rattle.am_universe.proofs.Members.{in_at}
@@ -68,13 +68,13 @@ texts_more values j texts text before here lt = grind (arith, common_steps, map-
 -- ---- At one label.
 
 -- if texts cover all, and each is alike to one of others, the others cover all too
-pub covered : (alphabet : Alphabet) (impossible : List (List Condition)) (name : List ℕ) (ms : List Condition)
+pub covered : (alphabet : Alphabet) (impossible : List (List Matcher)) (name : List ℕ) (ms : List Matcher)
     (have texts : List (List ℕ)) → CoverPossible alphabet impossible name ms texts
     → AllByRecursion (HasAlikeIn ms have) texts → CoverPossible alphabet impossible name ms have
 covered alphabet impossible name ms have texts covers each text valid possible =
     grind (arith, common_steps, alike_joined)
 
-pub found_is_so : (alphabet : Alphabet) (s : Space) (asked : List AskedLabel) (ms : List Condition) (l : AskedLabel)
+pub found_is_so : (alphabet : Alphabet) (s : Space) (asked : List AskedLabel) (ms : List Matcher) (l : AskedLabel)
     (c : Completeness) → IsAskedOf asked ms → IsIn asked l → l.name ≢ [] → IsFoundAt alphabet s l c
     → IsSoAt alphabet s ms asked l.name c
 found_is_so alphabet s asked ms l (state_is.Complete n) asks i some h =
@@ -154,7 +154,7 @@ empty_begins (c ∷ cs) = grind (arith, nat_tests)
 
 -- ---- All labels.
 
-settled_complete : (alphabet : Alphabet) (s : Space) (ms : List Condition) (asked : List AskedLabel)
+settled_complete : (alphabet : Alphabet) (s : Space) (ms : List Matcher) (asked : List AskedLabel)
     (name : List ℕ) (c : Completeness) → IsUniverse s.labels → IsSoAt alphabet s ms asked name c
     → is_settled c ≡ true → IsSpaceCompleteAt alphabet s ms name
 settled_complete alphabet s ms asked name (state_is.Complete n) universe so settled = so.0
@@ -181,7 +181,7 @@ pub complete_where_settled : (alphabet : Alphabet) (s : Space) (asked : List Ask
     (alerts : Option (List LabelMap)) (states : List LabelState) → IsUniverse s.labels
     → map (λ state. string_bytes state.name) states ≡ reported_names s.labels asked
     → AllByRecursion (IsSoOfName alphabet s asked alerts) states
-    → (ms : List Condition) → IsAskedOf asked ms
+    → (ms : List Matcher) → IsAskedOf asked ms
     → IsTrue (list_all (λ state. is_settled state.completeness) states) → IsSpaceComplete alphabet s ms
 complete_where_settled alphabet s asked alerts states universe are each ms asks settled =
     space_complete_where_asked alphabet s asked ms universe asks (λ l i some.

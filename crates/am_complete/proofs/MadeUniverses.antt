@@ -16,7 +16,7 @@ use Rattle.am_universe.proofs.ListLemmas.{IsIn, IsIn-left, IsIn-right, IsIn-map,
 use Rattle.am_universe.proofs.ListLemmas.{IsIn-from_Contains, Contains-from_IsIn, AllByRecursion-at}
 use Rattle.am_universe.proofs.ListLemmas.{AllByRecursion-each}
 use Rattle.am_universe.proofs.Members.{in_at, at_in, is_numbered, item_at, numbered_at}
-use Rattle.am_labels.specs.Matcher.{Condition}
+use Rattle.am_labels.specs.Matcher.{Matcher}
 use Rattle.am_labels.specs.Space.{Space}
 use Rattle.am_labels.proofs.Passing.{passes_from_kept, kept_from_passes}
 use Rattle.am_classes.specs.declared.alphabet.Alphabet.{Alphabet}
@@ -130,7 +130,7 @@ module _ (a : Alphabet) (s : Space) where
       finds_in (λ k. k.name) missing m
       (subst (IsDistinct same_text) (sym (same_names asked missing zip)) distinct) i
 
-  needed_by_name : (asked : List AskedLabel) (missing : List MissingTexts) (ms : List Condition)
+  needed_by_name : (asked : List AskedLabel) (missing : List MissingTexts) (ms : List Matcher)
       (name : List ℕ) → AreMissing a s asked missing → IsAskedOf asked ms → name ≢ []
       → AreNeeded a s name (about name ms) (texts_of_missing (missing_for missing name))
   needed_by_name asked missing ms name zip asks some = by (missing_for missing name) refl
@@ -145,7 +145,7 @@ module _ (a : Alphabet) (s : Space) where
           (same_needed a s r.0.name r.0.matchers (about r.0.name ms) m.texts same r.3.needed)
 
   pub adds : (asked : List AskedLabel) (missing : List MissingTexts) (v : List Label)
-      (ms : List Condition) → AreMissing a s asked missing → IsUniverse v
+      (ms : List Matcher) → AreMissing a s asked missing → IsUniverse v
       → AllByRecursion (IsWhole s missing) v
       → ((name : List ℕ) → IsIn (names v) name
       → texts_of_missing (missing_for missing name) ≡ [] → Contains (names s.labels) name)
@@ -278,7 +278,7 @@ module _ (a : Alphabet) (s : Space) where
       ]
 
   pub complete : (asked : List AskedLabel) (v : List Label) (positions : List ℕ) → IsUniverse v
-      → CoversEachBut a s.impossible v asked positions → positions ≡ [] → (ms : List Condition)
+      → CoversEachBut a s.impossible v asked positions → positions ≡ [] → (ms : List Matcher)
       → IsAskedOf asked ms
       → IsSpaceComplete a (record { labels = v; impossible = s.impossible }) ms
   complete asked v positions universe covers none ms asks =

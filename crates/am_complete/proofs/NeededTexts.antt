@@ -8,7 +8,7 @@ use Rattle.std.proofs.lemmas.Grind.{common_steps}
 use Rattle.am_universe.specs.Universe.{is_label_name}
 use Rattle.am_universe.proofs.ListLemmas.{IsIn, IsIn-from_Contains}
 use Rattle.am_universe.proofs.ListLemmas.{AllByRecursion-each, AllByRecursion-at}
-use Rattle.am_labels.specs.Matcher.{Condition}
+use Rattle.am_labels.specs.Matcher.{Matcher}
 use Rattle.am_classes.specs.Alphabet.{IsOver}
 use Rattle.am_labels.specs.Space.{Space}
 use Rattle.am_labels.proofs.Passing.{passes_from_kept, kept_from_passes}
@@ -46,7 +46,7 @@ alike_standing s l text lists possible =
 
 -- ---- What is needed.
 
-pub none_needed : (a : Alphabet) (s : Space) (name : List ℕ) (ms : List Condition)
+pub none_needed : (a : Alphabet) (s : Space) (name : List ℕ) (ms : List Matcher)
     → AreNeeded a s name ms []
 none_needed a s name ms = grind (arith, common_steps)
 

@@ -11,7 +11,7 @@ use Rattle.std.specs.Cmp.Lexicographic.{bytes_decides, slice_cmp}
 use Rattle.std.proofs.lemmas.Bool.{cases_Bool}
 use Rattle.std.proofs.lemmas.List.Folds.{list_any-append}
 use Rattle.am_labels.specs.declared.op.Op.{Op}
-use Rattle.am_labels.specs.Matcher.{Condition}
+use Rattle.am_labels.specs.Matcher.{Matcher}
 use Rattle.am_complete.specs.AskedLabel.{asks_same, same_op}
 use Rattle.am_complete.specs.Operators.{operators_with, HasOperatorsOf}
 
@@ -27,7 +27,7 @@ not_here false true = refl
 not_here false false = refl
 
 -- one more operator was put at the value of a matcher, and the map has the same at all other values
-abbrev pub PutsOperator : BTreeMap (Bor (List ℕ)) (Vec Op Global) → Condition → Vec Op Global
+abbrev pub PutsOperator : BTreeMap (Bor (List ℕ)) (Vec Op Global) → Matcher → Vec Op Global
     → BTreeMap (Bor (List ℕ)) (Vec Op Global) → Type 0
 PutsOperator before m put after =
     (put.items ≡ operators_with before m.value ++ m.op ∷ []) × ((q : List ℕ)
@@ -42,7 +42,7 @@ put_at false put found = refl
 
 -- so a map that had the operators of some matchers then has those of one more
 pub one_matcher_more : (before after : BTreeMap (Bor (List ℕ)) (Vec Op Global))
-    (ms : List Condition) (m : Condition) (put : Vec Op Global) → HasOperatorsOf before ms
+    (ms : List Matcher) (m : Matcher) (put : Vec Op Global) → HasOperatorsOf before ms
     → PutsOperator before m put after → HasOperatorsOf after (ms ++ m ∷ [])
 one_matcher_more before after ms m put has puts n =
     let test : Op → Bool = λ op. same_op op n.op in

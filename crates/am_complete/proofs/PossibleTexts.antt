@@ -14,7 +14,7 @@ use Rattle.am_universe.proofs.LabelMapLemmas.{removed_at, inserted_at}
 use Rattle.am_universe.proofs.LabelSetLemmas.{same_text-itself}
 use Rattle.am_universe.proofs.ListLemmas.{IsIn, IsIn-from_Contains, Contains-from_IsIn}
 use Rattle.am_universe.proofs.ListLemmas.{AllByRecursion-each, AllByRecursion-at}
-use Rattle.am_labels.specs.Matcher.{Condition, all_hold}
+use Rattle.am_labels.specs.Matcher.{Matcher, all_hold}
 use Rattle.am_labels.proofs.Passing.{passes_from_kept, kept_from_passes}
 use Rattle.am_classes.specs.declared.alphabet.Alphabet.{Alphabet}
 use Rattle.am_classes.specs.Alphabet.{IsOver, AreOver}
@@ -34,7 +34,7 @@ value_alone s name [] = grind (arith, common_steps, removed_at, same_text-itself
 value_alone s name (c ∷ cs) = grind (arith, common_steps, inserted_at, same_text-itself)
 
 -- a list about the label alone takes a text of it away exactly if the list matches that label set
-pub taken_by : (set : LabelMap) (name text : List ℕ) (list : List Condition)
+pub taken_by : (set : LabelMap) (name text : List ℕ) (list : List Matcher)
     → set ≡ with_value empty name text → IsTrue (asks_only_of name list)
     → takes_away name text list ≡ all_hold set list
 taken_by set name text list is alone =
@@ -77,17 +77,17 @@ distinct_kept e test (x ∷ xs) distinct =
       rest,
     )) (λ fails. rest)
 
-same_match : (x y : List ℕ) (ms list : List Condition) → AreAmong list ms → AreAlike ms x y
+same_match : (x y : List ℕ) (ms list : List Matcher) → AreAmong list ms → AreAlike ms x y
     → matches_text x list ≡ matches_text y list
 same_match x y ms [] among alike = refl
 same_match x y ms (m ∷ list) among alike = grind (arith, common_steps, same_match x y ms list)
 
-same_taken : (name x y : List ℕ) (ms list : List Condition)
+same_taken : (name x y : List ℕ) (ms list : List Matcher)
     → (IsTrue (asks_only_of name list) → AreAmong list ms) → AreAlike ms x y
     → takes_away name x list ≡ takes_away name y list
 same_taken name x y ms list among alike = grind (arith, common_steps, cases_Bool, same_match)
 
-any_taken : (impossible : List (List Condition)) (name x y : List ℕ) (ms : List Condition)
+any_taken : (impossible : List (List Matcher)) (name x y : List ℕ) (ms : List Matcher)
     → AllByRecursion (λ list. IsTrue (asks_only_of name list) → AreAmong list ms) impossible
     → AreAlike ms x y
     → list_any (takes_away name x) impossible ≡ list_any (takes_away name y) impossible
@@ -95,7 +95,7 @@ any_taken [] name x y ms among alike = refl
 any_taken (list ∷ impossible) name x y ms among alike =
     grind (arith, common_steps, same_taken, any_taken impossible name x y ms)
 
-pub same_possible : (impossible : List (List Condition)) (l : AskedLabel) (x y : List ℕ)
+pub same_possible : (impossible : List (List Matcher)) (l : AskedLabel) (x y : List ℕ)
     → HasThoseOfLists impossible l → AreAlike l.matchers x y
     → may_have impossible l.name x ≡ may_have impossible l.name y
 same_possible impossible l x y among alike =
@@ -109,8 +109,8 @@ all_kept P test xs all =
     (λ x i. AllByRecursion-at P xs x all (passes_from_kept test xs x i).0)
 
 -- the texts that the label may have, from texts of which no two are alike
-pub are_possible : (alphabet : Alphabet) (impossible : List (List Condition)) (name : List ℕ)
-    (ms : List Condition) (texts : List (List ℕ)) → AreOver alphabet texts → AreApart ms texts
+pub are_possible : (alphabet : Alphabet) (impossible : List (List Matcher)) (name : List ℕ)
+    (ms : List Matcher) (texts : List (List ℕ)) → AreOver alphabet texts → AreApart ms texts
     → ArePossible alphabet impossible name ms (filter (may_have impossible name) texts)
 are_possible alphabet impossible name ms texts over apart =
     let test = may_have impossible name in
@@ -123,7 +123,7 @@ are_possible alphabet impossible name ms texts over apart =
     }
 
 -- from texts that cover all, they cover all that the label may have
-pub cover_possible : (alphabet : Alphabet) (impossible : List (List Condition)) (l : AskedLabel)
+pub cover_possible : (alphabet : Alphabet) (impossible : List (List Matcher)) (l : AskedLabel)
     (texts : List (List ℕ)) → HasThoseOfLists impossible l → Covers alphabet l.matchers texts
     → CoverPossible alphabet impossible l.name l.matchers
     (filter (may_have impossible l.name) texts)

@@ -8,7 +8,7 @@ use denote.Enum.Bare.{same_true}
 use Rattle.am_universe.specs.Text.{same_text}
 use Rattle.am_universe.proofs.ListLemmas.{IsIn, AllByRecursion-each, AllByRecursion-at}
 use Rattle.am_labels.specs.contracts.op.Op.{the_type}
-use Rattle.am_labels.specs.Matcher.{Condition, holds}
+use Rattle.am_labels.specs.Matcher.{Matcher, holds}
 use Rattle.am_labels.specs.Space.{Space}
 use Rattle.am_classes.specs.declared.alphabet.Alphabet.{Alphabet}
 use Rattle.am_classes.specs.Alike.{AreAlike, HasAlikeIn, AreApart, HasPattern}
@@ -22,7 +22,7 @@ use Rattle.am_complete.proofs.AmongMatchers.{among_by}
 -- ---- Equal matchers.
 
 -- equal matchers on one label are the same matcher
-pub equal_is : (m n : Condition) → m.name ≡ n.name → IsTrue (asks_same m n) → m ≡ n
+pub equal_is : (m n : Matcher) → m.name ≡ n.name → IsTrue (asks_same m n) → m ≡ n
 equal_is m n named h =
     let both = and_parts (same_op n.op m.op) (same_text n.value m.value) h in
     let op = sym (same_true the_type tt n.op m.op both.0) in
@@ -31,52 +31,52 @@ equal_is m n named h =
 
 -- ---- The same matchers.
 
-pub same_by : (ns ms : List Condition) → ((m : Condition) → IsIn ns m → IsIn ms m)
-    → ((m : Condition) → IsIn ms m → IsIn ns m) → HaveSameMatchers ns ms
+pub same_by : (ns ms : List Matcher) → ((m : Matcher) → IsIn ns m → IsIn ms m)
+    → ((m : Matcher) → IsIn ms m → IsIn ns m) → HaveSameMatchers ns ms
 same_by ns ms to from = record { there = among_by ns ms to; back = among_by ms ns from }
 
-pub in_there : (ns ms : List Condition) (m : Condition) → HaveSameMatchers ns ms → IsIn ns m
+pub in_there : (ns ms : List Matcher) (m : Matcher) → HaveSameMatchers ns ms → IsIn ns m
     → IsIn ms m
 in_there ns ms m same i = is_among ns ms m same.there i
 
-pub in_back : (ns ms : List Condition) (m : Condition) → HaveSameMatchers ns ms → IsIn ms m
+pub in_back : (ns ms : List Matcher) (m : Matcher) → HaveSameMatchers ns ms → IsIn ms m
     → IsIn ns m
 in_back ns ms m same i = is_among ms ns m same.back i
 
 -- ---- What texts are to matchers, they are to those among them, or to those that they are among.
 
-pub alike_among : (ns ms : List Condition) (x y : List ℕ) → AreAmong ns ms → AreAlike ms x y
+pub alike_among : (ns ms : List Matcher) (x y : List ℕ) → AreAmong ns ms → AreAlike ms x y
     → AreAlike ns x y
 alike_among ns ms x y among h =
     AllByRecursion-each (λ m. holds m.op m.value x ≡ holds m.op m.value y) ns (λ m i.
     AllByRecursion-at (λ m. holds m.op m.value x ≡ holds m.op m.value y) ms m h
     (is_among ns ms m among i))
 
-pub has_alike_among : (ns ms : List Condition) (texts : List (List ℕ)) (text : List ℕ)
+pub has_alike_among : (ns ms : List Matcher) (texts : List (List ℕ)) (text : List ℕ)
     → AreAmong ns ms → HasAlikeIn ms texts text → HasAlikeIn ns texts text
 has_alike_among ns ms texts text among h = (h.0, h.1, alike_among ns ms h.0 text among h.2)
 
-pub apart_among : (ns ms : List Condition) (texts : List (List ℕ)) → AreAmong ns ms
+pub apart_among : (ns ms : List Matcher) (texts : List (List ℕ)) → AreAmong ns ms
     → AreApart ns texts → AreApart ms texts
 apart_among ns ms texts among apart i j x y at_x at_y alike =
     apart i j x y at_x at_y (alike_among ns ms x y among alike)
 
-pub cover_among : (a : Alphabet) (impossible : List (List Condition)) (name : List ℕ)
-    (ns ms : List Condition) (texts : List (List ℕ)) → AreAmong ns ms
+pub cover_among : (a : Alphabet) (impossible : List (List Matcher)) (name : List ℕ)
+    (ns ms : List Matcher) (texts : List (List ℕ)) → AreAmong ns ms
     → CoverPossible a impossible name ms texts → CoverPossible a impossible name ns texts
 cover_among a impossible name ns ms texts among cover text over possible =
     has_alike_among ns ms texts text among (cover text over possible)
 
-pub pattern_among : (ns ms : List Condition) → AreAmong ns ms → HasPattern ns → HasPattern ms
+pub pattern_among : (ns ms : List Matcher) → AreAmong ns ms → HasPattern ns → HasPattern ms
 pattern_among ns ms among h = grind (arith, common_steps, is_among)
 
-pub possible_among : (a : Alphabet) (impossible : List (List Condition)) (name : List ℕ)
-    (ns ms : List Condition) (texts : List (List ℕ)) → AreAmong ns ms
+pub possible_among : (a : Alphabet) (impossible : List (List Matcher)) (name : List ℕ)
+    (ns ms : List Matcher) (texts : List (List ℕ)) → AreAmong ns ms
     → ArePossible a impossible name ns texts → ArePossible a impossible name ms texts
 possible_among a impossible name ns ms texts among h = grind (arith, common_steps, apart_among)
 
-pub same_classes : (a : Alphabet) (impossible : List (List Condition)) (name : List ℕ)
-    (ns ms : List Condition) (n : ℕ) → HaveSameMatchers ns ms
+pub same_classes : (a : Alphabet) (impossible : List (List Matcher)) (name : List ℕ)
+    (ns ms : List Matcher) (n : ℕ) → HaveSameMatchers ns ms
     → HasClasses a impossible name ns n → HasClasses a impossible name ms n
 same_classes a impossible name ns ms n same h = (
   h.0,
@@ -87,7 +87,7 @@ same_classes a impossible name ns ms n same h = (
   h.2,
 )
 
-pub same_needed : (a : Alphabet) (s : Space) (name : List ℕ) (ns ms : List Condition)
+pub same_needed : (a : Alphabet) (s : Space) (name : List ℕ) (ns ms : List Matcher)
     (texts : List (List ℕ)) → HaveSameMatchers ns ms → AreNeeded a s name ns texts
     → AreNeeded a s name ms texts
 same_needed a s name ns ms texts same h =

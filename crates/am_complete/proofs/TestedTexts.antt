@@ -9,7 +9,7 @@ use Rattle.am_universe.proofs.DistinctLists.{all_push}
 use Rattle.am_universe.proofs.ListLemmas.{IsIn, IsIn-left, IsIn-right, IsIn-map, IsIn-unmap}
 use Rattle.am_universe.proofs.ListLemmas.{IsIn-from_Contains, Contains-from_IsIn}
 use Rattle.am_universe.proofs.ListLemmas.{AllByRecursion-at, AllByRecursion-each}
-use Rattle.am_labels.specs.Matcher.{Condition}
+use Rattle.am_labels.specs.Matcher.{Matcher}
 use Rattle.am_labels.proofs.Passing.{any_in, in_any}
 use Rattle.am_classes.specs.Alike.{AreAlike, HasAlikeIn}
 use Rattle.am_complete.specs.declared.tested.Tested.{Tested}
@@ -20,12 +20,12 @@ use Rattle.am_complete.proofs.ChosenTexts.{alike_is, is_alike}
 
 -- ---- The same truths.
 
-same_test : (ms : List Condition) (t u : Tested) → t.truths.items ≡ truths ms (string_bytes t.text)
+same_test : (ms : List Matcher) (t u : Tested) → t.truths.items ≡ truths ms (string_bytes t.text)
     → u.truths.items ≡ truths ms (string_bytes u.text)
     → has_same_truths t u ≡ alike ms (string_bytes u.text) (string_bytes t.text)
 same_test ms t u here other = λ i. pointwise beq (other i) (here i)
 
-pub alike_there : (ms : List Condition) (there : List Tested) (t : Tested) → AreTested ms there
+pub alike_there : (ms : List Matcher) (there : List Tested) (t : Tested) → AreTested ms there
     → t.truths.items ≡ truths ms (string_bytes t.text)
     → list_any (has_same_truths t) there ≡ true → HasAlikeIn ms (texts_of there) (string_bytes t.text)
 alike_there ms there t tested here some =
@@ -38,7 +38,7 @@ alike_there ms there t tested here some =
           (sym (same_test ms t one.0 here at) ∙ one.2),
     )
 
-pub none_alike : (ms : List Condition) (there : List Tested) (t : Tested) → AreTested ms there
+pub none_alike : (ms : List Matcher) (there : List Tested) (t : Tested) → AreTested ms there
     → t.truths.items ≡ truths ms (string_bytes t.text)
     → list_any (has_same_truths t) there ≡ false
     → HasAlikeIn ms (texts_of there) (string_bytes t.text) → ⊥
@@ -54,12 +54,12 @@ none_alike ms there t tested here none one =
 -- ---- One wanted text more.
 
 -- a text that has one alike among some texts has one among more texts
-pub alike_within : (ms : List Condition) (xs ys : List (List ℕ)) (text : List ℕ)
+pub alike_within : (ms : List Matcher) (xs ys : List (List ℕ)) (text : List ℕ)
     → ((x : List ℕ) → IsIn xs x → IsIn ys x) → HasAlikeIn ms xs text → HasAlikeIn ms ys text
 alike_within ms xs ys text within one =
     (one.0, Contains-from_IsIn ys one.0 (within one.0 (IsIn-from_Contains xs one.0 one.1)), one.2)
 
-module _ (ms : List Condition) (there wanted texts : List (List ℕ)) (x : List ℕ)
+module _ (ms : List Matcher) (there wanted texts : List (List ℕ)) (x : List ℕ)
     (h : AreNewIn ms there wanted texts) where
   from_more : AllByRecursion (Contains (wanted ++ x ∷ [])) texts
   from_more =

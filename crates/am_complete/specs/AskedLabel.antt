@@ -5,7 +5,7 @@ use Rattle.std.specs.List.{AllByRecursion, IsDistinct, list_any}
 use Rattle.am_universe.specs.Text.{same_text}
 use Rattle.am_labels.specs.declared.op.Op.{Op}
 use Rattle.am_labels.specs.contracts.op.Op.{the_type}
-use Rattle.am_labels.specs.Matcher.{Condition}
+use Rattle.am_labels.specs.Matcher.{Matcher}
 use Rattle.am_complete.specs.declared.origin.Origin.{Origin}
 use Rattle.am_complete.specs.Complete.{about, HaveSameMatchers}
 use denote.Enum.Bare.{sameb}
@@ -13,7 +13,7 @@ use denote.Enum.Bare.{sameb}
 -- A label: its name, the matchers that ask about it, and the origin of the first of them.
 pub record AskedLabel : Type 0 where
   pub name : List ℕ
-  pub matchers : List Condition
+  pub matchers : List Matcher
   pub first : Origin
 
 -- The names of the labels, in order.
@@ -27,26 +27,26 @@ same_op o p = sameb the_type o p
 -- Two matchers on one label are equal: they have the same operator and the same value.
 -- Source: own choice.
 -- Example: of `team="db"`, `team=~"db"` and `team="db"`, the first and the last are equal.
-abbrev pub asks_same : Condition → Condition → Bool
+abbrev pub asks_same : Matcher → Matcher → Bool
 asks_same m other = same_op other.op m.op && same_text other.value m.value
 
 -- A label with one more matcher on it, unless it has an equal one.
-abbrev pub with_matcher : Condition → AskedLabel → AskedLabel
+abbrev pub with_matcher : Matcher → AskedLabel → AskedLabel
 with_matcher m l =
     if list_any (asks_same m) l.matchers then l else record l { matchers = l.matchers ++ m ∷ [] }
 
 -- A label with one more matcher, if that matcher asks about it.
-abbrev pub and_asked : Condition → AskedLabel → AskedLabel
+abbrev pub and_asked : Matcher → AskedLabel → AskedLabel
 and_asked m l = if same_text l.name m.name then with_matcher m l else l
 
 -- The label of a matcher with an origin. It has that matcher alone.
-abbrev pub label_of : Origin × Condition → AskedLabel
+abbrev pub label_of : Origin × Matcher → AskedLabel
 label_of placed =
     record { name = placed.1.name; matchers = placed.1 ∷ []; first = placed.0 }
 
 -- Labels with one more matcher, which has an origin. A label that is asked about for the first time
 -- comes after the others.
-abbrev pub with_asked : List AskedLabel → Origin × Condition → List AskedLabel
+abbrev pub with_asked : List AskedLabel → Origin × Matcher → List AskedLabel
 with_asked labels placed =
     if list_any (λ l. same_text l.name placed.1.name) labels
     then map (and_asked placed.1) labels
@@ -57,7 +57,7 @@ with_asked labels placed =
 -- Source: own choice.
 -- Example: for `team="db"`, `env=""`, `team="web"` and `team="db"` they are `team`, with two
 -- matchers, and `env`.
-abbrev pub asked_labels : List (Origin × Condition) → List AskedLabel
+abbrev pub asked_labels : List (Origin × Matcher) → List AskedLabel
 asked_labels placed = fold with_asked [] placed
 
 -- Some labels are those that some matchers ask about. Each has a name of its own, and exactly those
@@ -66,7 +66,7 @@ asked_labels placed = fold with_asked [] placed
 -- Source: own choice.
 -- Example: the labels of `team="db"`, `env=""` and `team="db"` are `team` and `env`, in some order,
 -- with at least one matcher each.
-pub record IsAskedOf (labels : List AskedLabel) (ms : List Condition) : Type 0 where
+pub record IsAskedOf (labels : List AskedLabel) (ms : List Matcher) : Type 0 where
   pub distinct : IsDistinct same_text (asked_names labels)
   pub matchers :
       AllByRecursion (λ l. l.name ≢ [] → HaveSameMatchers l.matchers (about l.name ms)) labels

@@ -7,7 +7,7 @@ use Rattle.am_universe.specs.declared.kind.Kind.TheVariants as kinds
 use Rattle.am_universe.specs.declared.limits.TheConstants.{MAX_LABELS, MAX_VALUES}
 use Rattle.am_universe.specs.Text.{same_text}
 use Rattle.am_universe.specs.Universe.{Label, Values, names}
-use Rattle.am_labels.specs.Matcher.{Condition}
+use Rattle.am_labels.specs.Matcher.{Matcher}
 use Rattle.am_labels.specs.Space.{Space}
 use Rattle.am_classes.specs.declared.alphabet.Alphabet.{Alphabet}
 use Rattle.am_classes.specs.Alphabet.{IsOver, AreOver}
@@ -20,7 +20,7 @@ use Rattle.am_complete.specs.AskedLabel.{AskedLabel}
 -- to one of them.
 -- Source: own choice.
 -- Example: to `team="db"` alone, `db` and the empty text stand for all classes, and `db` for one.
-pub record AreClasses (a : Alphabet) (ms : List Condition) (texts : List (List ℕ))
+pub record AreClasses (a : Alphabet) (ms : List Matcher) (texts : List (List ℕ))
     (all : Bool) : Type 0 where
   pub covers : IsTrue all → Covers a ms texts
   pub apart : AreApart ms texts
@@ -31,7 +31,7 @@ pub record AreClasses (a : Alphabet) (ms : List Condition) (texts : List (List �
 -- Source: own choice.
 -- Example: to `team="db"`, if `team!="db"` is impossible, `db` alone covers all.
 abbrev pub CoverPossible :
-    Alphabet → List (List Condition) → List ℕ → List Condition → List (List ℕ) → Type 0
+    Alphabet → List (List Matcher) → List ℕ → List Matcher → List (List ℕ) → Type 0
 CoverPossible a impossible name ms texts =
     (text : List ℕ) → IsOver a text → IsTrue (may_have impossible name text)
     → HasAlikeIn ms texts text
@@ -40,8 +40,8 @@ CoverPossible a impossible name ms texts =
 -- Source: own choice.
 -- Example: to `team="db"` alone, `db` and `web` are such texts. If `team=web` is impossible, they
 -- are not.
-pub record ArePossible (a : Alphabet) (impossible : List (List Condition)) (name : List ℕ)
-    (ms : List Condition) (texts : List (List ℕ)) : Type 0 where
+pub record ArePossible (a : Alphabet) (impossible : List (List Matcher)) (name : List ℕ)
+    (ms : List Matcher) (texts : List (List ℕ)) : Type 0 where
   pub over : AreOver a texts
   pub possible : AllByRecursion (λ text. IsTrue (may_have impossible name text)) texts
   pub apart : AreApart ms texts
@@ -51,7 +51,7 @@ pub record ArePossible (a : Alphabet) (impossible : List (List Condition)) (name
 -- Source: own choice.
 -- Example: for `env`, which is not declared, the empty text stands there. If `env=""` is
 -- impossible, no text does.
-abbrev pub standing_in : List (List Condition) → List ℕ → Option Label → List (List ℕ)
+abbrev pub standing_in : List (List Matcher) → List ℕ → Option Label → List (List ℕ)
 standing_in impossible name None = filter (may_have impossible name) ([] ∷ [])
 standing_in impossible name (Some label) = texts_of_label (Some label)
 
@@ -62,7 +62,7 @@ standing_texts s name = standing_in s.impossible name (find (λ l. same_text l.n
 -- they are over an alphabet, no two are alike, and none is alike to one that stands there.
 -- Source: own choice.
 -- Example: if `team` may be `db` alone, it needs `web` for `team="db"`, and then not `ops` too.
-pub record AreNeeded (a : Alphabet) (s : Space) (name : List ℕ) (ms : List Condition)
+pub record AreNeeded (a : Alphabet) (s : Space) (name : List ℕ) (ms : List Matcher)
     (texts : List (List ℕ)) : Type 0 where
   pub possible : ArePossible a s.impossible name ms texts
   pub new : AllByRecursion (λ text. HasAlikeIn ms (standing_texts s name) text → ⊥) texts
@@ -73,7 +73,7 @@ pub record AreNeeded (a : Alphabet) (s : Space) (name : List ℕ) (ms : List Con
 -- Example: if `team="db"` and `a:b="x"` are asked, a universe in which `team` has `db` and absence
 -- does so, except for the second label.
 abbrev pub CoversEachBut :
-    Alphabet → List (List Condition) → List Label → List AskedLabel → List ℕ → Type 0
+    Alphabet → List (List Matcher) → List Label → List AskedLabel → List ℕ → Type 0
 CoversEachBut a impossible u asked unproved =
     (i : ℕ) (l : AskedLabel) → slice_get asked i ≡ Some l
     → (Contains unproved i → ⊥) → l.name ≢ []
@@ -96,13 +96,13 @@ KeepsLabels (l ∷ u) (m ∷ v) = KeepsValues l m × KeepsLabels u v
 -- Source: own choice.
 -- Example: for `team="db"` alone and a space without labels, this is so if `team` has absence and
 -- `db`. It is not if `team` has `web` too, or if there is `env`, which is always absent.
-abbrev pub HasNeeded : Alphabet → Space → List Condition → Label → Type 0
+abbrev pub HasNeeded : Alphabet → Space → List Matcher → Label → Type 0
 HasNeeded a s ms l =
     (needed : List (List ℕ)) × AreNeeded a s l.name (about l.name ms) needed
     × (texts_of_label (Some l) ≡ standing_texts s l.name ++ needed)
     × (needed ≡ [] → Contains (names s.labels) l.name)
 
-abbrev pub AddsNeeded : Alphabet → Space → List Condition → List Label → Type 0
+abbrev pub AddsNeeded : Alphabet → Space → List Matcher → List Label → Type 0
 AddsNeeded a s ms u = AllByRecursion (HasNeeded a s ms) u
 
 -- The texts that the labels of a universe may have are over an alphabet.

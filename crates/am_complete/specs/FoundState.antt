@@ -5,7 +5,7 @@ use Rattle.std.specs.Prelude.{string_bytes, IsTrue}
 use Rattle.std.specs.List.{list_any, AllByRecursion}
 use Rattle.am_universe.specs.LabelSet.{LabelMap, value_of}
 use Rattle.am_universe.specs.Universe.{is_label_name}
-use Rattle.am_labels.specs.Matcher.{Condition}
+use Rattle.am_labels.specs.Matcher.{Matcher}
 use Rattle.am_labels.specs.Space.{Space}
 use Rattle.am_classes.specs.declared.alphabet.Alphabet.{Alphabet}
 use Rattle.am_classes.specs.Alphabet.{IsOver}
@@ -34,7 +34,7 @@ IsFoundAt a s l state_is.Undeclarable =
 IsFoundAt a s l (state_is.Unproved origin) = (l.first ≡ origin) × HasPattern l.matchers
 
 -- The matchers of the impossible lists that ask about a label alone are among those on it.
-abbrev pub HasThoseOfLists : List (List Condition) → AskedLabel → Type 0
+abbrev pub HasThoseOfLists : List (List Matcher) → AskedLabel → Type 0
 HasThoseOfLists impossible l =
     AllByRecursion (λ list. IsTrue (asks_only_of l.name list) → AreAmong list l.matchers)
     impossible
@@ -59,6 +59,6 @@ is_unseen (Some alerts) name = not (list_any (has_label name) alerts)
 -- also says whether its label is unseen.
 pub record IsSoOfName (a : Alphabet) (s : Space) (asked : List AskedLabel)
     (alerts : Option (List LabelMap)) (state : LabelState) : Type 0 where
-  pub so : (ms : List Condition) → IsAskedOf asked ms
+  pub so : (ms : List Matcher) → IsAskedOf asked ms
       → IsSoIfNamed a s ms asked (string_bytes state.name) state.completeness
   pub unseen : state.unseen ≡ is_unseen alerts (string_bytes state.name)

@@ -4,7 +4,7 @@ use Rattle.std.specs.Prelude.{Contains, string_bytes, IsTrue}
 use Rattle.std.specs.List.{filter, list_any}
 use Rattle.am_universe.specs.Text.{same_text}
 use Rattle.am_universe.specs.Universe.{Label, is_label_name, names}
-use Rattle.am_labels.specs.Matcher.{Condition}
+use Rattle.am_labels.specs.Matcher.{Matcher}
 use Rattle.am_labels.specs.Space.{Space}
 use Rattle.am_classes.specs.declared.alphabet.Alphabet.{Alphabet}
 use Rattle.am_classes.specs.Alphabet.{IsOver}
@@ -20,8 +20,8 @@ use Rattle.am_complete.specs.Covering.{ArePossible, CoverPossible}
 -- alike.
 -- Source: own choice.
 -- Example: to `team="db"` and `team!~"db|web"`, if the latter is impossible, `db` and `web` do.
-pub record StandForPossible (a : Alphabet) (impossible : List (List Condition)) (name : List ℕ)
-    (ms : List Condition) (texts : List (List ℕ)) : Type 0 where
+pub record StandForPossible (a : Alphabet) (impossible : List (List Matcher)) (name : List ℕ)
+    (ms : List Matcher) (texts : List (List ℕ)) : Type 0 where
   pub cover : CoverPossible a impossible name ms texts
   pub possible : ArePossible a impossible name ms texts
 
@@ -31,7 +31,7 @@ pub record StandForPossible (a : Alphabet) (impossible : List (List Condition)) 
 -- Example: for `team="db"` and `team="web"` there are three classes: `db`, `web`, and all other
 -- texts. If `team!~"db|web"` is asked too, and is impossible, there are two.
 abbrev pub HasClasses :
-    Alphabet → List (List Condition) → List ℕ → List Condition → ℕ → Type 0
+    Alphabet → List (List Matcher) → List ℕ → List Matcher → ℕ → Type 0
 HasClasses a impossible name ms n =
     (texts : List (List ℕ)) × StandForPossible a impossible name ms texts × (length texts ≡ n)
 
@@ -47,7 +47,7 @@ HasClasses a impossible name ms n =
 -- two classes. So is one with `db` and `web`. One with `web` alone lacks `db`. For `a:b="x"` alone
 -- each universe is `undeclarable` at `a:b`, and for `a:b=~"(?s).*"` each is complete there.
 abbrev pub IsSoAt :
-    Alphabet → Space → List Condition → List AskedLabel → List ℕ → Completeness → Type 0
+    Alphabet → Space → List Matcher → List AskedLabel → List ℕ → Completeness → Type 0
 IsSoAt a s ms asked name (state_is.Complete classes) =
     IsSpaceCompleteAt a s ms name × HasClasses a s.impossible name (about name ms) classes
 IsSoAt a s ms asked name (state_is.Lacks text) =
@@ -63,7 +63,7 @@ IsSoAt a s ms asked name (state_is.Unproved origin) =
 
 -- The same, unless the name is the empty text: no matcher and no label has it.
 abbrev pub IsSoIfNamed :
-    Alphabet → Space → List Condition → List AskedLabel → List ℕ → Completeness → Type 0
+    Alphabet → Space → List Matcher → List AskedLabel → List ℕ → Completeness → Type 0
 IsSoIfNamed a s ms asked name state = name ≢ [] → IsSoAt a s ms asked name state
 
 -- Nothing is missing there: the space is complete at the label.

@@ -7,7 +7,7 @@ use Rattle.std.specs.BTreeMap.{BTreeMap, get_by}
 use Rattle.std.specs.Ordering.{nat_cmp}
 use Rattle.std.specs.Cmp.Lexicographic.{slice_cmp}
 use Rattle.am_labels.specs.declared.op.Op.{Op}
-use Rattle.am_labels.specs.Matcher.{Condition}
+use Rattle.am_labels.specs.Matcher.{Matcher}
 use Rattle.am_complete.specs.AskedLabel.{same_op, asks_same}
 use denote.Ref.{Bor}
 
@@ -17,8 +17,8 @@ operators_with operators value =
     option_map_or (λ found. found.items) (get_by (λ k. slice_cmp nat_cmp value k.now) operators) []
 
 -- A map has the operators that come with each value in some matchers, and no others.
-abbrev pub HasOperatorsOf : BTreeMap (Bor (List ℕ)) (Vec Op Global) → List Condition → Type 0
+abbrev pub HasOperatorsOf : BTreeMap (Bor (List ℕ)) (Vec Op Global) → List Matcher → Type 0
 HasOperatorsOf operators ms =
-    (m : Condition)
+    (m : Matcher)
     → list_any (λ op. same_op op m.op) (operators_with operators m.value)
     ≡ list_any (asks_same m) ms

@@ -16,8 +16,8 @@ ghost use Rattle.am_universe.specs.Text.{same_text};
 ghost use Rattle.am_universe.specs.Universe.{is_empty_text, is_label_name, IsUniverse, names};
 ghost use Rattle.am_universe.specs.declared.kind.Kind.TheVariants as kinds;
 ghost use Rattle.am_universe.specs.UniverseView.{texts_of};
-ghost use Rattle.am_labels.specs.Matcher.{Condition};
-ghost use Rattle.am_complete.specs.Complete.{AreAmong, impossible_conditions, IsSpaceComplete};
+ghost use Rattle.am_labels.specs.Matcher.{Matcher};
+ghost use Rattle.am_complete.specs.Complete.{AreAmong, impossible_matchers, IsSpaceComplete};
 ghost use Rattle.am_complete.specs.AskedLabel.{IsAskedOf};
 ghost use Rattle.am_complete.specs.LabelState.{is_declared};
 ghost use Rattle.am_complete.specs.Covering.{KeepsLabels, AddsNeeded, CoversEachBut, HasTextsOver};
@@ -71,11 +71,11 @@ pub fn universe_beside(
     asked: &[AskedLabel<'_>],
     alerts: Option<&Alerts>,
 ) -> Result<MadeUniverse, Kind>
-    requires { (ms : List Condition) × IsAskedOf asked.now ms
-        × AreAmong (impossible_conditions space.now.impossible) ms }
+    requires { (ms : List Matcher) × IsAskedOf asked.now ms
+        × AreAmong (impossible_matchers space.now.impossible) ms }
     ensures universe { IfOk result (λ made. IsUniverse made.universe) }
     ensures keeps { IfOk result (λ made. KeepsLabels space.now.labels made.universe) }
-    ensures adds { IfOk result (λ made. (ms : List Condition) → IsAskedOf asked.now ms
+    ensures adds { IfOk result (λ made. (ms : List Matcher) → IsAskedOf asked.now ms
         → AddsNeeded alphabet space.now ms made.universe) }
     ensures covers { IfOk result (λ made. CoversEachBut alphabet space.now.impossible
         made.universe asked.now made.unproved.items) }
@@ -84,7 +84,7 @@ pub fn universe_beside(
     ensures unproved { IfOk result (λ made.
         AreUnproved alphabet space.now asked.now made.unproved.items) }
     ensures complete { IfOk result (λ made. made.unproved.items ≡ []
-        → (ms : List Condition) → IsAskedOf asked.now ms
+        → (ms : List Matcher) → IsAskedOf asked.now ms
         → IsSpaceComplete alphabet
         (record { labels = made.universe; impossible = space.now.impossible }) ms) }
     ensures over { IfOk result (λ made. HasTextsOver alphabet space.now.labels
@@ -121,8 +121,8 @@ fn missing_of_each<'m>(
     asked: &[AskedLabel<'m>],
     alerts: Option<&Alerts>,
 ) -> Result<Vec<Missing<'m>>, AllocError>
-    requires { (ms : List Condition) × IsAskedOf asked.now ms
-        × AreAmong (impossible_conditions space.now.impossible) ms }
+    requires { (ms : List Matcher) × IsAskedOf asked.now ms
+        × AreAmong (impossible_matchers space.now.impossible) ms }
     ensures { IfOk result (λ missing. AreMissing alphabet space.now asked.now missing.items) }
 {
     let mut missing = Vec::with_capacity(alloc, asked.len())?;

@@ -2,7 +2,7 @@
 
 ghost use Rattle.std.specs.Prelude.{◌≡◌, List, IfOk, map, Bool, option_map, string_bytes};
 ghost use Rattle.std.specs.List.{find};
-ghost use Rattle.am_labels.specs.Matcher.{Condition};
+ghost use Rattle.am_labels.specs.Matcher.{Matcher};
 ghost use Rattle.am_classes.specs.declared.alphabet.Alphabet.{Alphabet};
 ghost use Rattle.am_complete.specs.Covering.{AreClasses};
 ghost use Rattle.am_complete.specs.Truths.{AreChosenEach, IsChosen, has_same_truths};
@@ -115,7 +115,7 @@ fn is_named(matchers: &[&Matcher], text: &str) -> bool {
 
 /// Puts the texts of a label in order: absence first, and texts with a line feed last.
 pub(crate) fn put_in_order(texts: &mut Vec<String>) -> Result<(), AllocError>
-    ensures { (a : Alphabet) (ms : List Condition) (all : Bool)
+    ensures { (a : Alphabet) (ms : List Matcher) (all : Bool)
         → AreClasses a ms (map string_bytes texts.old.items) all
         → AreClasses a ms (map string_bytes texts.new.items) all }
 {

@@ -6,11 +6,11 @@
 
 ghost use Rattle.std.specs.Prelude.{◌≡◌, List, IfOk, IsTrue, map, string_bytes, option_map};
 ghost use Rattle.std.specs.List.{AllByRecursion, find, list_all, list_any};
-ghost use Rattle.am_labels.specs.Matcher.{Condition};
+ghost use Rattle.am_labels.specs.Matcher.{Matcher};
 ghost use Rattle.am_universe.specs.Text.{same_text};
 ghost use Rattle.am_complete.specs.AskedLabel.{IsAskedOf};
 ghost use Rattle.am_complete.specs.LabelState.{IsSoIfNamed, is_settled, reported_names};
-ghost use Rattle.am_complete.specs.Complete.{IsSpaceComplete, AreAmong, impossible_conditions};
+ghost use Rattle.am_complete.specs.Complete.{IsSpaceComplete, AreAmong, impossible_matchers};
 ghost use Rattle.am_complete.specs.FoundState.{is_unseen, has_label, IsSoOfName};
 
 use crate::made_universe::is_declared;
@@ -34,15 +34,15 @@ pub fn label_states(
     asked: &[AskedLabel<'_>],
     alerts: Option<&Alerts>,
 ) -> Result<Vec<LabelState>, AllocError>
-    requires { (ms : List Condition) × IsAskedOf asked.now ms
-        × AreAmong (impossible_conditions space.now.impossible) ms }
+    requires { (ms : List Matcher) × IsAskedOf asked.now ms
+        × AreAmong (impossible_matchers space.now.impossible) ms }
     ensures names { IfOk result (λ states. map (λ s. string_bytes s.name) states.items
         ≡ reported_names space.now.labels asked.now) }
-    ensures each { IfOk result (λ states. (ms : List Condition) → IsAskedOf asked.now ms
+    ensures each { IfOk result (λ states. (ms : List Matcher) → IsAskedOf asked.now ms
         → AllByRecursion
         (λ s. IsSoIfNamed alphabet space.now ms asked.now (string_bytes s.name) s.completeness)
         states.items) }
-    ensures complete { IfOk result (λ states. (ms : List Condition) → IsAskedOf asked.now ms
+    ensures complete { IfOk result (λ states. (ms : List Matcher) → IsAskedOf asked.now ms
         → IsTrue (list_all (λ s. is_settled s.completeness) states.items)
         → IsSpaceComplete alphabet space.now ms) }
     ensures unseen { IfOk result (λ states. AllByRecursion
@@ -71,8 +71,8 @@ fn state_of(
     alerts: Option<&Alerts>,
     name: &str,
 ) -> Result<LabelState, AllocError>
-    requires { (ms : List Condition) × IsAskedOf asked.now ms
-        × AreAmong (impossible_conditions space.now.impossible) ms }
+    requires { (ms : List Matcher) × IsAskedOf asked.now ms
+        × AreAmong (impossible_matchers space.now.impossible) ms }
     ensures name { IfOk result (λ state. string_bytes state.name ≡ name.now) }
     ensures so { IfOk result (IsSoOfName alphabet space.now asked.now
         (option_map (λ a. a.now) alerts.entry)) }
@@ -94,9 +94,9 @@ fn completeness_of(
     alerts: Option<&Alerts>,
     name: &str,
 ) -> Result<Completeness, AllocError>
-    requires { (ms : List Condition) × IsAskedOf asked.now ms
-        × AreAmong (impossible_conditions space.now.impossible) ms }
-    ensures { IfOk result (λ found. (ms : List Condition) → IsAskedOf asked.now ms
+    requires { (ms : List Matcher) × IsAskedOf asked.now ms
+        × AreAmong (impossible_matchers space.now.impossible) ms }
+    ensures { IfOk result (λ found. (ms : List Matcher) → IsAskedOf asked.now ms
         → IsSoIfNamed alphabet space.now ms asked.now name.now found) }
 {
     match label_of(asked, name) {

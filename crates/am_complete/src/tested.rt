@@ -3,7 +3,7 @@
 
 ghost use Rattle.std.specs.Prelude.{◌≡◌, List, IfOk, map, string_bytes};
 ghost use Rattle.std.specs.List.{list_any};
-ghost use Rattle.am_labels.specs.Matcher.{Condition};
+ghost use Rattle.am_labels.specs.Matcher.{Matcher};
 ghost use Rattle.am_complete.specs.Truths.{AreNewIn, AreTested, has_same_truths, texts_of, truths};
 
 use am_labels::{Matcher, PreparedMatcher};
@@ -71,7 +71,7 @@ pub(crate) fn new_texts(
     mut there: Vec<Tested>,
     wanted: Vec<Tested>,
 ) -> Result<Vec<String>, AllocError>
-    ensures { IfOk result (λ texts. (ms : List Condition) → AreTested ms there.items
+    ensures { IfOk result (λ texts. (ms : List Matcher) → AreTested ms there.items
         → AreTested ms wanted.items
         → AreNewIn ms (texts_of there.items) (texts_of wanted.items)
         (map string_bytes texts.items)) }

@@ -1,7 +1,7 @@
 -- The form of a configuration file is lawful.
 use Rattle.std.proofs.Common.{ℕ, zero, suc, List, Bool, Option, Some, None}
 use Rattle.serde_json.specs.Data.{Data}
-use Rattle.am_labels.specs.Matcher.{Condition}
+use Rattle.am_labels.specs.Matcher.{Matcher}
 use Rattle.am_labels.specs.declared.op.Op.{Op}
 use Rattle.am_json.specs.Reading.{IsLawful, StopsAtFirst}
 use Rattle.am_config.specs.ConfigFile.{SaysConfig, FileSaysConfig}
@@ -30,7 +30,7 @@ unfolding texts_form next_text_form matcher_text_form
 texts_stop is_root key None = search all_stop
 texts_stop is_root key (Some d) = search all_stop depth 30
 
-pairs_stop : (is_root : Bool) (op : Op) (key : List ℕ) (before : List Condition)
+pairs_stop : (is_root : Bool) (op : Op) (key : List ℕ) (before : List Matcher)
     (found : Option Data) → StopsAtFirst (optional_pairs is_root op key before found)
 unfolding pairs_form next_pair_form matcher_pair_form named_text_form
 pairs_stop is_root op key before None = search all_stop

@@ -11,7 +11,7 @@ use Rattle.serde_json.specs.Data.{Data, object, Members}
 use Rattle.am_labels.specs.declared.op.Op.{Op}
 use Rattle.am_labels.specs.declared.op.Op.TheVariants.{Equal, Matches}
 use Rattle.am_labels.specs.declared.limits.TheConstants.{MAX_MATCHERS}
-use Rattle.am_labels.specs.Matcher.{Condition}
+use Rattle.am_labels.specs.Matcher.{Matcher}
 use Rattle.am_labels.specs.MatcherRefusals.{has_valid_pattern, have_valid_patterns}
 use Rattle.am_json.specs.Json.{field, items_of, member_list}
 use Rattle.am_json.specs.OptionalItems.{HasItems}
@@ -27,7 +27,7 @@ use Rattle.am_json.proofs.Deciding.{as_text_decides, cause_decides, count_decide
 use Rattle.am_json.proofs.Deciding.{optional_decides, said_as, then_decides, then_decides_where}
 use Rattle.am_json.proofs.Deciding.{within_decides}
 use Rattle.am_json.proofs.Readings.{Decides}
-use Rattle.am_list_files.proofs.Matching.{checked_matcher_decides, same_condition}
+use Rattle.am_list_files.proofs.Matching.{checked_matcher_decides, same_matcher}
 use Rattle.am_list_files.proofs.MatcherTexts.{spelled_decides}
 use Rattle.am_list_files.proofs.NamedTextLemmas.{named_text_decides}
 use Rattle.am_list_files.specs.MatcherTexts.{SaysMatcherText}
@@ -36,26 +36,26 @@ use Rattle.am_list_files.specs.MatcherTexts.{SaysMatcherText}
 
 -- matchers that are said, behind others: in all there are not too many, and if only the top-level
 -- route has them, none
-pub record Adds (is_root : Bool) (Says : List Condition → Type 0) (before all : List Condition)
+pub record Adds (is_root : Bool) (Says : List Matcher → Type 0) (before all : List Matcher)
     : Type 0 where
-  pub matchers : List Condition
+  pub matchers : List Matcher
   pub says : Says matchers
   pub are : before ++ matchers ≡ all
   pub valid_patterns : IsTrue (have_valid_patterns matchers)
   pub few : length all ≤ MAX_MATCHERS
   pub root : is_root ≡ true → all ≡ []
 
-abbrev Parted : (List Condition → Type 0) → (List Condition → Type 0) → List Condition → Type 0
+abbrev Parted : (List Matcher → Type 0) → (List Matcher → Type 0) → List Matcher → Type 0
 Parted P Q ms =
-    (front : List Condition) × (rest : List Condition) × P front × Q rest × (front ++ rest ≡ ms)
+    (front : List Matcher) × (rest : List Matcher) × P front × Q rest × (front ++ rest ≡ ms)
 
-none_front : (xs ys : List Condition) → xs ++ ys ≡ [] → xs ≡ []
+none_front : (xs ys : List Matcher) → xs ++ ys ≡ [] → xs ≡ []
 none_front [] ys h = refl
 none_front (x ∷ xs) ys h = absurd cc
 
-module _ {is_root : Bool} {before : List Condition} where
+module _ {is_root : Bool} {before : List Matcher} where
   -- the same matchers, of which this is said
-  adds_to : {P Q : List Condition → Type 0} {all : List Condition} {root : Bool}
+  adds_to : {P Q : List Matcher → Type 0} {all : List Matcher} {root : Bool}
       → (adds : Adds root P before all) → Q adds.matchers → (is_root ≡ true → all ≡ [])
       → Adds is_root Q before all
   adds_to adds said root = record {
@@ -67,24 +67,24 @@ module _ {is_root : Bool} {before : List Condition} where
     root = root;
   }
 
-  adds_that : {P Q : List Condition → Type 0} {all : List Condition}
-      → ((ms : List Condition) → length ms ≤ MAX_MATCHERS → P ms → Q ms)
+  adds_that : {P Q : List Matcher → Type 0} {all : List Matcher}
+      → ((ms : List Matcher) → length ms ≤ MAX_MATCHERS → P ms → Q ms)
       → Adds is_root P before all → Adds is_root Q before all
   adds_that f adds =
       adds_to adds (f adds.matchers
       (omega (arith, adds.few, ap length adds.are, length-append before adds.matchers)) adds.says)
       adds.root
 
-  adds_as : {P Q : List Condition → Type 0} {r : Result (List Condition) Refusal}
+  adds_as : {P Q : List Matcher → Type 0} {r : Result (List Matcher) Refusal}
       → Decides (Adds is_root P before) r
-      → ((ms : List Condition) → length ms ≤ MAX_MATCHERS → P ms → Q ms)
-      → ((ms : List Condition) → length ms ≤ MAX_MATCHERS → Q ms → P ms)
+      → ((ms : List Matcher) → length ms ≤ MAX_MATCHERS → P ms → Q ms)
+      → ((ms : List Matcher) → length ms ≤ MAX_MATCHERS → Q ms → P ms)
       → Decides (Adds is_root Q before) r
   adds_as decides to from =
       said_as decides (λ all adds. adds_that to adds) (λ all adds. adds_that from adds)
 
   -- none are added
-  none_added : {P : List Condition → Type 0} {all : List Condition} → length before ≤ MAX_MATCHERS
+  none_added : {P : List Matcher → Type 0} {all : List Matcher} → length before ≤ MAX_MATCHERS
       → (is_root ≡ true → before ≡ []) → P [] → before ≡ all → Adds is_root P before all
   none_added few root said is = record {
     matchers = [];
@@ -96,9 +96,9 @@ module _ {is_root : Bool} {before : List Condition} where
   }
 
   -- some are added, and then others
-  both_decide : {P Q : List Condition → Type 0} {r : Result (List Condition) Refusal}
-      {f : List Condition → Result (List Condition) Refusal} → Decides (Adds is_root P before) r
-      → ((next : List Condition) → length next ≤ MAX_MATCHERS → (is_root ≡ true → next ≡ [])
+  both_decide : {P Q : List Matcher → Type 0} {r : Result (List Matcher) Refusal}
+      {f : List Matcher → Result (List Matcher) Refusal} → Decides (Adds is_root P before) r
+      → ((next : List Matcher) → length next ≤ MAX_MATCHERS → (is_root ≡ true → next ≡ [])
       → Decides (Adds is_root Q next) (f next))
       → Decides (Adds is_root (Parted P Q) before) (result_then r f)
   both_decide {P} {Q} first rest =
@@ -107,7 +107,7 @@ module _ {is_root : Bool} {before : List Condition} where
         matchers = a.matchers ++ b.matchers;
         says = (a.matchers, b.matchers, a.says, b.says, refl);
         are = sym (append_assoc before a.matchers b.matchers)
-            ∙ ap (λ (ms : List Condition). ms ++ b.matchers) a.are ∙ b.are;
+            ∙ ap (λ (ms : List Matcher). ms ++ b.matchers) a.are ∙ b.are;
         valid_patterns = list_all-append has_valid_pattern a.matchers b.matchers
             ∙ and_from _ _ a.valid_patterns b.valid_patterns;
         few = b.few;
@@ -115,12 +115,12 @@ module _ {is_root : Bool} {before : List Condition} where
       })
       (λ all adds. parted all adds adds.says)
     where
-      parted : (all : List Condition) (adds : Adds is_root (Parted P Q) before all)
+      parted : (all : List Matcher) (adds : Adds is_root (Parted P Q) before all)
           → Parted P Q adds.matchers
-          → (next : List Condition) × Adds is_root P before next × Adds is_root Q next all
+          → (next : List Matcher) × Adds is_root P before next × Adds is_root Q next all
       parted all adds (front, rest, p, q, is) =
           let whole : (before ++ front) ++ rest ≡ all =
-          append_assoc before front rest ∙ ap (λ (ms : List Condition). before ++ ms) is ∙ adds.are
+          append_assoc before front rest ∙ ap (λ (ms : List Matcher). before ++ ms) is ∙ adds.are
           in
           let valid = and_parts _ _
           (sym (list_all-append has_valid_pattern front rest)
@@ -150,7 +150,7 @@ module _ {is_root : Bool} {before : List Condition} where
           )
 
 -- together there may not be too many
-append_decides : (before ms : List Condition)
+append_decides : (before ms : List Matcher)
     → Decides (λ all. (before ++ ms ≡ all) × (length all ≤ MAX_MATCHERS))
     ((append_matchers before ms).result)
 append_decides before ms =
@@ -161,20 +161,20 @@ append_decides before ms =
     (λ all (is, few). (tt, omega (arith, few, ap length is, length-append before ms), is))
 
 -- the top-level route may have none
-none_given : (is_root : Bool) (ms : List Condition) → given_fault is_root ms ≡ None
+none_given : (is_root : Bool) (ms : List Matcher) → given_fault is_root ms ≡ None
     → is_root ≡ true → ms ≡ []
 none_given true [] h e = refl
 none_given true (m ∷ ms) h e = absurd cc
 none_given false ms h e = absurd cc
 
-given_none : (is_root : Bool) (ms : List Condition) → (is_root ≡ true → ms ≡ [])
+given_none : (is_root : Bool) (ms : List Matcher) → (is_root ≡ true → ms ≡ [])
     → given_fault is_root ms ≡ None
 given_none true [] none = refl
 given_none true (m ∷ ms) none = let e : m ∷ ms ≡ [] = none refl in absurd cc
 given_none false ms none = refl
 
-unless_root_decides : {P : List Condition → Type 0} {r : Result (List Condition) Refusal}
-    {before : List Condition} (is_root : Bool) → Decides (Adds false P before) r
+unless_root_decides : {P : List Matcher → Type 0} {r : Result (List Matcher) Refusal}
+    {before : List Matcher} (is_root : Bool) → Decides (Adds false P before) r
     → Decides (Adds is_root P before)
     (result_then r (λ ms. (refuse_root_matchers is_root ms).result))
 unless_root_decides {P} {r} {before} is_root read =
@@ -182,7 +182,7 @@ unless_root_decides {P} {r} {before} is_root read =
     (then_decides read
     (λ ms. then_decides (cause_decides (given_fault is_root ms)) (λ _. accept_decides ms)))
     (λ all (ms, adds, (_, none, is)).
-    subst (λ (ns : List Condition). Adds is_root P before ns) is
+    subst (λ (ns : List Matcher). Adds is_root P before ns) is
     (adds_to adds adds.says (none_given is_root ms none)))
     (λ all adds. (
       all,
@@ -191,16 +191,16 @@ unless_root_decides {P} {r} {before} is_root read =
     ))
 
 -- the matchers of a field that may be absent
-module _ (is_root : Bool) (key : List ℕ) (d : Data) (before : List Condition)
+module _ (is_root : Bool) (key : List ℕ) (d : Data) (before : List Matcher)
     (few : length before ≤ MAX_MATCHERS) (root : is_root ≡ true → before ≡ []) where
   -- the field is absent and there are none, or it has this value, which says them
-  abbrev InField : (Data → List Condition → Type 0) → List Condition → Type 0
+  abbrev InField : (Data → List Matcher → Type 0) → List Matcher → Type 0
   InField Says ms =
       ((field key d ≡ None) × (ms ≡ []))
       ⊎ ((v : Data) × (field key d ≡ Some v) × Says v ms)
 
-  in_field_decides : {Says : Data → List Condition → Type 0}
-      (read : Option Data → Result (List Condition) Refusal)
+  in_field_decides : {Says : Data → List Matcher → Type 0}
+      (read : Option Data → Result (List Matcher) Refusal)
       → Decides (λ all. before ≡ all) (read None)
       → ((v : Data) → Decides (Adds is_root (Says v) before) (read (Some v)))
       → Decides (Adds is_root (InField Says) before) (read (field key d))
@@ -215,14 +215,14 @@ module _ (is_root : Bool) (key : List ℕ) (d : Data) (before : List Condition)
             inl (
               absent.0,
               sym (append-nil before)
-                  ∙ ap (λ (ms : List Condition). before ++ ms) (sym absent.1) ∙ adds.are,
+                  ∙ ap (λ (ms : List Matcher). before ++ ms) (sym absent.1) ∙ adds.are,
             )
         | inr there ↦ inr (there.0, there.1, adds_to adds there.2 adds.root)
       ])
 
 -- ---- Texts.
 
-next_text_decides : (before : List Condition) (i : ℕ) (d : Data)
+next_text_decides : (before : List Matcher) (i : ℕ) (d : Data)
     → Decides (Adds false (SaysMatcherText d) before) ((next_text_form before (i, d)).result)
 unfolding next_text_form
 next_text_decides before i d =
@@ -246,17 +246,17 @@ next_text_decides before i d =
     ))
 
 -- the matchers of texts, in order
-pub record SaysTexts (ds : List Data) (ms : List Condition) : Type 0 where
-  pub lists : List (List Condition)
+pub record SaysTexts (ds : List Data) (ms : List Matcher) : Type 0 where
+  pub lists : List (List Matcher)
   pub texts : AllZip SaysMatcherText ds lists
   pub joined : ms ≡ flat_map (λ ns. ns) lists
 
-no_texts : (ms : List Condition) (lists : List (List Condition))
+no_texts : (ms : List Matcher) (lists : List (List Matcher))
     → AllZip SaysMatcherText [] lists → ms ≡ flat_map (λ ns. ns) lists → ms ≡ []
 no_texts ms [] said is = is
 no_texts ms (ns ∷ lists) said is = absurd said
 
-first_text : (d : Data) (ds : List Data) (ms : List Condition) (lists : List (List Condition))
+first_text : (d : Data) (ds : List Data) (ms : List Matcher) (lists : List (List Matcher))
     → AllZip SaysMatcherText (d ∷ ds) lists → ms ≡ flat_map (λ ns. ns) lists
     → Parted (SaysMatcherText d) (SaysTexts ds) ms
 first_text d ds ms [] said is = absurd said
@@ -268,7 +268,7 @@ first_text d ds ms (ns ∷ lists) said is = (
   sym is,
 )
 
-texts_decide : (ds : List Data) (i : ℕ) (before : List Condition) → length before ≤ MAX_MATCHERS
+texts_decide : (ds : List Data) (i : ℕ) (before : List Matcher) → length before ≤ MAX_MATCHERS
     → Decides (Adds false (SaysTexts ds) before)
     ((read_each next_text_form before (enumerate_from i ds)).result)
 unfolding read_each
@@ -277,7 +277,7 @@ texts_decide [] i before few =
     (λ all is. none_added few (λ e. absurd cc) (record { lists = []; texts = tt; joined = refl }) is)
     (λ all adds.
     sym (append-nil before)
-    ∙ ap (λ (ms : List Condition). before ++ ms)
+    ∙ ap (λ (ms : List Matcher). before ++ ms)
     (sym (no_texts adds.matchers adds.says.lists adds.says.texts adds.says.joined)) ∙ adds.are)
 texts_decide (d ∷ ds) i before few =
     adds_as
@@ -286,7 +286,7 @@ texts_decide (d ∷ ds) i before few =
     (λ ms _ (front, rest, said, others, is). record {
       lists = front ∷ others.lists;
       texts = (said, others.texts);
-      joined = sym is ∙ ap (λ (ns : List Condition). front ++ ns) others.joined;
+      joined = sym is ∙ ap (λ (ns : List Matcher). front ++ ns) others.joined;
     })
     (λ ms _ said. first_text d ds ms said.lists said.texts said.joined)
 
@@ -301,20 +301,20 @@ pair_decides op name d =
     (then_decides (named_text_decides name d)
     (λ value. checked_matcher_decides (record { name = name; op = op; value = value })))
     (λ m (value, said, (is, valid)).
-    subst (λ (x : Condition). SaysMatcherPair op (name, d) x × IsTrue (has_valid_pattern x)) is
+    subst (λ (x : Matcher). SaysMatcherPair op (name, d) x × IsTrue (has_valid_pattern x)) is
     ((said, refl), valid))
     (λ m (said, valid).
-    let same = same_condition m name op said.0.0 said.1 in (
+    let same = same_matcher m name op said.0.0 said.1 in (
       m.value,
       (refl, said.0.1, said.0.2),
-      (same, subst (λ (x : Condition). IsTrue (has_valid_pattern x)) (sym same) valid),
+      (same, subst (λ (x : Matcher). IsTrue (has_valid_pattern x)) (sym same) valid),
     ))
 
 -- one matcher, as a list
-abbrev SaysOne : Op → List ℕ × Data → List Condition → Type 0
-SaysOne op pair ms = (m : Condition) × SaysMatcherPair op pair m × (m ∷ [] ≡ ms)
+abbrev SaysOne : Op → List ℕ × Data → List Matcher → Type 0
+SaysOne op pair ms = (m : Matcher) × SaysMatcherPair op pair m × (m ∷ [] ≡ ms)
 
-next_pair_decides : (op : Op) (before : List Condition) (pair : List ℕ × Data)
+next_pair_decides : (op : Op) (before : List Matcher) (pair : List ℕ × Data)
     → Decides (Adds false (SaysOne op pair) before) ((next_pair_form op before pair).result)
 unfolding next_pair_form
 next_pair_decides op before pair =
@@ -335,20 +335,20 @@ next_pair_decides op before pair =
     (ap have_valid_patterns one ∙ adds.valid_patterns) in (
       m,
       (said, valid.0),
-      (ap (λ (ms : List Condition). before ++ ms) one ∙ adds.are, adds.few),
+      (ap (λ (ms : List Matcher). before ++ ms) one ∙ adds.are, adds.few),
     ))
 
-no_pairs : (op : Op) (ms : List Condition) → AllZip (SaysMatcherPair op) [] ms → ms ≡ []
+no_pairs : (op : Op) (ms : List Matcher) → AllZip (SaysMatcherPair op) [] ms → ms ≡ []
 no_pairs op [] said = refl
 no_pairs op (m ∷ ms) said = absurd said
 
 first_pair : (op : Op) (pair : List ℕ × Data) (pairs : List (List ℕ × Data))
-    (ms : List Condition) → AllZip (SaysMatcherPair op) (pair ∷ pairs) ms
+    (ms : List Matcher) → AllZip (SaysMatcherPair op) (pair ∷ pairs) ms
     → Parted (SaysOne op pair) (AllZip (SaysMatcherPair op) pairs) ms
 first_pair op pair pairs [] said = absurd said
 first_pair op pair pairs (m ∷ ms) said = (m ∷ [], ms, (m, said.0, refl), said.1, refl)
 
-pairs_decide : (op : Op) (pairs : List (List ℕ × Data)) (before : List Condition)
+pairs_decide : (op : Op) (pairs : List (List ℕ × Data)) (before : List Matcher)
     → length before ≤ MAX_MATCHERS
     → Decides (Adds false (AllZip (SaysMatcherPair op) pairs) before)
     ((read_each (next_pair_form op) before pairs).result)
@@ -357,15 +357,15 @@ pairs_decide op [] before few =
     said_as (accept_decides before) (λ all is. none_added few (λ e. absurd cc) tt is)
     (λ all adds.
     sym (append-nil before)
-    ∙ ap (λ (ms : List Condition). before ++ ms) (sym (no_pairs op adds.matchers adds.says))
+    ∙ ap (λ (ms : List Matcher). before ++ ms) (sym (no_pairs op adds.matchers adds.says))
     ∙ adds.are)
 pairs_decide op (pair ∷ pairs) before few =
     adds_as
     (both_decide (next_pair_decides op before pair)
     (λ next few _. pairs_decide op pairs next few))
     (λ ms _ (front, rest, (m, said, one), others, is).
-    subst (λ (ns : List Condition). AllZip (SaysMatcherPair op) (pair ∷ pairs) ns)
-    (ap (λ (ns : List Condition). ns ++ rest) one ∙ is) (said, others))
+    subst (λ (ns : List Matcher). AllZip (SaysMatcherPair op) (pair ∷ pairs) ns)
+    (ap (λ (ns : List Matcher). ns ++ rest) one ∙ is) (said, others))
     (λ ms _ said. first_pair op pair pairs ms said)
 
 -- ---- The three fields.
@@ -401,7 +401,7 @@ optional_texts_decide is_root key d =
           (λ v there is. (v, there, (items, is, said))))
     ])
 
-module _ (is_root : Bool) (d : Data) (before : List Condition)
+module _ (is_root : Bool) (d : Data) (before : List Matcher)
     (few : length before ≤ MAX_MATCHERS) (root : is_root ≡ true → before ≡ []) where
   optional_pairs_decide : (op : Op) (key : List ℕ)
       → Decides (Adds is_root (SaysPairs op key d) before)
@@ -450,10 +450,10 @@ matchers_decide fields is_root d =
         match = equals;
         from_match_re = patterns;
         match_re = matches;
-        all = sym adds.are ∙ sym is ∙ sym (ap (λ (ms : List Condition). front ++ ms) two)
-            ∙ ap (λ (ms : List Condition). ms ++ (equal ++ patterns)) texts.joined;
+        all = sym adds.are ∙ sym is ∙ sym (ap (λ (ms : List Matcher). front ++ ms) two)
+            ∙ ap (λ (ms : List Matcher). ms ++ (equal ++ patterns)) texts.joined;
         few = adds.few;
-        valid_patterns = subst (λ (ms : List Condition). IsTrue (have_valid_patterns ms)) adds.are
+        valid_patterns = subst (λ (ms : List Matcher). IsTrue (have_valid_patterns ms)) adds.are
             adds.valid_patterns;
       },
       adds.root,

@@ -7,7 +7,7 @@ use Rattle.std.specs.List.{IsDistinct, AllZip, flat_map}
 use Rattle.serde_json.specs.Data.{Data, string, object, Members}
 use Rattle.am_universe.specs.Text.{same_text}
 use Rattle.am_labels.specs.declared.limits.TheConstants.{MAX_MATCHERS}
-use Rattle.am_labels.specs.Matcher.{Condition}
+use Rattle.am_labels.specs.Matcher.{Matcher}
 use Rattle.am_labels.specs.MatcherRefusals.{have_valid_patterns}
 use Rattle.am_labels.specs.declared.op.Op.{Op}
 use Rattle.am_labels.specs.declared.op.Op.TheVariants.{Equal, Matches}
@@ -24,11 +24,11 @@ use Rattle.am_json.specs.OptionalItems.{HasItems, SaysItemsInField}
 -- are tried after it. (Reference, "<route>".)
 pub record RouteSettings : Type 0 where
   pub receiver : ℕ
-  pub matchers : List Condition
+  pub matchers : List Matcher
   pub continues : Bool
 
 -- The settings of a route that sets nothing but these.
-abbrev pub settings_with : ℕ → List Condition → Bool → RouteSettings
+abbrev pub settings_with : ℕ → List Matcher → Bool → RouteSettings
 settings_with receiver matchers continues =
     record { receiver = receiver; matchers = matchers; continues = continues }
 
@@ -47,8 +47,8 @@ mutual
 -- side has those of the alerts that are inhibited. `equal` has the names of the labels that must
 -- have the same value in both alerts. (Reference, "<inhibit_rule>".)
 pub record Rule : Type 0 where
-  pub source : List Condition
-  pub target : List Condition
+  pub source : List Matcher
+  pub target : List Matcher
   pub equal : List (List ℕ)
 
 -- A configuration: the names of the receivers, the top-level route, and the inhibition rules.
@@ -68,7 +68,7 @@ routes_of (t ∷ ts) = next_route t (routes_of ts)
 abbrev pub settings_of : RouteTree → RouteSettings
 settings_of (route settings children) = settings
 
-abbrev pub matchers_of : RouteTree → List Condition
+abbrev pub matchers_of : RouteTree → List Matcher
 matchers_of t = (settings_of t).matchers
 
 abbrev pub receiver_of : RouteTree → ℕ
@@ -195,12 +195,12 @@ SaysReceiver names parent d receiver =
     NamesReceiver names d receiver ⊎ InheritsReceiver parent d receiver
 
 -- A member of an object says a matcher with this operator.
-abbrev pub SaysMatcherPair : Op → List ℕ × Data → Condition → Type 0
+abbrev pub SaysMatcherPair : Op → List ℕ × Data → Matcher → Type 0
 SaysMatcherPair op pair m = SaysNamedText pair m.name m.value × (m.op ≡ op)
 
 -- A field has an object whose members say matchers with this operator. If the field is absent,
 -- there are none.
-abbrev pub SaysPairs : Op → List ℕ → Data → List Condition → Type 0
+abbrev pub SaysPairs : Op → List ℕ → Data → List Matcher → Type 0
 SaysPairs op key d matchers =
     ((field key d ≡ None) × (matchers ≡ []))
     ⊎ ((members : Members) × (field key d ≡ Some (object members))
@@ -214,15 +214,15 @@ SaysPairs op key d matchers =
 -- choice: their order, their number, and which patterns are valid.
 -- Example: `{"match_re": {"e": "f|g"}, "match": {"c": "d"}, "matchers": ["a!=b"]}` has the matchers
 -- `a!="b"`, `c="d"` and `e=~"f|g"`, in this order.
-pub record SaysMatchers (fields : MatcherFields) (d : Data) (matchers : List Condition)
+pub record SaysMatchers (fields : MatcherFields) (d : Data) (matchers : List Matcher)
     : Type 0 where
   pub items : List Data
   pub is_array : HasItems fields.texts d items
-  pub lists : List (List Condition)
+  pub lists : List (List Matcher)
   pub texts : AllZip SaysMatcherText items lists
-  pub from_match : List Condition
+  pub from_match : List Matcher
   pub match : SaysPairs Equal fields.equalities d from_match
-  pub from_match_re : List Condition
+  pub from_match_re : List Matcher
   pub match_re : SaysPairs Matches fields.patterns d from_match_re
   pub all : matchers ≡ flat_map (λ ms. ms) lists ++ (from_match ++ from_match_re)
   pub few : length matchers ≤ MAX_MATCHERS

@@ -13,7 +13,7 @@ use Rattle.am_labels.specs.declared.op.Op.{Op}
 use Rattle.am_labels.specs.declared.op.Op.TheVariants.{Equal, Matches}
 use Rattle.am_universe.specs.Text.{same_text}
 use Rattle.am_labels.specs.declared.limits.TheConstants.{MAX_MATCHERS}
-use Rattle.am_labels.specs.Matcher.{Condition}
+use Rattle.am_labels.specs.Matcher.{Matcher}
 use Rattle.am_config.specs.declared.limits.TheConstants.{MAX_RECEIVERS, MAX_ROUTES, MAX_LEVELS}
 use Rattle.am_config.specs.declared.limits.TheConstants.{MAX_RULES, MAX_EQUAL_NAMES}
 use Rattle.am_json.specs.Json.{field, is_one_of, member_list}
@@ -101,72 +101,72 @@ receiver_form names parent d =
 -- ---- Matchers.
 
 -- Matchers, appended to others. Together there may be at most `MAX_MATCHERS`.
-abbrev pub append_matchers : List Condition → List Condition → Reading (List Condition)
+abbrev pub append_matchers : List Matcher → List Matcher → Reading (List Matcher)
 append_matchers before ms =
     check_count MAX_MATCHERS (length before + length ms) >>= λ _. accept (before ++ ms)
 
 -- The matchers of an item, which is a text and comes with its position, appended to those of the
 -- items before it. Too many are refused at the array.
-unfoldable pub next_text_form : List Condition → ℕ × Data → Reading (List Condition)
+unfoldable pub next_text_form : List Matcher → ℕ × Data → Reading (List Matcher)
 next_text_form before item = do
   text ← reading_within (to_item item.0) (as_text item.1)
   ms ← matcher_text_form (to_item item.0) [] text
   append_matchers before ms
 
 -- The matchers of the items of an array of texts, in order.
-abbrev pub each_text_form : Form (List Data) (List Condition)
+abbrev pub each_text_form : Form (List Data) (List Matcher)
 each_text_form items = read_each next_text_form [] (enumerate_from 0 items)
 
 -- The matcher of a name and a text, which is a pattern for some operators.
-unfoldable pub matcher_pair_form : Op → List ℕ → Data → Reading Condition
+unfoldable pub matcher_pair_form : Op → List ℕ → Data → Reading Matcher
 matcher_pair_form op name d = do
   value ← named_text_form name d
   check_matcher (record { name = name; op = op; value = value })
 
 -- The same, appended to other matchers.
-unfoldable pub next_pair_form : Op → List Condition → List ℕ × Data → Reading (List Condition)
+unfoldable pub next_pair_form : Op → List Matcher → List ℕ × Data → Reading (List Matcher)
 next_pair_form op before pair = do
   m ← reading_within (to_field pair.0) (matcher_pair_form op pair.0 pair.1)
   append_matchers before (m ∷ [])
 
 -- What is wrong with the matchers of a field: the top-level route may have none.
-abbrev pub given_fault : Bool → List Condition → Option Kind
+abbrev pub given_fault : Bool → List Matcher → Option Kind
 given_fault is_root ms = if is_root && not (is_empty ms) then Some kinds.RootMatchers else None
 
 -- These matchers. On the top-level route they are refused, if there are any.
-abbrev pub refuse_root_matchers : Bool → List Condition → Reading (List Condition)
+abbrev pub refuse_root_matchers : Bool → List Matcher → Reading (List Matcher)
 refuse_root_matchers is_root ms =
     refuse_for (given_fault is_root ms) >>= λ _. accept ms
 
 -- The matchers of an array of texts.
-unfoldable pub texts_form : Bool → Data → Reading (List Condition)
+unfoldable pub texts_form : Bool → Data → Reading (List Matcher)
 texts_form is_root d = do
   items ← as_items d
   ms ← each_text_form items
   refuse_root_matchers is_root ms
 
 -- The matchers of an object of names and texts, appended to others.
-unfoldable pub pairs_form : Bool → Op → List Condition → Data → Reading (List Condition)
+unfoldable pub pairs_form : Bool → Op → List Matcher → Data → Reading (List Matcher)
 pairs_form is_root op before d = do
   members ← as_object d
   ms ← read_each (next_pair_form op) before (member_list members)
   refuse_root_matchers is_root ms
 
 -- The matchers of an optional array of texts, as `matchers`.
-abbrev pub optional_texts : Bool → List ℕ → Option Data → Reading (List Condition)
+abbrev pub optional_texts : Bool → List ℕ → Option Data → Reading (List Matcher)
 optional_texts is_root key None = accept []
 optional_texts is_root key (Some d) = reading_within (to_field key) (texts_form is_root d)
 
 -- The matchers of an optional object of names and texts, as `match` and `match_re`, appended to
 -- others.
-abbrev pub optional_pairs : Bool → Op → List ℕ → List Condition → Option Data
-    → Reading (List Condition)
+abbrev pub optional_pairs : Bool → Op → List ℕ → List Matcher → Option Data
+    → Reading (List Matcher)
 optional_pairs is_root op key before None = accept before
 optional_pairs is_root op key before (Some d) =
     reading_within (to_field key) (pairs_form is_root op before d)
 
 -- The matchers of three fields, one field after the other.
-unfoldable pub matchers_form : MatcherFields → Bool → Data → Reading (List Condition)
+unfoldable pub matchers_form : MatcherFields → Bool → Data → Reading (List Matcher)
 matchers_form fields is_root d = do
   texts ← optional_texts is_root fields.texts (field fields.texts d)
   equal ← optional_pairs is_root Equal fields.equalities texts (field fields.equalities d)

@@ -1,6 +1,6 @@
 -- What each question of one simple part is seen as.
 use Rattle.std.proofs.Common.{◌≡◌, ℕ, List, ap, sym, ◌∙◌}
-use Rattle.am_labels.specs.Matcher.{Condition}
+use Rattle.am_labels.specs.Matcher.{Matcher}
 use Rattle.am_eval.specs.declared.property.Property.{Property}
 use Rattle.am_eval.specs.declared.reach.Reach.{Reach}
 use Rattle.am_eval.specs.declared.question.Question.{fold-roll-Question}
@@ -27,7 +27,7 @@ route_seen reach path =
     ap question_view (sym (variants.rolls-Route reach path))
     ∙ fold-roll-Question Question view_step (Question-F.Route reach path)
 
-pub braces_seen : (matchers : List Condition)
+pub braces_seen : (matchers : List Matcher)
     → question_view (variants.Braces matchers) ≡ Part (Braces matchers)
 braces_seen matchers =
     ap question_view (sym (variants.rolls-Braces matchers))

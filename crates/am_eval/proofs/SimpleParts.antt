@@ -12,7 +12,7 @@ use Rattle.std.proofs.lemmas.Grind.{common_steps}
 use Rattle.am_universe.specs.LabelSet.{LabelMap}
 use Rattle.am_universe.specs.Text.{same_text}
 use Rattle.am_universe.proofs.ListLemmas.{IsIn, IsIn-from_Contains, Contains-from_IsIn}
-use Rattle.am_labels.specs.Matcher.{Condition, condition_holds}
+use Rattle.am_labels.specs.Matcher.{Matcher, condition_holds}
 use Rattle.am_config.specs.ConfigFile.{Configuration, RouteTree, Rule, receiver_of}
 use Rattle.am_config.specs.Path.{route_at}
 use Rattle.am_eval.specs.World.{World}
@@ -124,6 +124,6 @@ some_inhibits w s =
           (passes_among (λ a. inhibits h.0 a s) w.alerts h.1 h.3 h.4),
     )
 
-pub braces_hold : (w : World) (s : LabelMap) (ms : List Condition)
+pub braces_hold : (w : World) (s : LabelMap) (ms : List Matcher)
     → IsTrue (holds_of w (Braces ms) s) ↔ AllByRecursion (λ m. IsTrue (condition_holds s m)) ms
 braces_hold w s = all_exactly (condition_holds s) _ (λ m. (λ e. e, λ e. e))

@@ -6,7 +6,7 @@ use Rattle.std.specs.Prelude.{ℕ, List, [], ◌∷◌, ◌++◌, map, take, sli
 use Rattle.std.specs.Prelude.{if◌then◌else◌, Option, Some, None, ◌==◌}
 use Rattle.std.specs.List.{filter, flat_map, list_all, list_any}
 use Rattle.am_universe.specs.LabelSet.{LabelMap, value_of}
-use Rattle.am_labels.specs.Matcher.{Condition, all_hold}
+use Rattle.am_labels.specs.Matcher.{Matcher, all_hold}
 use Rattle.am_labels.specs.declared.op.Op.TheVariants as ops
 use Rattle.am_config.specs.ConfigFile.{RouteTree, Configuration, Rule, matchers_of, continues_of}
 use Rattle.am_config.specs.ConfigFile.{receiver_of, children_of}
@@ -26,13 +26,13 @@ use Rattle.am_eval.specs.Question.{Simple, Is, Receiver, Route, Braces}
 -- Source: propositional logic, where a literal is a statement or its negation.
 -- Example: `not_matching` of `severity="critical"` says that the alert is not critical.
 pub record Literal : Type 0 where
-  pub matchers : List Condition
+  pub matchers : List Matcher
   pub wanted : Bool
 
-abbrev pub matching : List Condition → Literal
+abbrev pub matching : List Matcher → Literal
 matching matchers = record { matchers = matchers; wanted = true }
 
-abbrev pub not_matching : List Condition → Literal
+abbrev pub not_matching : List Matcher → Literal
 not_matching matchers = record { matchers = matchers; wanted = false }
 
 -- A literal that is wanted is true of a label set that matches its list. One that is not wanted is
@@ -120,7 +120,7 @@ silencing_ways w =
 -- a label with an empty value are the same thing.
 -- Example: for the label `team` it is `team="db"` if the firing alert is of the team `db`, and
 -- `team=""` if it has no team.
-abbrev pub same_value : LabelMap → List ℕ → Condition
+abbrev pub same_value : LabelMap → List ℕ → Matcher
 same_value firing name =
     record { name = name; op = ops.Equal; value = value_of firing name }
 

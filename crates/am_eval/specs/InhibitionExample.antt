@@ -2,7 +2,7 @@
 use Rattle.std.specs.Prelude.{ℕ, List, [], ◌∷◌, None, codes}
 use Rattle.std.specs.FinMap.{from_entries}
 use Rattle.am_universe.specs.LabelSet.{LabelMap}
-use Rattle.am_labels.specs.Matcher.{Condition}
+use Rattle.am_labels.specs.Matcher.{Matcher}
 use Rattle.am_labels.specs.declared.op.Op.TheVariants.{Equal, NotEqual}
 use Rattle.am_config.specs.ConfigFile.{Rule}
 use Rattle.am_eval.specs.RoutingExamples.{worked, severity_critical}
@@ -15,14 +15,14 @@ team_db_critical =
     ((codes "severity", codes "critical") ∷ (codes "team", codes "db") ∷ [])
 
 -- The matchers `severity="warning"` and `severity!=""`, which asks for any severity.
-abbrev pub severity_warning : Condition
+abbrev pub severity_warning : Matcher
 severity_warning = record { name = codes "severity"; op = Equal; value = codes "warning" }
 
-abbrev pub severity_any : Condition
+abbrev pub severity_any : Matcher
 severity_any = record { name = codes "severity"; op = NotEqual; value = [] }
 
 -- A rule with one matcher on each side, and with one label in `equal`.
-abbrev pub example_rule : Condition → Condition → List ℕ → Rule
+abbrev pub example_rule : Matcher → Matcher → List ℕ → Rule
 example_rule source target label =
     record { source = source ∷ []; target = target ∷ []; equal = label ∷ [] }
 
@@ -35,7 +35,7 @@ world_of_rules rules = record {
   instant = None;
 }
 
-abbrev pub inhibiting_world : Condition → Condition → List ℕ → World
+abbrev pub inhibiting_world : Matcher → Matcher → List ℕ → World
 inhibiting_world source target label = world_of_rules (example_rule source target label ∷ [])
 
 -- The world of that alert and two rules for the same team: from `warning` to `critical`, and from

@@ -4,7 +4,7 @@ use Rattle.std.specs.List.{filter, list_any}
 use Rattle.am_universe.specs.Universe.{Label}
 use Rattle.am_universe.specs.LabelSet.{LabelMap, label_set_of}
 use Rattle.am_universe.specs.Text.{same_text}
-use Rattle.am_labels.specs.Matcher.{Condition, all_hold}
+use Rattle.am_labels.specs.Matcher.{Matcher, all_hold}
 use Rattle.am_labels.specs.Space.{Space, is_possible_choice, all_choices}
 use Rattle.am_config.specs.Path.{leads_through}
 use Rattle.am_eval.specs.declared.property.Property.{Property}
@@ -27,7 +27,7 @@ pub data Simple : Type 0 where
   Is : Property → Simple
   Receiver : ℕ → Simple
   Route : Reach → List ℕ → Simple
-  Braces : List Condition → Simple
+  Braces : List Matcher → Simple
 
 -- A question about a world: simple parts, joined by `not`, `and` and `or`.
 abbrev pub Question : Type 0

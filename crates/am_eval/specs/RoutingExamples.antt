@@ -2,20 +2,20 @@
 -- that it is asked about.
 use Rattle.std.specs.Prelude.{◌≡◌, ℕ, List, [], ◌∷◌, Bool, true, false, codes}
 use Rattle.am_universe.specs.LabelSet.{LabelMap, value_of}
-use Rattle.am_labels.specs.Matcher.{Condition}
+use Rattle.am_labels.specs.Matcher.{Matcher}
 use Rattle.am_labels.specs.declared.op.Op.TheVariants.{Equal}
 use Rattle.am_config.specs.ConfigFile.{Configuration, RouteTree, route, routes_of, settings_with}
 
 -- A route with this receiver, these matchers, with or without `continue`, and with these children.
-abbrev pub node : ℕ → List Condition → Bool → List RouteTree → RouteTree
+abbrev pub node : ℕ → List Matcher → Bool → List RouteTree → RouteTree
 node receiver matchers continues children =
     route (settings_with receiver matchers continues) (routes_of children)
 
 -- The matchers `team="db"` and `severity="critical"`.
-abbrev pub team_db : Condition
+abbrev pub team_db : Matcher
 team_db = record { name = codes "team"; op = Equal; value = codes "db" }
 
-abbrev pub severity_critical : Condition
+abbrev pub severity_critical : Matcher
 severity_critical = record { name = codes "severity"; op = Equal; value = codes "critical" }
 
 -- In the configuration, the top-level route has the receiver `default`. Below it, `/0` asks for the

@@ -9,7 +9,7 @@ ghost use Rattle.std.specs.List.Sorted.{IsStrictlySortedBy};
 ghost use Rattle.am_universe.specs.Choice.{choices};
 ghost use Rattle.am_universe.specs.Universe.{sizes};
 ghost use Rattle.am_universe.specs.LabelSet.{LabelMap, label_set_of, value_of};
-ghost use Rattle.am_labels.specs.Matcher.{all_hold, Condition, condition_holds};
+ghost use Rattle.am_labels.specs.Matcher.{all_hold, Matcher, condition_holds};
 ghost use Rattle.am_labels.specs.Space.{Space, IsChoiceOf};
 ghost use Rattle.am_config.specs.ConfigFile.{RouteTree, Configuration, IsConfig, matchers_of};
 ghost use Rattle.am_config.specs.ConfigFile.{children_of, continues_of, receiver_of, Rule};
@@ -127,7 +127,7 @@ pub fn a_simple_part_is_true_as_it_says()
     ensures inhibited { (w : World) (s : LabelMap) → IsTrue (holds_of w (Is Inhibited) s)
         ↔ ((rule : Rule) × (firing : LabelMap) × Contains w.config.rules rule
         × Contains w.alerts firing × IsTrue (inhibits rule firing s)) }
-    ensures braces { (w : World) (s : LabelMap) (matchers : List Condition)
+    ensures braces { (w : World) (s : LabelMap) (matchers : List Matcher)
         → IsTrue (holds_of w (Braces matchers) s)
         ↔ AllByRecursion (λ m. IsTrue (condition_holds s m)) matchers }
 {}

@@ -9,7 +9,7 @@ use Rattle.std.proofs.lemmas.Str.{IsUtf8-nil}
 use Rattle.am_universe.specs.Universe.{Label}
 use Rattle.am_universe.specs.LabelSet.{LabelMap}
 use Rattle.am_universe.proofs.ListLemmas.{AllByRecursion-at, AllByRecursion-each}
-use Rattle.am_labels.specs.Matcher.{Condition}
+use Rattle.am_labels.specs.Matcher.{Matcher}
 use Rattle.am_labels.specs.Space.{Space}
 use Rattle.am_classes.specs.declared.alphabet.Alphabet.TheVariants.{Unicode, Ascii}
 use Rattle.am_classes.specs.Alphabet.{is_printable, IsOrdinary, IsOver}
@@ -32,17 +32,17 @@ ordinary_is_utf8 (b ∷ text) h =
 
 -- ---- Universes and spaces.
 
-pub complete_at_over_ascii : (u : List Label) (ms : List Condition) (name : List ℕ)
+pub complete_at_over_ascii : (u : List Label) (ms : List Matcher) (name : List ℕ)
     → IsCompleteAt Unicode u ms name → IsCompleteAt Ascii u ms name
 complete_at_over_ascii u ms name complete text ordinary =
     complete text (ordinary_is_utf8 text ordinary)
 
-pub complete_over_ascii : (u : List Label) (ms : List Condition) → IsComplete Unicode u ms
+pub complete_over_ascii : (u : List Label) (ms : List Matcher) → IsComplete Unicode u ms
     → IsComplete Ascii u ms
 complete_over_ascii u ms complete name some text ordinary =
     complete name some text (ordinary_is_utf8 text ordinary)
 
-pub space_complete_over_ascii : (s : Space) (ms : List Condition) → IsSpaceComplete Unicode s ms
+pub space_complete_over_ascii : (s : Space) (ms : List Matcher) → IsSpaceComplete Unicode s ms
     → IsSpaceComplete Ascii s ms
 space_complete_over_ascii s ms complete name some text ordinary =
     complete name some text (ordinary_is_utf8 text ordinary)

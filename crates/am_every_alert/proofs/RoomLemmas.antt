@@ -16,7 +16,7 @@ use Rattle.am_universe.proofs.DistinctLists.{all_push, distinct_front}
 use Rattle.am_universe.proofs.ListLemmas.{IsIn, IsIn-left, IsIn-split, IsIn-unmap}
 use Rattle.am_universe.proofs.ListLemmas.{IsIn-from_Contains, Contains-from_IsIn}
 use Rattle.am_universe.proofs.ListLemmas.{AllByRecursion-at, AllByRecursion-each}
-use Rattle.am_labels.specs.Matcher.{Condition}
+use Rattle.am_labels.specs.Matcher.{Matcher}
 use Rattle.am_labels.specs.Space.{Space}
 use Rattle.am_labels.proofs.Passing.{any_in, in_any}
 use Rattle.am_classes.specs.declared.alphabet.Alphabet.{Alphabet}
@@ -24,7 +24,7 @@ use Rattle.am_classes.specs.Alphabet.{IsOver}
 use Rattle.am_classes.specs.Alike.{HasAlikeIn}
 use Rattle.am_classes.proofs.OverLemmas.{nil_over}
 use Rattle.am_complete.specs.Complete.{label_texts, texts_of_label, may_have, IsSpaceComplete}
-use Rattle.am_complete.specs.Complete.{about, AreAmong, impossible_conditions}
+use Rattle.am_complete.specs.Complete.{about, AreAmong, impossible_matchers}
 use Rattle.am_complete.specs.AskedLabel.{AskedLabel, asked_names, IsAskedOf}
 use Rattle.am_complete.specs.Covering.{standing_texts, standing_in, AreNeeded, KeepsValues}
 use Rattle.am_complete.specs.Covering.{KeepsLabels}
@@ -71,7 +71,7 @@ kept_names (l ∷ u) [] keeps = absurd keeps
 kept_names (l ∷ u) (m ∷ v) keeps =
     let r = kept_names u v keeps.1 in (r.0, λ i. keeps.0.0 i ∷ r.1 i)
 
-module _ (a : Alphabet) (s : Space) (asked : List AskedLabel) (ms : List Condition)
+module _ (a : Alphabet) (s : Space) (asked : List AskedLabel) (ms : List Matcher)
     (v : List Label) (keeps : KeepsLabels s.labels v) (asks : IsAskedOf asked ms)
     (complete : IsSpaceComplete a (record { labels = v; impossible = s.impossible }) ms) where
   has_each : (l : AskedLabel) (text : List ℕ) → IsIn asked l → l.name ≢ [] → IsOver a text
@@ -146,7 +146,7 @@ module _ (a : Alphabet) (s : Space) (asked : List AskedLabel) (ms : List Conditi
 
   -- ---- A label that has to be declared is.
 
-  module _ (among : AreAmong (impossible_conditions s.impossible) ms) where
+  module _ (among : AreAmong (impossible_matchers s.impossible) ms) where
     declared_where_needed : (l : AskedLabel) → IsIn asked l → HasToBeDeclared a s l
         → list_any (same_text l.name) (names v) ≡ true
     declared_where_needed l i needs =

@@ -8,7 +8,7 @@ use Rattle.std.proofs.lemmas.Grind.{common_steps}
 use Rattle.am_universe.specs.LabelSet.{LabelMap}
 use Rattle.am_universe.proofs.ListLemmas.{IsIn, AllByRecursion-each, AllByRecursion-at}
 use Rattle.am_universe.proofs.Members.{joined_in}
-use Rattle.am_labels.specs.Matcher.{Condition, condition_holds, all_hold}
+use Rattle.am_labels.specs.Matcher.{Matcher, condition_holds, all_hold}
 use Rattle.am_labels.specs.Space.{is_possible}
 use Rattle.am_labels.proofs.Passing.{kept_from_passes}
 use Rattle.am_list_files.specs.SilencesFile.{Silence}
@@ -22,83 +22,83 @@ use Rattle.am_eval.specs.World.{World}
 use Rattle.am_eval.specs.Tree.{Part, Not, And, Or}
 use Rattle.am_eval.specs.Question.{Question, Simple, Is, Receiver, Route, Braces, reaches}
 use Rattle.am_eval.specs.Question.{holds_of, satisfies}
-use Rattle.am_asked.specs.Asked.{simple_conditions, question_conditions}
+use Rattle.am_asked.specs.Asked.{simple_matchers, question_matchers}
 use Rattle.am_eval.proofs.ConditionLaws.{same_property}
 use Rattle.am_eval.proofs.HidingConditions.{same_values}
 use Rattle.am_every_alert.specs.EveryAlert.{MeetsTheSame, HaveTheSameFate}
-use Rattle.am_complete.specs.Complete.{AreAmong, impossible_conditions}
-use Rattle.am_asked.specs.Asked.{route_conditions, routes_conditions, rule_conditions}
-use Rattle.am_asked.specs.Asked.{equal_to_alert, equal_conditions, silence_conditions}
-use Rattle.am_asked.specs.Asked.{world_conditions}
+use Rattle.am_complete.specs.Complete.{AreAmong, impossible_matchers}
+use Rattle.am_asked.specs.Asked.{route_matchers, routes_matchers, rule_matchers}
+use Rattle.am_asked.specs.Asked.{equal_to_alert, equal_matchers, silence_matchers}
+use Rattle.am_asked.specs.Asked.{world_matchers}
 use Rattle.am_complete.proofs.Alike.{is_among}
 
 module _ (s t : LabelMap) where
-  abbrev IsMetAlike : Condition → Type 0
+  abbrev IsMetAlike : Matcher → Type 0
   IsMetAlike m = condition_holds s m ≡ condition_holds t m
 
   -- ---- Parts of the matchers.
 
-  pub met_of_some : (ns ms : List Condition) → AreAmong ns ms → MeetsTheSame ms s t
+  pub met_of_some : (ns ms : List Matcher) → AreAmong ns ms → MeetsTheSame ms s t
       → MeetsTheSame ns s t
   met_of_some ns ms among h =
       AllByRecursion-each IsMetAlike ns
       (λ m i. AllByRecursion-at IsMetAlike ms m h (is_among ns ms m among i))
 
-  pub front_met : (ms ns : List Condition) → MeetsTheSame (ms ++ ns) s t → MeetsTheSame ms s t
+  pub front_met : (ms ns : List Matcher) → MeetsTheSame (ms ++ ns) s t → MeetsTheSame ms s t
   front_met [] ns h = tt
   front_met (m ∷ ms) ns h = (h.0, front_met ms ns h.1)
 
-  pub rest_met : (ms ns : List Condition) → MeetsTheSame (ms ++ ns) s t → MeetsTheSame ns s t
+  pub rest_met : (ms ns : List Matcher) → MeetsTheSame (ms ++ ns) s t → MeetsTheSame ns s t
   rest_met [] ns h = h
   rest_met (m ∷ ms) ns h = rest_met ms ns h.1
 
-  pub all_alike : (ms : List Condition) → MeetsTheSame ms s t → all_hold s ms ≡ all_hold t ms
+  pub all_alike : (ms : List Matcher) → MeetsTheSame ms s t → all_hold s ms ≡ all_hold t ms
   all_alike [] h = refl
   all_alike (m ∷ ms) h = λ i. h.0 i && all_alike ms h.1 i
 
   -- ---- Routes.
 
-  pub own_alike : (r : RouteTree) → MeetsTheSame (route_conditions r) s t
+  pub own_alike : (r : RouteTree) → MeetsTheSame (route_matchers r) s t
       → all_hold s (matchers_of r) ≡ all_hold t (matchers_of r)
   own_alike (route settings children) h =
-      all_alike settings.matchers (front_met settings.matchers (routes_conditions children) h)
+      all_alike settings.matchers (front_met settings.matchers (routes_matchers children) h)
 
   mutual
-    ends_alike : (r : RouteTree) → MeetsTheSame (route_conditions r) s t
+    ends_alike : (r : RouteTree) → MeetsTheSame (route_matchers r) s t
         → ends_at s r ≡ ends_at t r
     ends_alike (route settings children) h =
         let own = own_alike (route settings children) h in
         let below = children_alike children 0
-        (rest_met settings.matchers (routes_conditions children) h) in
+        (rest_met settings.matchers (routes_matchers children) h) in
         λ i. cond (own i) (or_own_path (ends_tried (below i))) []
 
-    children_alike : (rs : Routes) (position : ℕ) → MeetsTheSame (routes_conditions rs) s t
+    children_alike : (rs : Routes) (position : ℕ) → MeetsTheSame (routes_matchers rs) s t
         → children_seen s position rs ≡ children_seen t position rs
     children_alike no_routes position h = refl
     children_alike (next_route r rs) position h =
-        let first = front_met (route_conditions r) (routes_conditions rs) h in
+        let first = front_met (route_matchers r) (routes_matchers rs) h in
         let own = own_alike r first in
         let below = ends_alike r first in
         let later = children_alike rs (position + 1)
-        (rest_met (route_conditions r) (routes_conditions rs) h) in
+        (rest_met (route_matchers r) (routes_matchers rs) h) in
         λ i. record {
           matches = own i;
           continues = continues_of r;
           ends = map (λ path. position ∷ path) (below i);
         } ∷ later i
 
-  pub same_ends : (c : Configuration) → MeetsTheSame (route_conditions c.root) s t
+  pub same_ends : (c : Configuration) → MeetsTheSame (route_matchers c.root) s t
       → ends s c ≡ ends t c
   same_ends c h = ends_alike c.root h
 
-  pub same_receivers : (c : Configuration) → MeetsTheSame (route_conditions c.root) s t
+  pub same_receivers : (c : Configuration) → MeetsTheSame (route_matchers c.root) s t
       → receivers s c ≡ receivers t c
   same_receivers c h = ap (filter_map (receiver_at c)) (same_ends c h)
 
   -- ---- Silences and impossible lists.
 
   -- what is met alike of the matchers of all items is met alike of those of each
-  each_met : {X : Type 0} (conditions : X → List Condition) (xs : List X) (x : X) → IsIn xs x
+  each_met : {X : Type 0} (conditions : X → List Matcher) (xs : List X) (x : X) → IsIn xs x
       → MeetsTheSame (flat_map conditions xs) s t → MeetsTheSame (conditions x) s t
   each_met conditions xs x there h =
       AllByRecursion-each IsMetAlike (conditions x) (λ m i.
@@ -110,7 +110,7 @@ module _ (s t : LabelMap) where
   any_alike f g (x ∷ xs) each =
       λ i. each x (inl refl) i || any_alike f g xs (λ y later. each y (inr later)) i
 
-  pub same_silenced : (w : World) → MeetsTheSame (silence_conditions w.silences) s t
+  pub same_silenced : (w : World) → MeetsTheSame (silence_matchers w.silences) s t
       → is_silenced w s ≡ is_silenced w t
   same_silenced w h =
       any_alike (hides w s) (hides w t) w.silences (λ silence there i.
@@ -118,12 +118,12 @@ module _ (s t : LabelMap) where
       && all_alike silence.matchers
       (each_met (λ (x : Silence). x.matchers) w.silences silence there h) i)
 
-  pub same_possible : (lists : List (List Condition))
-      → MeetsTheSame (impossible_conditions lists) s t
+  pub same_possible : (lists : List (List Matcher))
+      → MeetsTheSame (impossible_matchers lists) s t
       → is_possible lists s ≡ is_possible lists t
   same_possible lists h =
       ap not (any_alike (all_hold s) (all_hold t) lists (λ ms there.
-      all_alike ms (each_met (λ (x : List Condition). x) lists ms there h)))
+      all_alike ms (each_met (λ (x : List Matcher). x) lists ms there h)))
 
   -- ---- Inhibition rules.
 
@@ -149,8 +149,8 @@ module _ (s t : LabelMap) where
   fires rule firing = all_hold firing rule.source
 
   rules_alike : (rules : List Rule) (alerts : List LabelMap)
-      → MeetsTheSame (rule_conditions rules) s t
-      → MeetsTheSame (equal_conditions rules alerts) s t
+      → MeetsTheSame (rule_matchers rules) s t
+      → MeetsTheSame (equal_matchers rules alerts) s t
       → list_any (λ rule. list_any (λ a. inhibits rule a s) alerts) rules
       ≡ list_any (λ rule. list_any (λ a. inhibits rule a t) alerts) rules
   rules_alike rules alerts sides equal = any_alike _ _ rules (λ rule there.
@@ -168,19 +168,19 @@ module _ (s t : LabelMap) where
         | inr not_fired ↦ rw not_fired refl
       ]))
 
-  pub same_inhibited : (w : World) → MeetsTheSame (rule_conditions w.config.rules) s t
-      → MeetsTheSame (equal_conditions w.config.rules w.alerts) s t
+  pub same_inhibited : (w : World) → MeetsTheSame (rule_matchers w.config.rules) s t
+      → MeetsTheSame (equal_matchers w.config.rules w.alerts) s t
       → is_inhibited w s ≡ is_inhibited w t
   same_inhibited w sides equal = rules_alike w.config.rules w.alerts sides equal
 
   -- ---- A world.
 
-  pub same_fate : (w : World) → MeetsTheSame (world_conditions w) s t → HaveTheSameFate w s t
+  pub same_fate : (w : World) → MeetsTheSame (world_matchers w) s t → HaveTheSameFate w s t
   same_fate w h =
-      let routes = route_conditions w.config.root in
-      let sides = rule_conditions w.config.rules in
-      let equal = equal_conditions w.config.rules w.alerts in
-      let silences = silence_conditions w.silences in
+      let routes = route_matchers w.config.root in
+      let sides = rule_matchers w.config.rules in
+      let equal = equal_matchers w.config.rules w.alerts in
+      let silences = silence_matchers w.silences in
       let on_routes = front_met routes (sides ++ (equal ++ silences)) h in
       let others = rest_met routes (sides ++ (equal ++ silences)) h in
       let more = rest_met sides (equal ++ silences) others in
@@ -195,7 +195,7 @@ module _ (s t : LabelMap) where
   -- ---- Questions.
 
   part_alike : (w : World) (simple : Simple) → HaveTheSameFate w s t
-      → MeetsTheSame (simple_conditions simple) s t → holds_of w simple s ≡ holds_of w simple t
+      → MeetsTheSame (simple_matchers simple) s t → holds_of w simple s ≡ holds_of w simple t
   part_alike w (Is property) fate h =
       same_property w w s t property fate.same_silenced fate.same_inhibited
   part_alike w (Receiver receiver) fate h =
@@ -204,7 +204,7 @@ module _ (s t : LabelMap) where
   part_alike w (Braces matchers) fate h = all_alike matchers h
 
   pub same_truth : (w : World) (q : Question) → HaveTheSameFate w s t
-      → MeetsTheSame (question_conditions q) s t → satisfies w q s ≡ satisfies w q t
+      → MeetsTheSame (question_matchers q) s t → satisfies w q s ≡ satisfies w q t
   same_truth w (Part simple) fate h = part_alike w simple fate h
   same_truth w (Not q) fate h = ap not (same_truth w q fate h)
   same_truth w (And q r) fate h =

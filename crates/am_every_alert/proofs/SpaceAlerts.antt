@@ -9,7 +9,7 @@ use Rattle.am_universe.specs.Universe.{Label, IsUniverse, sizes}
 use Rattle.am_universe.specs.Choice.{IsWhole}
 use Rattle.am_universe.specs.LabelSet.{LabelMap, value_of, label_set_of}
 use Rattle.am_universe.proofs.ListLemmas.{IsIn, IsIn-from_Contains, Contains-from_IsIn}
-use Rattle.am_labels.specs.Matcher.{Condition, all_hold}
+use Rattle.am_labels.specs.Matcher.{Matcher, all_hold}
 use Rattle.am_labels.specs.Space.{Space, is_possible, IsChoiceOf}
 use Rattle.am_labels.proofs.Passing.{any_in, in_any}
 use Rattle.am_config.specs.ConfigFile.{Configuration}
@@ -24,15 +24,15 @@ use Rattle.am_classes.specs.Alike.{AreAlike}
 use Rattle.am_classes.proofs.OverLemmas.{nil_over}
 use Rattle.am_complete.specs.Complete.{about, label_texts, HasAlike, IsComplete, IsSpaceComplete}
 use Rattle.am_complete.specs.Complete.{asks_only_of, matches_text, may_have}
-use Rattle.am_asked.specs.Asked.{route_conditions, world_conditions, question_conditions}
-use Rattle.am_complete.specs.Complete.{impossible_conditions}
+use Rattle.am_asked.specs.Asked.{route_matchers, world_matchers, question_matchers}
+use Rattle.am_complete.specs.Complete.{impossible_matchers}
 use Rattle.am_complete.specs.Covering.{HasTextsOver}
 use Rattle.am_complete.proofs.Alike.{alike_itself}
 use Rattle.am_complete.proofs.LabelTexts.{undeclared_texts}
 use Rattle.am_complete.proofs.CompleteUniverses.{alone_truth, takes_away}
 use Rattle.am_every_alert.specs.EveryAlert.{IsAlert, IsAlertOf, MeetsTheSame, HaveTheSameFate}
-use Rattle.am_every_alert.specs.Deciding.{coverage_conditions, asked_conditions, StandsFor}
-use Rattle.am_every_alert.specs.Deciding.{deciding_conditions}
+use Rattle.am_every_alert.specs.Deciding.{coverage_matchers, asked_matchers, StandsFor}
+use Rattle.am_every_alert.specs.Deciding.{deciding_matchers}
 use Rattle.am_every_alert.proofs.CompleteSpaces.{complete_space}
 use Rattle.am_every_alert.proofs.StandingChoice.{standing_choice}
 use Rattle.am_every_alert.proofs.UniverseAlerts.{universe_alert}
@@ -59,7 +59,7 @@ no_value a s alert = by (get s []) refl
     by (Some text) e = absurd ((alert [] text e).0 refl)
 
 -- a label of a possible alert may have the text that it has
-possible_value : (impossible : List (List Condition)) (alert : LabelMap) (name : List ℕ)
+possible_value : (impossible : List (List Matcher)) (alert : LabelMap) (name : List ℕ)
     → IsTrue (is_possible impossible alert)
     → IsTrue (may_have impossible name (value_of alert name))
 possible_value impossible alert name possible =
@@ -73,7 +73,7 @@ possible_value impossible alert name possible =
     (in_any (all_hold alert) impossible found.0 found.1
     (alone_truth alert name found.0 parts.0 ∙ parts.1))))
 
-alert_alike : (a : Alphabet) (s : Space) (ms : List Condition) (alert : LabelMap)
+alert_alike : (a : Alphabet) (s : Space) (ms : List Matcher) (alert : LabelMap)
     → IsUniverse s.labels → IsSpaceComplete a s ms → IsAlertOf a s alert → (name : List ℕ)
     → HasAlike s.labels ms name (value_of alert name)
 alert_alike a s ms alert h complete is (c ∷ cs) =
@@ -87,13 +87,13 @@ alert_alike a s ms alert h complete is [] =
       subst (AreAlike (about [] ms) []) (sym (no_value a alert is.0)) (alike_itself (about [] ms) []),
     )
 
-pub space_choice : (a : Alphabet) (s : Space) (ms : List Condition) (alert : LabelMap)
+pub space_choice : (a : Alphabet) (s : Space) (ms : List Matcher) (alert : LabelMap)
     → IsUniverse s.labels → IsSpaceComplete a s ms → IsAlertOf a s alert
     → (c : List ℕ) × IsWhole (sizes s.labels) c × MeetsTheSame ms (label_set_of s.labels c) alert
 space_choice a s ms alert h complete is =
     standing_choice s.labels ms alert h (λ m i. alert_alike a s ms alert h complete is m.name)
 
-pub alert_choice : (a : Alphabet) (u : List Label) (ms : List Condition) (s : LabelMap)
+pub alert_choice : (a : Alphabet) (u : List Label) (ms : List Matcher) (s : LabelMap)
     → IsUniverse u → IsComplete a u ms → IsAlert a s
     → (c : List ℕ) × IsWhole (sizes u) c × MeetsTheSame ms (label_set_of u c) s
 alert_choice a u ms s h complete alert =
@@ -103,10 +103,10 @@ alert_choice a u ms s h complete alert =
 -- ---- What is true of the label sets of a space that stands for its alerts is true of these.
 
 -- a property of label sets depends only on which of some matchers they meet
-abbrev pub IsToldBy : List Condition → (LabelMap → Type 0) → Type 0
+abbrev pub IsToldBy : List Matcher → (LabelMap → Type 0) → Type 0
 IsToldBy ms Is = (s t : LabelMap) → MeetsTheSame ms s t → Is s → Is t
 
-pub meets_turned : (ms : List Condition) (s t : LabelMap) → MeetsTheSame ms s t
+pub meets_turned : (ms : List Matcher) (s t : LabelMap) → MeetsTheSame ms s t
     → MeetsTheSame ms t s
 meets_turned [] s t h = tt
 meets_turned (m ∷ ms) s t h = (sym h.0, meets_turned ms s t h.1)
@@ -121,14 +121,14 @@ module _ (a : Alphabet) (s : Space) (h : IsUniverse s.labels) (texts : HasTextsO
     pub some_is : (Is : LabelMap → Type 0) → SomeIs (IsSetOf s) Is → SomeIs (IsAlertOf a s) Is
     some_is Is some = (some.0, set_is_alert some.0 some.1, some.2)
 
-module _ (a : Alphabet) (s : Space) (ms : List Condition) where
+module _ (a : Alphabet) (s : Space) (ms : List Matcher) where
   -- some choice of the space meets the same of the matchers as an alert
   pub choice_of_alert : (alert : LabelMap) → IsUniverse s.labels
-      → IsSpaceComplete a s (deciding_conditions s ms) → IsAlertOf a s alert
+      → IsSpaceComplete a s (deciding_matchers s ms) → IsAlertOf a s alert
       → (choice : List ℕ) × IsChoiceOf s choice
       × MeetsTheSame ms (label_set_of s.labels choice) alert
   choice_of_alert alert h complete is =
-      let lists = impossible_conditions s.impossible in
+      let lists = impossible_matchers s.impossible in
       let r = space_choice a s (ms ++ lists) alert h complete is in
       let set = label_set_of s.labels r.0 in
       let possible = same_possible set alert s.impossible (rest_met set alert ms lists r.2) in
@@ -152,25 +152,25 @@ module _ (a : Alphabet) (s : Space) (ms : List Condition) where
 
 -- what label sets reach depends only on which matchers of the routes they meet
 module _ (c : Configuration) where
-  pub ends_told : (path : List ℕ) → IsToldBy (route_conditions c.root) (EndsAt c path)
+  pub ends_told : (path : List ℕ) → IsToldBy (route_matchers c.root) (EndsAt c path)
   ends_told path s t met h = subst (λ paths. Contains paths path) (same_ends s t c met) h
 
-  pub enters_told : (path : List ℕ) → IsToldBy (route_conditions c.root) (Enters c path)
+  pub enters_told : (path : List ℕ) → IsToldBy (route_matchers c.root) (Enters c path)
   enters_told path s t met h = (h.0, ends_told h.0 s t met h.1, h.2)
 
-  pub goes_told : (receiver : ℕ) → IsToldBy (route_conditions c.root) (GoesTo c receiver)
+  pub goes_told : (receiver : ℕ) → IsToldBy (route_matchers c.root) (GoesTo c receiver)
   goes_told receiver s t met h =
       subst (λ all. Contains all receiver) (same_receivers s t c met) h
 
 module _ (a : Alphabet) (s : Space) (c : Configuration) (h : IsUniverse s.labels)
-    (complete : IsSpaceComplete a s (coverage_conditions s c)) (Is : LabelMap → Type 0)
-    (told : IsToldBy (route_conditions c.root) Is) where
+    (complete : IsSpaceComplete a s (coverage_matchers s c)) (Is : LabelMap → Type 0)
+    (told : IsToldBy (route_matchers c.root) Is) where
   pub none_over : NoneIs (IsSetOf s) Is → NoneIs (IsAlertOf a s) Is
   none_over none alert is has =
-      let r = choice_of_alert a s (route_conditions c.root) alert h complete is in
+      let r = choice_of_alert a s (route_matchers c.root) alert h complete is in
       let set = label_set_of s.labels r.0 in
       none set (r.0, r.1, refl)
-      (told alert set (meets_turned (route_conditions c.root) set alert r.2) has)
+      (told alert set (meets_turned (route_matchers c.root) set alert r.2) has)
 
   pub none_exactly : HasTextsOver a s.labels → NoneIs (IsSetOf s) Is ↔ NoneIs (IsAlertOf a s) Is
   none_exactly texts = (none_over, λ none set is. none set (set_is_alert a s h texts set is))
@@ -182,31 +182,31 @@ module _ (a : Alphabet) (s : Space) (alert : LabelMap) (h : IsUniverse s.labels)
   abbrev set_of : List ℕ → LabelMap
   set_of choice = label_set_of s.labels choice
 
-  pub ends_of_choice : (c : Configuration) → IsSpaceComplete a s (coverage_conditions s c)
+  pub ends_of_choice : (c : Configuration) → IsSpaceComplete a s (coverage_matchers s c)
       → (choice : List ℕ) × IsChoiceOf s choice × (ends (set_of choice) c ≡ ends alert c)
       × (receivers (set_of choice) c ≡ receivers alert c)
   ends_of_choice c complete =
-      let r = choice_of_alert a s (route_conditions c.root) alert h complete is in (
+      let r = choice_of_alert a s (route_matchers c.root) alert h complete is in (
         r.0,
         r.1,
         same_ends (set_of r.0) alert c r.2,
         same_receivers (set_of r.0) alert c r.2,
       )
 
-  pub answer_of_alert : (w : World) (q : Question) → IsSpaceComplete a s (asked_conditions s w q)
+  pub answer_of_alert : (w : World) (q : Question) → IsSpaceComplete a s (asked_matchers s w q)
       → IsTrue (satisfies w q alert)
       → (choice : List ℕ) × Contains (answers s w q) choice
       × HaveTheSameFate w (set_of choice) alert
   answer_of_alert w q complete true_of_it =
-      let world = world_conditions w in
-      let asked = question_conditions q in
+      let world = world_matchers w in
+      let asked = question_matchers q in
       let r = choice_of_alert a s (world ++ asked) alert h complete is in
       let set = set_of r.0 in
       let fate = same_fate set alert w (front_met set alert world asked r.2) in
       let truth = same_truth set alert w q fate (rest_met set alert world asked r.2) in
       (r.0, (answers_exact s w q r.0).1 (r.1, truth ∙ true_of_it), fate)
 
-  pub no_alert : (w : World) (q : Question) → IsSpaceComplete a s (asked_conditions s w q)
+  pub no_alert : (w : World) (q : Question) → IsSpaceComplete a s (asked_matchers s w q)
       → answers s w q ≡ [] → IsFalse (satisfies w q alert)
   no_alert w q complete none =
       false_from_ne_true (satisfies w q alert) (λ true_of_it.

@@ -10,7 +10,7 @@ use Rattle.am_universe.specs.LabelSet.{LabelMap, value_at, value_of, label_set_o
 use Rattle.am_universe.proofs.ListLemmas.{IsIn, IsIn-from_Contains, IsIn-unmap, AllByRecursion-each}
 use Rattle.am_universe.proofs.ListLemmas.{AllByRecursion-at}
 use Rattle.am_universe.proofs.LabelSetLemmas.{value_of_declared, value_of_undeclared}
-use Rattle.am_labels.specs.Matcher.{Condition, holds, condition_holds}
+use Rattle.am_labels.specs.Matcher.{Matcher, holds, condition_holds}
 use Rattle.am_labels.proofs.Passing.{any_in, in_any}
 use Rattle.am_classes.specs.Alike.{AreAlike, HasAlikeIn}
 use Rattle.am_complete.specs.Complete.{about, label_texts, HasAlike}
@@ -67,8 +67,8 @@ choice_of P (l ∷ u) each =
 
 -- ---- The position of a label whose text is alike to that of a label set.
 
-module _ (u : List Label) (ms : List Condition) (s : LabelMap) (h : IsUniverse u)
-    (each : (m : Condition) → IsIn ms m → HasAlike u ms m.name (value_of s m.name)) where
+module _ (u : List Label) (ms : List Matcher) (s : LabelMap) (h : IsUniverse u)
+    (each : (m : Matcher) → IsIn ms m → HasAlike u ms m.name (value_of s m.name)) where
   abbrev IsAlikeAt : Label → ℕ → Type 0
   IsAlikeAt l p = AreAlike (about l.name ms) (text_at l p) (value_of s l.name)
 
@@ -93,7 +93,7 @@ module _ (u : List Label) (ms : List Condition) (s : LabelMap) (h : IsUniverse u
 
   -- at the label of each matcher, the text of the choice is alike to that of the label set
   alike_there : (c : List ℕ) → ((l : Label) → IsIn u l → StandsIn IsAlikeAt u c l)
-      → (m : Condition) → IsIn ms m
+      → (m : Matcher) → IsIn ms m
       → AreAlike (about m.name ms) (value_of (label_set_of u c) m.name) (value_of s m.name)
   alike_there c stands m i = elim (cases_Bool (is_declared u m.name)) [
     | inl some ↦

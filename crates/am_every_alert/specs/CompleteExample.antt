@@ -3,7 +3,7 @@
 use Rattle.std.specs.Prelude.{ℕ, List, [], ◌∷◌, Some, None, codes, encode_utf8}
 use Rattle.am_universe.specs.Universe.{Label, Values}
 use Rattle.am_labels.specs.declared.op.Op.TheVariants.{Equal, NotEqual}
-use Rattle.am_labels.specs.Matcher.{Condition}
+use Rattle.am_labels.specs.Matcher.{Matcher}
 use Rattle.am_labels.specs.Space.{Space}
 
 -- The universe whose only label, `team`, may have these values.
@@ -18,7 +18,7 @@ abbrev pub db_alone : Values
 db_alone = Some (codes "db") ∷ []
 
 -- The space in which `team` is always `db`, since all else is impossible.
-abbrev pub team_not_db : Condition
+abbrev pub team_not_db : Matcher
 team_not_db = record { name = codes "team"; op = NotEqual; value = codes "db" }
 
 abbrev pub db_alone_possible : Space
@@ -30,7 +30,7 @@ db_alone_possible =
 abbrev pub accented : List ℕ
 accented = encode_utf8 0xe9
 
-abbrev pub team_accented : Condition
+abbrev pub team_accented : Matcher
 team_accented = record { name = codes "team"; op = Equal; value = accented }
 
 abbrev pub absent_alone : Values

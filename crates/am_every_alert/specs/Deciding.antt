@@ -2,36 +2,36 @@
 -- and spaces that stand for every alert, for such matchers.
 use Rattle.std.specs.Prelude.{List, ◌++◌}
 use Rattle.am_universe.specs.Universe.{Label, IsUniverse}
-use Rattle.am_labels.specs.Matcher.{Condition}
+use Rattle.am_labels.specs.Matcher.{Matcher}
 use Rattle.am_labels.specs.Space.{Space}
 use Rattle.am_config.specs.ConfigFile.{Configuration}
 use Rattle.am_eval.specs.World.{World}
 use Rattle.am_eval.specs.Question.{Question}
-use Rattle.am_asked.specs.Asked.{route_conditions, world_conditions, question_conditions}
+use Rattle.am_asked.specs.Asked.{route_matchers, world_matchers, question_matchers}
 use Rattle.am_classes.specs.declared.alphabet.Alphabet.{Alphabet}
-use Rattle.am_complete.specs.Complete.{impossible_conditions, IsSpaceComplete}
+use Rattle.am_complete.specs.Complete.{impossible_matchers, IsSpaceComplete}
 use Rattle.am_complete.specs.Covering.{HasTextsOver}
 
 -- Some matchers, and those that say what is impossible in a space.
-abbrev pub deciding_conditions : Space → List Condition → List Condition
-deciding_conditions s ms = ms ++ impossible_conditions s.impossible
+abbrev pub deciding_matchers : Space → List Matcher → List Matcher
+deciding_matchers s ms = ms ++ impossible_matchers s.impossible
 
 -- The matchers that decide which label sets end at a route or go to a receiver, and which are
 -- possible: those of the routes, and of the impossible lists.
 -- Source: own choice.
 -- Example: if nothing is impossible, they are those of the routes.
-abbrev pub coverage_conditions : Space → Configuration → List Condition
-coverage_conditions s c = deciding_conditions s (route_conditions c.root)
+abbrev pub coverage_matchers : Space → Configuration → List Matcher
+coverage_matchers s c = deciding_matchers s (route_matchers c.root)
 
 -- The matchers that decide whether a label set satisfies a question and is possible: those of the
 -- world, of the question, and of the impossible lists.
 -- Source: own choice.
 -- Example: for the question `any`, if nothing is impossible, they are those of the world.
-abbrev pub asked_conditions : Space → World → Question → List Condition
-asked_conditions s w q = deciding_conditions s (world_conditions w ++ question_conditions q)
+abbrev pub asked_matchers : Space → World → Question → List Matcher
+asked_matchers s w q = deciding_matchers s (world_matchers w ++ question_matchers q)
 
 -- The space with some labels, in which some lists are impossible.
-abbrev pub space_of : List (List Condition) → List Label → Space
+abbrev pub space_of : List (List Matcher) → List Label → Space
 space_of lists u = record { labels = u; impossible = lists }
 
 -- A space stands for every alert of it over an alphabet, for some matchers: it is complete for them
@@ -39,7 +39,7 @@ space_of lists u = record { labels = u; impossible = lists }
 -- Source: own choice.
 -- Example: for `team="db"`, if nothing is impossible, a space in which `team` may be absent or `db`
 -- does so over each alphabet. It does not if `team` is always `db`.
-pub record StandsFor (a : Alphabet) (s : Space) (ms : List Condition) : Type 0 where
+pub record StandsFor (a : Alphabet) (s : Space) (ms : List Matcher) : Type 0 where
   pub universe : IsUniverse s.labels
-  pub complete : IsSpaceComplete a s (deciding_conditions s ms)
+  pub complete : IsSpaceComplete a s (deciding_matchers s ms)
   pub over : HasTextsOver a s.labels

@@ -3,7 +3,7 @@ use Rattle.std.specs.Prelude.{◌≡◌, ◌≢◌, ℕ, List, [], Some, IsTrue}
 use Rattle.std.specs.List.{AllByRecursion}
 use Rattle.std.specs.FinMap.{get}
 use Rattle.am_universe.specs.LabelSet.{LabelMap}
-use Rattle.am_labels.specs.Matcher.{Condition, condition_holds}
+use Rattle.am_labels.specs.Matcher.{Matcher, condition_holds}
 use Rattle.am_labels.specs.Space.{Space, is_possible}
 use Rattle.am_classes.specs.declared.alphabet.Alphabet.{Alphabet}
 use Rattle.am_classes.specs.Alphabet.{IsOver}
@@ -30,7 +30,7 @@ IsAlertOf a s alert = IsAlert a alert × IsTrue (is_possible s.impossible alert)
 -- Two label sets meet the same of some matchers: each matcher has the same truth on both.
 -- Source: own choice.
 -- Example: `{team="db"}` and `{team="web"}` meet the same of `team!="ops"`.
-abbrev pub MeetsTheSame : List Condition → LabelMap → LabelMap → Type 0
+abbrev pub MeetsTheSame : List Matcher → LabelMap → LabelMap → Type 0
 MeetsTheSame ms s t = AllByRecursion (λ m. condition_holds s m ≡ condition_holds t m) ms
 
 -- Two label sets have the same fate in a world: they end at the same routes and go to the same

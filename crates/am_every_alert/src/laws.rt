@@ -8,7 +8,7 @@ ghost use Rattle.std.specs.List.{AllByRecursion};
 ghost use Rattle.am_universe.specs.Universe.{Label, IsUniverse, sizes};
 ghost use Rattle.am_universe.specs.Choice.{IsWhole};
 ghost use Rattle.am_universe.specs.LabelSet.{LabelMap, label_set_of, value_of};
-ghost use Rattle.am_labels.specs.Matcher.{Condition};
+ghost use Rattle.am_labels.specs.Matcher.{Matcher};
 ghost use Rattle.am_labels.specs.Space.{is_possible, Space, IsChoiceOf};
 ghost use Rattle.am_list_files.specs.UniverseFile.{FileSaysUniverse};
 ghost use Rattle.am_config.specs.ConfigFile.{Configuration};
@@ -22,15 +22,15 @@ ghost use Rattle.am_classes.specs.declared.alphabet.Alphabet.{Alphabet};
 ghost use Rattle.am_classes.specs.declared.alphabet.Alphabet.TheVariants.{Unicode, Ascii};
 ghost use Rattle.am_classes.specs.Alike.{AreAlike, Covers};
 ghost use Rattle.am_complete.specs.Complete.{HasAlike, about, AreAmong, IsCompleteAt, IsComplete};
-ghost use Rattle.am_complete.specs.Complete.{IsSpaceComplete, impossible_conditions};
+ghost use Rattle.am_complete.specs.Complete.{IsSpaceComplete, impossible_matchers};
 ghost use Rattle.am_complete.specs.AskedLabel.{AskedLabel, IsAskedOf};
 ghost use Rattle.am_complete.specs.Room.{HaveNoRoom};
 ghost use Rattle.am_complete.specs.Covering.{HasTextsOver, KeepsLabels};
-ghost use Rattle.am_asked.specs.Asked.{route_conditions, rule_conditions, equal_conditions};
-ghost use Rattle.am_asked.specs.Asked.{silence_conditions, world_conditions, questions_conditions};
+ghost use Rattle.am_asked.specs.Asked.{route_matchers, rule_matchers, equal_matchers};
+ghost use Rattle.am_asked.specs.Asked.{silence_matchers, world_matchers, questions_matchers};
 ghost use Rattle.am_every_alert.specs.EveryAlert.{IsAlert, IsAlertOf, MeetsTheSame};
 ghost use Rattle.am_every_alert.specs.EveryAlert.{HaveTheSameFate};
-ghost use Rattle.am_every_alert.specs.Deciding.{coverage_conditions, asked_conditions};
+ghost use Rattle.am_every_alert.specs.Deciding.{coverage_matchers, asked_matchers};
 ghost use Rattle.am_every_alert.specs.CompleteExample.{team_universe, db_or_absent, db_alone};
 ghost use Rattle.am_every_alert.specs.CompleteExample.{team_not_db, db_alone_possible};
 ghost use Rattle.am_every_alert.specs.CompleteExample.{absent_alone, team_accented};
@@ -38,7 +38,7 @@ ghost use Rattle.am_every_alert.specs.CompleteExample.{absent_alone, team_accent
 /// Some choice of a universe meets the same of some matchers as a label set, if for each label of
 /// the matchers the universe has a text that is alike to that of the label set.
 pub fn each_label_set_has_a_choice()
-    ensures stands { (u : List Label) (ms : List Condition) (s : LabelMap) → IsUniverse u
+    ensures stands { (u : List Label) (ms : List Matcher) (s : LabelMap) → IsUniverse u
         → AllByRecursion (λ m. HasAlike u ms m.name (value_of s m.name)) ms
         → (c : List ℕ) × IsWhole (sizes u) c × MeetsTheSame ms (label_set_of u c) s }
 {}
@@ -47,7 +47,7 @@ pub fn each_label_set_has_a_choice()
 /// this alphabet: whatever labels the alert has, some choice meets the same of the matchers. Over
 /// Unicode these are all alerts. Over ASCII they are those whose values are printable ASCII.
 pub fn a_complete_universe_stands_for_every_alert()
-    ensures stands { (a : Alphabet) (u : List Label) (ms : List Condition) (s : LabelMap)
+    ensures stands { (a : Alphabet) (u : List Label) (ms : List Matcher) (s : LabelMap)
         → IsUniverse u → IsComplete a u ms → IsAlert a s
         → (c : List ℕ) × IsWhole (sizes u) c × MeetsTheSame ms (label_set_of u c) s }
 {}
@@ -59,21 +59,21 @@ pub fn a_complete_universe_stands_for_every_alert()
 #[tactic(auto, using(crate::proofs::SameFate::alike))]
 pub fn what_meets_the_same_has_the_same_fate()
     ensures ends { (c : Configuration) (s t : LabelMap)
-        → MeetsTheSame (route_conditions c.root) s t → ends s c ≡ ends t c }
+        → MeetsTheSame (route_matchers c.root) s t → ends s c ≡ ends t c }
     ensures receivers { (c : Configuration) (s t : LabelMap)
-        → MeetsTheSame (route_conditions c.root) s t → receivers s c ≡ receivers t c }
+        → MeetsTheSame (route_matchers c.root) s t → receivers s c ≡ receivers t c }
     ensures silenced { (w : World) (s t : LabelMap)
-        → MeetsTheSame (silence_conditions w.silences) s t → is_silenced w s ≡ is_silenced w t }
+        → MeetsTheSame (silence_matchers w.silences) s t → is_silenced w s ≡ is_silenced w t }
     ensures inhibited { (w : World) (s t : LabelMap)
-        → MeetsTheSame (rule_conditions w.config.rules) s t
-        → MeetsTheSame (equal_conditions w.config.rules w.alerts) s t
+        → MeetsTheSame (rule_matchers w.config.rules) s t
+        → MeetsTheSame (equal_matchers w.config.rules w.alerts) s t
         → is_inhibited w s ≡ is_inhibited w t }
-    ensures possible { (impossible : List (List Condition)) (s t : LabelMap)
-        → MeetsTheSame (impossible_conditions impossible) s t
+    ensures possible { (impossible : List (List Matcher)) (s t : LabelMap)
+        → MeetsTheSame (impossible_matchers impossible) s t
         → is_possible impossible s ≡ is_possible impossible t }
     ensures fate { (w : World) (s t : LabelMap)
-        → MeetsTheSame (world_conditions w) s t → HaveTheSameFate w s t }
-    ensures part { (ns ms : List Condition) (s t : LabelMap)
+        → MeetsTheSame (world_matchers w) s t → HaveTheSameFate w s t }
+    ensures part { (ns ms : List Matcher) (s t : LabelMap)
         → AreAmong ns ms → MeetsTheSame ms s t → MeetsTheSame ns s t }
 {}
 
@@ -83,17 +83,17 @@ pub fn what_meets_the_same_has_the_same_fate()
 /// at every instant.
 pub fn every_alert_has_the_fate_of_a_choice()
     ensures fate { (a : Alphabet) (u : List Label) (w : World) (s : LabelMap) → IsUniverse u
-        → IsComplete a u (world_conditions w) → IsAlert a s
+        → IsComplete a u (world_matchers w) → IsAlert a s
         → (c : List ℕ) × IsWhole (sizes u) c × HaveTheSameFate w (label_set_of u c) s }
     ensures any_instant { (w : World) (instant : ℤ)
-        → world_conditions (at_instant w instant) ≡ world_conditions w }
+        → world_matchers (at_instant w instant) ≡ world_matchers w }
 {}
 
 /// A space that is complete for some matchers, over an alphabet, stands for every alert of the
 /// space over this alphabet: whatever labels the alert has, some choice of the space's labels meets
 /// the same of the matchers.
 pub fn a_complete_space_stands_for_every_alert_of_it()
-    ensures stands { (a : Alphabet) (s : Space) (ms : List Condition) (alert : LabelMap)
+    ensures stands { (a : Alphabet) (s : Space) (ms : List Matcher) (alert : LabelMap)
         → IsUniverse s.labels → IsSpaceComplete a s ms → IsAlertOf a s alert
         → (c : List ℕ) × IsWhole (sizes s.labels) c
         × MeetsTheSame ms (label_set_of s.labels c) alert }
@@ -104,7 +104,7 @@ pub fn a_complete_space_stands_for_every_alert_of_it()
 /// matchers of the routes and the impossible lists.
 pub fn every_alert_of_a_space_ends_as_a_choice_does()
     ensures ends { (a : Alphabet) (s : Space) (c : Configuration) (alert : LabelMap)
-        → IsUniverse s.labels → IsSpaceComplete a s (coverage_conditions s c) → IsAlertOf a s alert
+        → IsUniverse s.labels → IsSpaceComplete a s (coverage_matchers s c) → IsAlertOf a s alert
         → (choice : List ℕ) × IsChoiceOf s choice
         × (ends (label_set_of s.labels choice) c ≡ ends alert c)
         × (receivers (label_set_of s.labels choice) c ≡ receivers alert c) }
@@ -115,12 +115,12 @@ pub fn every_alert_of_a_space_ends_as_a_choice_does()
 /// the alert, for all matchers that decide the question.
 pub fn a_question_without_answers_is_true_of_no_alert()
     ensures answered { (a : Alphabet) (s : Space) (w : World) (q : Question) (alert : LabelMap)
-        → IsUniverse s.labels → IsSpaceComplete a s (asked_conditions s w q)
+        → IsUniverse s.labels → IsSpaceComplete a s (asked_matchers s w q)
         → IsAlertOf a s alert → IsTrue (satisfies w q alert)
         → (choice : List ℕ) × Contains (answers s w q) choice
         × HaveTheSameFate w (label_set_of s.labels choice) alert }
     ensures unanswered { (a : Alphabet) (s : Space) (w : World) (q : Question) (alert : LabelMap)
-        → IsUniverse s.labels → IsSpaceComplete a s (asked_conditions s w q)
+        → IsUniverse s.labels → IsSpaceComplete a s (asked_matchers s w q)
         → IsAlertOf a s alert → answers s w q ≡ [] → IsFalse (satisfies w q alert) }
 {}
 
@@ -134,9 +134,9 @@ pub fn label_sets_of_a_universe_are_alerts()
 /// Being alike to some matchers is an equivalence of texts.
 #[tactic(auto, using(am_complete::proofs::Alike::alike_itself, am_complete::proofs::Alike::alike_turned, am_complete::proofs::Alike::alike_joined))]
 pub fn alike_texts_are_equivalent()
-    ensures itself { (ms : List Condition) (x : List ℕ) → AreAlike ms x x }
-    ensures turned { (ms : List Condition) (x y : List ℕ) → AreAlike ms x y → AreAlike ms y x }
-    ensures joined { (ms : List Condition) (x y z : List ℕ)
+    ensures itself { (ms : List Matcher) (x : List ℕ) → AreAlike ms x x }
+    ensures turned { (ms : List Matcher) (x y : List ℕ) → AreAlike ms x y → AreAlike ms y x }
+    ensures joined { (ms : List Matcher) (x y z : List ℕ)
         → AreAlike ms x y → AreAlike ms y z → AreAlike ms x z }
 {}
 
@@ -145,22 +145,22 @@ pub fn alike_texts_are_equivalent()
 /// matcher is on.
 #[tactic(auto, using(crate::proofs::CompleteSpaces::complete_by_cover, am_complete::proofs::CompleteUniverses::complete_without_matchers))]
 pub fn a_universe_is_complete_where_its_texts_cover_all()
-    ensures covered { (a : Alphabet) (u : List Label) (ms : List Condition) (name : List ℕ)
+    ensures covered { (a : Alphabet) (u : List Label) (ms : List Matcher) (name : List ℕ)
         (texts : List (List ℕ)) → Covers a (about name ms) texts
         → AllByRecursion (λ x. HasAlike u ms name x) texts → IsCompleteAt a u ms name }
-    ensures no_matcher { (a : Alphabet) (u : List Label) (ms : List Condition) (name : List ℕ)
+    ensures no_matcher { (a : Alphabet) (u : List Label) (ms : List Matcher) (name : List ℕ)
         → IsUniverse u → about name ms ≡ [] → IsCompleteAt a u ms name }
 {}
 
 /// A universe is complete for some matchers, over an alphabet, if it is complete at the label of
 /// each, whatever the names are. It is then complete for each part of them.
 pub fn a_universe_is_complete_by_its_matchers()
-    ensures by_labels { (a : Alphabet) (u : List Label) (ms : List Condition) → IsUniverse u
+    ensures by_labels { (a : Alphabet) (u : List Label) (ms : List Matcher) → IsUniverse u
         → AllByRecursion (λ m. m.name ≢ [] → IsCompleteAt a u ms m.name) ms
         → IsComplete a u ms }
-    ensures part { (a : Alphabet) (u : List Label) (ns ms : List Condition)
+    ensures part { (a : Alphabet) (u : List Label) (ns ms : List Matcher)
         → AreAmong ns ms → IsComplete a u ms → IsComplete a u ns }
-    ensures part_at { (a : Alphabet) (u : List Label) (ns ms : List Condition) (name : List ℕ)
+    ensures part_at { (a : Alphabet) (u : List Label) (ns ms : List Matcher) (name : List ℕ)
         → AreAmong ns ms → IsCompleteAt a u ms name → IsCompleteAt a u ns name }
 {}
 
@@ -169,11 +169,11 @@ pub fn a_universe_is_complete_by_its_matchers()
 /// each part of them.
 #[tactic(auto, using(crate::proofs::CompleteSpaces::space_parts))]
 pub fn a_space_is_complete_where_its_universe_is()
-    ensures universe { (a : Alphabet) (s : Space) (ms : List Condition)
+    ensures universe { (a : Alphabet) (s : Space) (ms : List Matcher)
         → IsComplete a s.labels ms → IsSpaceComplete a s ms }
-    ensures all_possible { (a : Alphabet) (s : Space) (ms : List Condition) → s.impossible ≡ []
+    ensures all_possible { (a : Alphabet) (s : Space) (ms : List Matcher) → s.impossible ≡ []
         → IsSpaceComplete a s ms → IsComplete a s.labels ms }
-    ensures part { (a : Alphabet) (s : Space) (ns ms : List Condition)
+    ensures part { (a : Alphabet) (s : Space) (ns ms : List Matcher)
         → AreAmong ns ms → IsSpaceComplete a s ms → IsSpaceComplete a s ns }
 {}
 
@@ -181,11 +181,11 @@ pub fn a_space_is_complete_where_its_universe_is()
 /// two lists that are among a third are so together.
 #[tactic(auto, using(crate::proofs::CompleteSpaces::parts_among))]
 pub fn parts_of_matchers_are_among_them()
-    ensures front { (ms ns : List Condition) → AreAmong ms (ms ++ ns) }
-    ensures behind { (ms ns : List Condition) → AreAmong ns (ms ++ ns) }
-    ensures both { (ks ns ms : List Condition)
+    ensures front { (ms ns : List Matcher) → AreAmong ms (ms ++ ns) }
+    ensures behind { (ms ns : List Matcher) → AreAmong ns (ms ++ ns) }
+    ensures both { (ks ns ms : List Matcher)
         → AreAmong ks ms → AreAmong ns ms → AreAmong (ks ++ ns) ms }
-    ensures through { (ks ns ms : List Condition)
+    ensures through { (ks ns ms : List Matcher)
         → AreAmong ks ns → AreAmong ns ms → AreAmong ks ms }
 {}
 
@@ -196,31 +196,31 @@ pub fn parts_of_matchers_are_among_them()
 /// of the routes are.
 pub fn what_is_complete_for_a_world_is_so_for_its_routes()
     ensures routes { (a : Alphabet) (s : Space) (w : World) (questions : List Question)
-        → IsSpaceComplete a s (world_conditions w
-        ++ (questions_conditions questions ++ impossible_conditions s.impossible))
-        → IsSpaceComplete a s (coverage_conditions s w.config) }
+        → IsSpaceComplete a s (world_matchers w
+        ++ (questions_matchers questions ++ impossible_matchers s.impossible))
+        → IsSpaceComplete a s (coverage_matchers s w.config) }
     ensures routes_alone { (a : Alphabet) (s : Space) (c : Configuration)
-        (questions : List Question) → IsSpaceComplete a s (route_conditions c.root
-        ++ (questions_conditions questions ++ impossible_conditions s.impossible))
-        → IsSpaceComplete a s (coverage_conditions s c) }
+        (questions : List Question) → IsSpaceComplete a s (route_matchers c.root
+        ++ (questions_matchers questions ++ impossible_matchers s.impossible))
+        → IsSpaceComplete a s (coverage_matchers s c) }
     ensures question { (a : Alphabet) (s : Space) (w : World) (questions : List Question)
-        (q : Question) → Contains questions q → IsSpaceComplete a s (world_conditions w
-        ++ (questions_conditions questions ++ impossible_conditions s.impossible))
-        → IsSpaceComplete a s (asked_conditions s w q) }
-    ensures all_possible { (a : Alphabet) (u : List Label) (c : Configuration) (ms : List Condition)
-        → AreAmong (route_conditions c.root) ms → IsComplete a u ms
-        → IsComplete a u (coverage_conditions (record { labels = u; impossible = [] }) c) }
+        (q : Question) → Contains questions q → IsSpaceComplete a s (world_matchers w
+        ++ (questions_matchers questions ++ impossible_matchers s.impossible))
+        → IsSpaceComplete a s (asked_matchers s w q) }
+    ensures all_possible { (a : Alphabet) (u : List Label) (c : Configuration) (ms : List Matcher)
+        → AreAmong (route_matchers c.root) ms → IsComplete a u ms
+        → IsComplete a u (coverage_matchers (record { labels = u; impossible = [] }) c) }
 {}
 
 /// A universe or space that is complete over Unicode is complete over ASCII, since a text of
 /// printable ASCII is UTF-8. An alert over ASCII is one over Unicode, also of a space, and a
 /// universe whose texts are over ASCII has texts over Unicode.
 pub fn what_is_complete_over_unicode_is_complete_over_ascii()
-    ensures at_label { (u : List Label) (ms : List Condition) (name : List ℕ)
+    ensures at_label { (u : List Label) (ms : List Matcher) (name : List ℕ)
         → IsCompleteAt Unicode u ms name → IsCompleteAt Ascii u ms name }
-    ensures universe { (u : List Label) (ms : List Condition)
+    ensures universe { (u : List Label) (ms : List Matcher)
         → IsComplete Unicode u ms → IsComplete Ascii u ms }
-    ensures space { (s : Space) (ms : List Condition)
+    ensures space { (s : Space) (ms : List Matcher)
         → IsSpaceComplete Unicode s ms → IsSpaceComplete Ascii s ms }
     ensures alert { (s : LabelMap) → IsAlert Ascii s → IsAlert Unicode s }
     ensures alert_of_space { (s : Space) (alert : LabelMap)
@@ -254,8 +254,8 @@ pub fn an_example_of_completeness()
 /// keeps the labels of the space is complete for these matchers, over the alphabet and with the
 /// same impossible lists. The matchers of these lists must be among them.
 pub fn what_has_no_room_has_no_complete_universe()
-    ensures none { (a : Alphabet) (s : Space) (asked : List AskedLabel) (ms : List Condition)
+    ensures none { (a : Alphabet) (s : Space) (asked : List AskedLabel) (ms : List Matcher)
         (v : List Label) → IsUniverse v → KeepsLabels s.labels v → IsAskedOf asked ms
-        → AreAmong (impossible_conditions s.impossible) ms → HaveNoRoom a s asked
+        → AreAmong (impossible_matchers s.impossible) ms → HaveNoRoom a s asked
         → ¬ IsSpaceComplete a (record { labels = v; impossible = s.impossible }) ms }
 {}

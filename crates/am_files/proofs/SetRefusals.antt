@@ -9,7 +9,7 @@ use Rattle.am_universe.specs.declared.kind.Kind.TheVariants as kinds
 use Rattle.am_universe.specs.LabelSet.{LabelMap}
 use Rattle.am_labels.specs.declared.limits.TheConstants.{MAX_MATCHERS}
 use Rattle.am_labels.specs.PatternProfile.{in_profile}
-use Rattle.am_labels.specs.Matcher.{Condition}
+use Rattle.am_labels.specs.Matcher.{Matcher}
 use Rattle.am_labels.specs.MatcherText.{WordsSpell}
 use Rattle.am_labels.specs.MatcherRefusals.{have_valid_patterns}
 use Rattle.am_labels.specs.MatcherRefusals.{PatternsRefusedFor}
@@ -26,7 +26,7 @@ refusal_is : (inside : Bool) (kind : Kind)
 refusal_is true kind e other = absurd (other e)
 refusal_is false kind e other = e
 
-profile_kind : (ms : List Condition) (kind : Kind) → PatternsRefusedFor ms kind
+profile_kind : (ms : List Matcher) (kind : Kind) → PatternsRefusedFor ms kind
     → kind ≢ kinds.Pattern → kind ≡ kinds.PatternProfile
 profile_kind ms kind refused other =
     refusal_is (in_profile refused.refused.value) kind refused.value.kind_is other
@@ -34,13 +34,13 @@ profile_kind ms kind refused other =
 -- ---- Lists, and their words.
 
 -- words that are read are refused only for a pattern
-pub words_accepted : (words : List (List ℕ)) (ms : List Condition) (kind : Kind) → WordsSpell words ms
+pub words_accepted : (words : List (List ℕ)) (ms : List Matcher) (kind : Kind) → WordsSpell words ms
     → length ms ≤ MAX_MATCHERS → IsTrue (have_valid_patterns ms) → WordsRefusedFor words kind
     → kind ≡ kinds.Pattern
 words_accepted words ms kind spelled few valid (inl none) = absurd (none.1 ms spelled)
 words_accepted words ms kind spelled few valid (inr list) = grind (arith, common_steps, one_list_of_words)
 
-list_kind : (ms : List Condition) (kind other : Kind) → ListRefusedFor ms kind
+list_kind : (ms : List Matcher) (kind other : Kind) → ListRefusedFor ms kind
     → ListRefusedFor ms other → kind ≢ kinds.Pattern → other ≢ kinds.Pattern → kind ≡ other
 list_kind ms kind other (inl many) (inl more) h k = many.1 ∙ sym more.1
 list_kind ms kind other (inl many) (inr patterns) h k = absurd (omega (arith, many.0, patterns.0))
@@ -56,7 +56,7 @@ words_kind words kind other (inl none) (inr list) h k = absurd (none.1 list.list
 words_kind words kind other (inr list) (inl none) h k = absurd (none.1 list.list list.spelled)
 words_kind words kind other (inr list) (inr again) h k =
     list_kind again.list kind other
-    (subst (λ (l : List Condition). ListRefusedFor l kind)
+    (subst (λ (l : List Matcher). ListRefusedFor l kind)
     (one_list_of_words words list.list again.list list.spelled again.spelled) list.refused)
     again.refused h k
 

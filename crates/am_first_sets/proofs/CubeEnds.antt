@@ -8,7 +8,7 @@ use Rattle.std.proofs.lemmas.Bool.{and_right}
 use Rattle.std.proofs.lemmas.List.Folds.{list_all-append}
 use Rattle.std.proofs.lemmas.Option.{slice_get_past}
 use Rattle.am_universe.specs.Universe.{Label, sizes}
-use Rattle.am_labels.specs.Matcher.{Condition}
+use Rattle.am_labels.specs.Matcher.{Matcher}
 use Rattle.am_universe.specs.Choice.{IsWhole}
 use Rattle.am_universe.specs.LabelSet.{label_set_of}
 use Rattle.am_config.specs.ConfigFile.{Configuration, RouteTree, Routes, route, no_routes}
@@ -70,7 +70,7 @@ or_false false = refl
 -- with tests of cubes that agree with a test of literals, at a prefix or a choice
 module _ (u : List Label) (prefix : List ℕ) (matched unmatched : MaskedLabels → Bool)
     (holds : Literal → Bool)
-    (is : (cube : MaskedLabels) (ms : List Condition)
+    (is : (cube : MaskedLabels) (ms : List Matcher)
     → verdict_at cube prefix ≡ verdict_of_list u ms prefix
     → (matched cube ≡ holds (matching ms)) × (unmatched cube ≡ holds (not_matching ms))) where
   none_matched : (ts : Routes) (rs : List RouteCubes) → AreCubesOfEach u prefix ts rs

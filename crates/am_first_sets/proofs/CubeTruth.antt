@@ -7,7 +7,7 @@ use Rattle.am_universe.specs.Universe.{Label, sizes}
 use Rattle.am_labels.specs.Space.{Space}
 use Rattle.am_universe.specs.Choice.{admits, IsWhole}
 use Rattle.am_universe.specs.LabelSet.{label_set_of}
-use Rattle.am_labels.specs.Matcher.{Condition, all_hold}
+use Rattle.am_labels.specs.Matcher.{Matcher, all_hold}
 use Rattle.am_search.specs.declared.verdict.Verdict.TheVariants.{Yes, No, Open}
 use Rattle.am_judged_lists.specs.Cube.{MaskedLabels, may_at, reaches_all, matches, verdict_at}
 use Rattle.am_search.specs.Judge.{is_yes}
@@ -20,7 +20,7 @@ yes_of_truth true = refl
 yes_of_truth false = refl
 
 -- the verdict of a list says whether the label set matches it
-pub certain_where : (u : List Label) (c : List ℕ) → IsWhole (sizes u) c → (ms : List Condition)
+pub certain_where : (u : List Label) (c : List ℕ) → IsWhole (sizes u) c → (ms : List Matcher)
     → is_yes (verdict_of_list u ms c) ≡ all_hold (label_set_of u c) ms
 certain_where u c whole ms =
     ap is_yes (list_says u ms c whole) ∙ yes_of_truth (all_hold (label_set_of u c) ms)
@@ -34,7 +34,7 @@ matches_is cube c = step (may_at cube c) (reaches_all cube c)
     step true false = refl
     step false all = refl
 
-pub matches_where : (u : List Label) (c : List ℕ) → IsWhole (sizes u) c → (ms : List Condition)
+pub matches_where : (u : List Label) (c : List ℕ) → IsWhole (sizes u) c → (ms : List Matcher)
     (cube : MaskedLabels) → verdict_at cube c ≡ verdict_of_list u ms c
     → matches cube c ≡ all_hold (label_set_of u c) ms
 matches_where u c whole ms cube same =
@@ -50,8 +50,8 @@ knows_possible s cubes same c whole =
     ∙ ap not ((λ i. list_any (λ (cube : MaskedLabels). matches_is cube c i) cubes)
     ∙ sym (list_any-map is_yes (λ (cube : MaskedLabels). verdict_at cube c) cubes)
     ∙ ap (list_any is_yes) (same c whole.0)
-    ∙ list_any-map is_yes (λ (ms : List Condition). verdict_of_list s.labels ms c) s.impossible
-    ∙ (λ i. list_any (λ (ms : List Condition). certain_where s.labels c whole ms i) s.impossible))
+    ∙ list_any-map is_yes (λ (ms : List Matcher). verdict_of_list s.labels ms c) s.impossible
+    ∙ (λ i. list_any (λ (ms : List Matcher). certain_where s.labels c whole ms i) s.impossible))
   where
     none_is : {X : Type 0} (p : X → Bool) (xs : List X) → list_all (λ x. not (p x)) xs ≡ not (list_any p xs)
     none_is p [] = refl

@@ -6,7 +6,7 @@ use Rattle.std.proofs.lemmas.Bool.{both_ways, cases_Bool}
 use Rattle.std.proofs.lemmas.Grind.{common_steps}
 use Rattle.am_labels.specs.Space.{Space, IsChoiceOf}
 use Rattle.am_universe.specs.LabelSet.{label_set_of, LabelMap}
-use Rattle.am_labels.specs.Matcher.{all_hold, Condition}
+use Rattle.am_labels.specs.Matcher.{all_hold, Matcher}
 use Rattle.am_judged_lists.specs.Cube.{IsCubeOf, MaskedLabels, matches}
 use Rattle.am_first_sets.specs.PossibleChoices.{AreFound}
 use Rattle.am_first_sets.proofs.CubeTruth.{matches_where}
@@ -32,7 +32,7 @@ asked_is : (cube : MaskedLabels) (wanted : Bool) (c : List ℕ)
 asked_is cube true c = grind (arith, common_steps, cases_Bool)
 asked_is cube false c = grind (arith, common_steps, cases_Bool)
 
-module _ (s : Space) (ms : List Condition) (cube : MaskedLabels) (is : IsCubeOf s.labels ms cube)
+module _ (s : Space) (ms : List Matcher) (cube : MaskedLabels) (is : IsCubeOf s.labels ms cube)
     (Is : List ℕ → Type 0) (are : (c : List ℕ) → Is c ↔ IsChoiceOf s c) (wanted : Bool) where
   says : (c : List ℕ) → IsChoiceOf s c → matches cube c ≡ all_hold (label_set_of s.labels c) ms
   says c choice = matches_where s.labels c choice.0 ms cube (is c choice.0.0)

@@ -3,7 +3,7 @@
 use Rattle.std.proofs.Common.{◌≡◌, Bool, true, false, List, [], ◌∷◌, sym, ◌∙◌}
 use Rattle.am_universe.specs.Universe.{Label}
 use Rattle.am_universe.specs.LabelSet.{LabelMap}
-use Rattle.am_labels.specs.Matcher.{Condition, all_hold}
+use Rattle.am_labels.specs.Matcher.{Matcher, all_hold}
 use Rattle.am_labels.specs.Space.{Space}
 use Rattle.am_classes.specs.declared.alphabet.Alphabet.{Alphabet}
 use Rattle.am_every_alert.specs.EveryAlert.{IsAlertOf}
@@ -13,16 +13,16 @@ use Rattle.am_every_alert.proofs.SpaceAlerts.{IsToldBy, each_over, some_over}
 use Rattle.am_every_alert.proofs.SameFate.{front_met, all_alike}
 use Rattle.am_idle.specs.declared.extent.Extent.{Extent}
 use Rattle.am_idle.specs.declared.extent.Extent.TheVariants as extent_is
-use Rattle.am_idle.specs.Lists.{listed_conditions, StandsForLists}
+use Rattle.am_idle.specs.Lists.{listed_matchers, StandsForLists}
 use Rattle.am_idle.specs.Extent.{IsExtent}
 
-module _ (a : Alphabet) (s : Space) (u : List Label) (ms : List Condition)
+module _ (a : Alphabet) (s : Space) (u : List Label) (ms : List Matcher)
     (h : StandsForLists a s (ms ∷ []) u) where
   abbrev made : Space
   made = space_of s.impossible u
 
-  abbrev asked : List Condition
-  asked = listed_conditions (ms ∷ [])
+  abbrev asked : List Matcher
+  asked = listed_matchers (ms ∷ [])
 
   -- the list matches a label set, or it does not
   abbrev Tells : Bool → LabelMap → Type 0

@@ -25,7 +25,7 @@ use Rattle.am_universe.proofs.Members.{in_at}
 use Rattle.am_universe.proofs.UniverseLemmas.{no_label}
 use Rattle.am_universe.proofs.WholeChoiceLemmas.{admitted_at, admits_each}
 use Rattle.am_labels.specs.declared.op.Op.TheVariants.{Equal}
-use Rattle.am_labels.specs.Matcher.{Condition, holds, condition_holds, all_hold}
+use Rattle.am_labels.specs.Matcher.{Matcher, holds, condition_holds, all_hold}
 use Rattle.am_labels.specs.Row.{is_reached, truth_among, truths_of}
 use Rattle.am_labels.specs.Space.{Space}
 use Rattle.am_labels.proofs.Passing.{any_in, in_any}
@@ -35,14 +35,14 @@ use Rattle.am_eval.specs.Inhibition.{have_equal, is_two_sided, inhibits}
 use Rattle.am_judged_lists.specs.Pairs.{is_shared, are_same_at}
 use Rattle.am_judged_lists.proofs.ListLemmas.{all_pass, each_both, each_passes, some_passes}
 use Rattle.am_classes.specs.declared.alphabet.Alphabet.{Alphabet}
-use Rattle.am_complete.specs.Complete.{impossible_conditions}
+use Rattle.am_complete.specs.Complete.{impossible_matchers}
 use Rattle.am_every_alert.specs.EveryAlert.{MeetsTheSame}
-use Rattle.am_every_alert.specs.Deciding.{deciding_conditions, space_of}
+use Rattle.am_every_alert.specs.Deciding.{deciding_matchers, space_of}
 use Rattle.am_every_alert.proofs.SpaceAlerts.{space_choice, alert_of_set}
 use Rattle.am_every_alert.proofs.SameFate.{front_met, rest_met, all_alike, same_possible}
 use Rattle.am_idle.specs.declared.rules.IdleReason.{IdleReason}
 use Rattle.am_idle.specs.declared.rules.IdleReason.TheVariants as reason_is
-use Rattle.am_idle.specs.Lists.{listed_conditions}
+use Rattle.am_idle.specs.Lists.{listed_matchers}
 use Rattle.am_idle.specs.Lists.{StandsForLists}
 use Rattle.am_idle.specs.RuleChoices.{labels_named, AreMeeting, IsFoundOf}
 use Rattle.am_idle.specs.RuleText.{HasPositionsIfAny}
@@ -91,7 +91,7 @@ module _ (u : List Label) (h : IsUniverse u) where
       → value_of (set_of c) name ≡ value_of (set_of d) name
   same_value name c d first second same =
       let value = value_of (set_of d) name in
-      let m : Condition = record { name = name; op = Equal; value = value } in
+      let m : Matcher = record { name = name; op = Equal; value = value } in
       let o = label_position u name in
       (bytes_decides (value_of (set_of c) name) value).0
       (row_decides u c m h first
@@ -176,7 +176,7 @@ module _ (u : List Label) (h : IsUniverse u) (names : List (List ℕ)) (c d : Li
 
   module _ (x y : LabelMap) (equal : have_equal names x y ≡ true) where
     -- the partner meets each matcher exactly if the second alert does
-    partner_meets : (m : Condition)
+    partner_meets : (m : Matcher)
         → condition_holds (label_set_of u c) m ≡ condition_holds x m
         → condition_holds (label_set_of u d) m ≡ condition_holds y m
         → condition_holds (label_set_of u partner) m ≡ condition_holds y m
@@ -202,7 +202,7 @@ module _ (u : List Label) (h : IsUniverse u) (names : List (List ℕ)) (c d : Li
               ∙ as_second
         ]
 
-    partner_met : (ms : List Condition) → MeetsTheSame ms (label_set_of u c) x
+    partner_met : (ms : List Matcher) → MeetsTheSame ms (label_set_of u c) x
         → MeetsTheSame ms (label_set_of u d) y → MeetsTheSame ms (label_set_of u partner) y
     partner_met ms as_first as_second =
         each_both (λ m. condition_holds (label_set_of u c) m ≡ condition_holds x m)
@@ -213,7 +213,7 @@ module _ (u : List Label) (h : IsUniverse u) (names : List (List ℕ)) (c d : Li
 -- ---- Matchers of lists.
 
 -- a matcher of a list is met by a label set exactly if it is by an alert that meets the same
-same_at : (ms : List Condition) (set alert : LabelMap) (i : ℕ) (m : Condition)
+same_at : (ms : List Matcher) (set alert : LabelMap) (i : ℕ) (m : Matcher)
     → MeetsTheSame ms set alert → slice_get ms i ≡ Some m
     → condition_holds set m ≡ condition_holds alert m
 same_at ms set alert i m met at =
@@ -221,7 +221,7 @@ same_at ms set alert i m met at =
     (in_at ms i m at)
 
 -- what matches a list meets each matcher of it
-meets_all : (ms : List Condition) (positions : List ℕ) (set : LabelMap) → Matches ms set
+meets_all : (ms : List Matcher) (positions : List ℕ) (set : LabelMap) → Matches ms set
     → MeetsAt ms positions set
 meets_all ms positions set all i m there at =
     AllByRecursion-at (λ n. condition_holds set n ≡ true) ms m
@@ -262,8 +262,8 @@ module _ (rule : Rule) where
       abbrev made : Space
       made = space_of s.impossible u
 
-      abbrev listed : List Condition
-      listed = listed_conditions (rule.source ∷ rule.target ∷ [])
+      abbrev listed : List Matcher
+      listed = listed_matchers (rule.source ∷ rule.target ∷ [])
 
       -- a label set meets the same of the matchers of each side as an alert
       abbrev IsLike : LabelMap → LabelMap → Type 0
@@ -271,7 +271,7 @@ module _ (rule : Rule) where
 
       sides_met : (set alert : LabelMap) → MeetsTheSame listed set alert → IsLike set alert
       sides_met set alert met =
-          let targets = listed_conditions (rule.target ∷ []) in (
+          let targets = listed_matchers (rule.target ∷ []) in (
             front_met set alert rule.source targets met,
             front_met set alert rule.target [] (rest_met set alert rule.source targets met),
           )
@@ -288,8 +288,8 @@ module _ (rule : Rule) where
           → (p : LabelMap) × (q : LabelMap) × AreMeeting made rule.equal p q × IsLike p x
           × IsLike q y
       sets_meet x y (first, second, equal) =
-          let impossible = impossible_conditions s.impossible in
-          let deciding = deciding_conditions s listed in
+          let impossible = impossible_matchers s.impossible in
+          let deciding = deciding_matchers s listed in
           let one = space_choice a made deciding x stands.universe stands.complete first in
           let two = space_choice a made deciding y stands.universe stands.complete second in
           let e = partner u stands.universe rule.equal one.0 two.0 one.1 two.1 in

@@ -21,7 +21,7 @@ use Rattle.am_universe.proofs.ListLemmas.{IsIn-from_Contains, Contains-from_IsIn
 use Rattle.am_universe.proofs.ListLemmas.{AllByRecursion-each, IsIn-map, IsIn-unmap}
 use Rattle.am_universe.proofs.ListLemmas.{IsStrictlySortedBy-map}
 use Rattle.am_universe.proofs.Members.{item_at, numbered_at}
-use Rattle.am_labels.specs.Matcher.{Condition, condition_holds, all_hold}
+use Rattle.am_labels.specs.Matcher.{Matcher, condition_holds, all_hold}
 use Rattle.am_labels.specs.Space.{Space}
 use Rattle.am_labels.proofs.Passing.{passes_from_kept, kept_from_passes}
 use Rattle.am_config.specs.ConfigFile.{Rule}
@@ -187,21 +187,21 @@ module _ (s : Space) (names : List (List ℕ)) (pairs : Pairs)
 
   module _ (side : Side) where
     -- the literal asks for the matcher, of the label set of the side
-    abbrev IsLiteralOf : Condition → Candidate → Type 0
+    abbrev IsLiteralOf : Matcher → Candidate → Type 0
     IsLiteralOf m k = (e : List ℕ) → Is e → holds_at e k ≡ condition_holds (set_at side e) m
 
     -- the literals ask for the matchers of the side, one by one, whichever of them are named
-    abbrev pub AreLiteralsOf : List Condition → List Candidate → Type 0
+    abbrev pub AreLiteralsOf : List Matcher → List Candidate → Type 0
     AreLiteralsOf ms ks = AllZip IsLiteralOf ms ks
 
-    pub literals_are : (ms : List Condition) (cubes : List MaskedLabels) (ks : List Candidate)
+    pub literals_are : (ms : List Matcher) (cubes : List MaskedLabels) (ks : List Candidate)
         → AreCubesOfMatchers u pairs side ms cubes → AreWantedFor cubes ks → AreLiteralsOf ms ks
     literals_are ms cubes ks asking wanted =
         zip_through _ _ _ ms cubes ks (λ m cube k says asks e possible.
         rw asks.1 (ap (λ (c : MaskedLabels). matches c e) asks.0
         ∙ says e possible (whole_at side e possible))) asking wanted
 
-    same_literals : (ms : List Condition) (ks ls : List Candidate) → AreLiteralsOf ms ks
+    same_literals : (ms : List Matcher) (ks ls : List Candidate) → AreLiteralsOf ms ks
         → AreSameLiterals ks ls → AreLiteralsOf ms ls
     same_literals ms ks ls literals same =
         zip_through _ _ _ ms ks ls (λ m k l says alike e possible.
@@ -211,7 +211,7 @@ module _ (s : Space) (names : List (List ℕ)) (pairs : Pairs)
             → holds_at e l ≡ holds_at e k
         still k l e cube wanted = rw (cube, wanted) refl
 
-    meets_list : (ms : List Condition) (ks : List Candidate) → AreLiteralsOf ms ks
+    meets_list : (ms : List Matcher) (ks : List Candidate) → AreLiteralsOf ms ks
         → AreAllNamed ks → (e : List ℕ) → Is e → meets e ks ≡ all_hold (set_at side e) ms
     meets_list [] [] literals named e possible = refl
     meets_list [] (k ∷ ks) literals named e possible = absurd literals
@@ -220,7 +220,7 @@ module _ (s : Space) (names : List (List ℕ)) (pairs : Pairs)
         λ i. (ap (λ b. not b || holds_at e k) named.0 ∙ literals.0 e possible) i
         && meets_list ms ks literals.1 named.1 e possible i
 
-    module _ (ms : List Condition) (ks : List Candidate) (literals : AreLiteralsOf ms ks) where
+    module _ (ms : List Matcher) (ks : List Candidate) (literals : AreLiteralsOf ms ks) where
       within_side : AreWithin ms (named_of ks)
       within_side =
           AllByRecursion-each (λ i. i < length ms) (named_of ks) (λ i there.
@@ -229,7 +229,7 @@ module _ (s : Space) (names : List (List ℕ)) (pairs : Pairs)
 
       -- what it says of a pair that they are met
       module _ (e : List ℕ) (possible : Is e) where
-        asked_at : (i : ℕ) (m : Condition) (k : Candidate) → slice_get ms i ≡ Some m
+        asked_at : (i : ℕ) (m : Matcher) (k : Candidate) → slice_get ms i ≡ Some m
             → slice_get ks i ≡ Some k → holds_at e k ≡ condition_holds (set_at side e) m
         asked_at i m k at also =
             let r = zip_right IsLiteralOf ms ks i k literals also in
@@ -344,7 +344,7 @@ module _ (s : Space) (names : List (List ℕ)) (pairs : Pairs)
       (is : IsCubeOf u rule.source source) (also : IsCubeOf u rule.target target)
       (asks : Asks First source in_source) (asks_too : Asks Second target in_target)
       (first_out : Asks First target out_first) (second_out : Asks Second source out_second) where
-    says : (side : Side) (ms : List Condition) (cube asked : MaskedLabels) → IsCubeOf u ms cube
+    says : (side : Side) (ms : List Matcher) (cube asked : MaskedLabels) → IsCubeOf u ms cube
         → Asks side cube asked → (e : List ℕ) → Is e
         → matches asked e ≡ all_hold (set_at side e) ms
     says side ms cube asked exact so e possible =

@@ -3,14 +3,14 @@ use Rattle.std.proofs.Common.{◌≡◌, ℕ, List, [], ◌∷◌, ◌++◌, len
 use Rattle.std.proofs.Common.{ap, Some, arith}
 use Rattle.std.specs.Prelude.{◌==◌, slice_get}
 use Rattle.std.proofs.lemmas.Bool.{eqb-true}
-use Rattle.am_labels.specs.Matcher.{Condition}
+use Rattle.am_labels.specs.Matcher.{Matcher}
 use Rattle.am_config.specs.ConfigFile.{Rule}
 use Rattle.am_report_texts.specs.MatchersText.{matcher_text}
 use Rattle.am_idle.specs.RuleText.{text_if_any, matcher_text_at, matchers_text_at}
 use Rattle.am_idle.specs.RuleText.{contradiction_text}
 
 -- the matcher at a position
-pub matcher_here : (ms : List Condition) (i : ℕ) (m : Condition) → slice_get ms i ≡ Some m
+pub matcher_here : (ms : List Matcher) (i : ℕ) (m : Matcher) → slice_get ms i ≡ Some m
     → matcher_text m ≡ matcher_text_at ms i
 matcher_here ms i m at = ap text_if_any (sym at)
 

@@ -4,7 +4,7 @@ use Rattle.std.specs.List.{AllByRecursion, AllZip, filter, filter_map, enumerate
 use Rattle.am_universe.specs.Universe.{Label, label_position, sizes}
 use Rattle.am_universe.specs.Choice.{IsWhole}
 use Rattle.am_universe.specs.LabelSet.{LabelMap, label_set_of}
-use Rattle.am_labels.specs.Matcher.{Condition, condition_holds}
+use Rattle.am_labels.specs.Matcher.{Matcher, condition_holds}
 use Rattle.am_labels.specs.Space.{Space, IsChoiceOf}
 use Rattle.am_config.specs.ConfigFile.{Rule}
 use Rattle.am_judged_lists.specs.Cube.{MaskedLabels, matches}
@@ -43,7 +43,7 @@ IsFoundOf Meet rule (Some reason) = IsWhyNone Meet rule reason
 
 -- The cubes are those of the matchers of a list, one by one: each matches a pair exactly if the
 -- label set of one side of the pair meets the matcher.
-abbrev pub AreCubesOfMatchers : List Label → Pairs → Side → List Condition → List MaskedLabels
+abbrev pub AreCubesOfMatchers : List Label → Pairs → Side → List Matcher → List MaskedLabels
     → Type 0
 AreCubesOfMatchers u pairs side ms cubes =
     AllZip (λ m cube. (e : List ℕ) → IsPossible (pair_choices pairs) e

@@ -5,7 +5,7 @@ use Rattle.std.specs.Prelude.{is_some}
 use Rattle.std.specs.List.{AllByRecursion}
 use Rattle.am_universe.specs.declared.kind.Kind.{Kind}
 use Rattle.am_universe.specs.Universe.{Label}
-use Rattle.am_labels.specs.Matcher.{Condition}
+use Rattle.am_labels.specs.Matcher.{Matcher}
 use Rattle.am_labels.specs.Space.{Space}
 use Rattle.am_config.specs.ConfigFile.{Rule}
 use Rattle.am_classes.specs.declared.alphabet.Alphabet.{Alphabet}
@@ -13,7 +13,7 @@ use Rattle.am_idle.specs.declared.rules.IdleReason.{IdleReason}
 use Rattle.am_idle.specs.Lists.{StandsForLists, IsRefusalForLists}
 
 -- The matchers of the two sides of a rule.
-abbrev pub sides_of : Rule → List (List Condition)
+abbrev pub sides_of : Rule → List (List Matcher)
 sides_of rule = rule.source ∷ rule.target ∷ []
 
 -- A rule is not refused: there is a universe that stands for every alert, for its two sides.

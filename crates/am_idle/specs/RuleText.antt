@@ -1,7 +1,7 @@
 -- What is said of an inhibition rule, as a line. (This project's own.)
 use Rattle.std.specs.Prelude.{ℕ, List, [], ◌∷◌, ◌++◌, Option, Some, None, codes, decimal, ⊤}
 use Rattle.std.specs.Prelude.{slice_get}
-use Rattle.am_labels.specs.Matcher.{Condition}
+use Rattle.am_labels.specs.Matcher.{Matcher}
 use Rattle.am_config.specs.ConfigFile.{Rule}
 use Rattle.am_report_texts.specs.Separated.{texts_behind}
 use Rattle.am_report_texts.specs.MatchersText.{matcher_text}
@@ -13,14 +13,14 @@ use Rattle.am_idle.specs.Rules.{AreWithin}
 -- and with a comma between each two.
 -- Source: Alertmanager configuration reference 0.25, "<matcher>".
 -- Example: for `team="db",env="prod",team="web"` those at 0 and 2 are `{team="db",team="web"}`.
-abbrev pub text_if_any : Option Condition → List ℕ
+abbrev pub text_if_any : Option Matcher → List ℕ
 text_if_any None = []
 text_if_any (Some m) = matcher_text m
 
-abbrev pub matcher_text_at : List Condition → ℕ → List ℕ
+abbrev pub matcher_text_at : List Matcher → ℕ → List ℕ
 matcher_text_at ms i = text_if_any (slice_get ms i)
 
-abbrev pub matchers_text_at : List Condition → List ℕ → List ℕ
+abbrev pub matchers_text_at : List Matcher → List ℕ → List ℕ
 matchers_text_at ms positions =
     codes "{" ++ (texts_behind (codes "") (codes ",") (matcher_text_at ms) positions ++ codes "}")
 

@@ -5,7 +5,7 @@ use Rattle.std.specs.List.{AllByRecursion}
 use Rattle.std.specs.List.Sorted.{IsStrictlySortedBy}
 use Rattle.std.specs.Ordering.{nat_cmp}
 use Rattle.am_universe.specs.LabelSet.{LabelMap}
-use Rattle.am_labels.specs.Matcher.{Condition, condition_holds, all_hold}
+use Rattle.am_labels.specs.Matcher.{Matcher, condition_holds, all_hold}
 use Rattle.am_labels.specs.Space.{Space}
 use Rattle.am_config.specs.ConfigFile.{Rule}
 use Rattle.am_eval.specs.Inhibition.{have_equal, is_two_sided, inhibits}
@@ -50,21 +50,21 @@ SomeInhibit Meet rule =
 -- Source: own choice.
 -- Example: `{team="db"}` meets the matcher at 1 of `env="prod",team="db"`. Of those at 0 and 1 it
 -- meets all except the one at 0.
-abbrev pub Matches : List Condition → LabelMap → Type 0
+abbrev pub Matches : List Matcher → LabelMap → Type 0
 Matches ms set = IsTrue (all_hold set ms)
 
-abbrev pub MeetsAt : List Condition → List ℕ → LabelMap → Type 0
+abbrev pub MeetsAt : List Matcher → List ℕ → LabelMap → Type 0
 MeetsAt ms positions set =
-    (i : ℕ) (m : Condition) → Contains positions i → slice_get ms i ≡ Some m
+    (i : ℕ) (m : Matcher) → Contains positions i → slice_get ms i ≡ Some m
     → IsTrue (condition_holds set m)
 
-abbrev pub MeetsAtBut : List Condition → List ℕ → ℕ → LabelMap → Type 0
+abbrev pub MeetsAtBut : List Matcher → List ℕ → ℕ → LabelMap → Type 0
 MeetsAtBut ms positions but set =
-    (i : ℕ) (m : Condition) → Contains positions i → i ≢ but → slice_get ms i ≡ Some m
+    (i : ℕ) (m : Matcher) → Contains positions i → i ≢ but → slice_get ms i ≡ Some m
     → IsTrue (condition_holds set m)
 
 -- The positions are positions of a list.
-abbrev pub AreWithin : List Condition → List ℕ → Type 0
+abbrev pub AreWithin : List Matcher → List ℕ → Type 0
 AreWithin ms positions = AllByRecursion (λ i. i < length ms) positions
 
 -- Some matchers of the source side and some of the target side contradict each other: there are no

@@ -2,7 +2,7 @@
 ghost use Rattle.std.specs.Prelude.{◌≡◌, ℕ, ℤ, List, [], ◌∷◌, Bool, Some, IsTrue, IsFalse};
 ghost use Rattle.am_universe.specs.Universe.{Label};
 ghost use Rattle.am_universe.specs.LabelSet.{LabelMap, label_set_of};
-ghost use Rattle.am_labels.specs.Matcher.{Condition};
+ghost use Rattle.am_labels.specs.Matcher.{Matcher};
 ghost use Rattle.am_labels.specs.Space.{Space, IsChoiceOf};
 ghost use Rattle.am_list_files.specs.SilencesFile.{Silence};
 ghost use Rattle.am_config.specs.ConfigFile.{Rule};
@@ -12,7 +12,7 @@ ghost use Rattle.am_classes.specs.declared.alphabet.Alphabet.{Alphabet};
 ghost use Rattle.am_every_alert.specs.EveryAlert.{IsAlertOf, MeetsTheSame};
 ghost use Rattle.am_idle.specs.declared.silences.SilenceFinding.TheVariants as finding_is;
 ghost use Rattle.am_every_alert.specs.Deciding.{space_of};
-ghost use Rattle.am_idle.specs.Lists.{listed_conditions, StandsForLists};
+ghost use Rattle.am_idle.specs.Lists.{listed_matchers, StandsForLists};
 ghost use Rattle.am_idle.specs.Silences.{IsSilenceFinding};
 ghost use Rattle.am_idle.specs.declared.rules.IdleReason.{IdleReason};
 ghost use Rattle.am_idle.specs.Rules.{MayMeet, IsWhyNone, IsIdle};
@@ -21,11 +21,11 @@ ghost use Rattle.am_idle.specs.Rules.{MayMeet, IsWhyNone, IsIdle};
 /// space over the alphabet, whatever labels it has, meets the same matchers of the lists as the
 /// label set of some choice. The label set of each choice is such an alert.
 pub fn a_universe_for_lists_stands_for_every_alert()
-    ensures choice { (a : Alphabet) (s : Space) (lists : List (List Condition)) (u : List Label)
+    ensures choice { (a : Alphabet) (s : Space) (lists : List (List Matcher)) (u : List Label)
         (alert : LabelMap) → StandsForLists a s lists u → IsAlertOf a s alert
         → (choice : List ℕ) × IsChoiceOf (space_of s.impossible u) choice
-        × MeetsTheSame (listed_conditions lists) (label_set_of u choice) alert }
-    ensures alert { (a : Alphabet) (s : Space) (lists : List (List Condition)) (u : List Label)
+        × MeetsTheSame (listed_matchers lists) (label_set_of u choice) alert }
+    ensures alert { (a : Alphabet) (s : Space) (lists : List (List Matcher)) (u : List Label)
         (choice : List ℕ) → StandsForLists a s lists u
         → IsChoiceOf (space_of s.impossible u) choice → IsAlertOf a s (label_set_of u choice) }
 {}

@@ -16,7 +16,7 @@ use Rattle.am_universe.proofs.ListLemmas.{IsIn, AllByRecursion-each}
 use Rattle.am_universe.proofs.LabelValueLemmas.{size_at}
 use Rattle.am_universe.proofs.UniverseLemmas.{no_label}
 use Rattle.am_universe.proofs.WholeChoiceLemmas.{admitted_at}
-use Rattle.am_labels.specs.Matcher.{Condition}
+use Rattle.am_labels.specs.Matcher.{Matcher}
 use Rattle.am_labels.specs.Row.{TruthRow, row_of, row_holds, truths_of, truth_on_value}
 use Rattle.am_labels.proofs.RowLawLemmas.{rows_decide}
 use Rattle.am_judged_lists.specs.declared.cube.LabelMask.{LabelMask}
@@ -164,11 +164,11 @@ values_of (l ∷ u) all (suc i) h = values_of u all.1 i (omega arith)
 pub have_values : (u : List Label) → IsUniverse u → HaveValues (sizes u)
 have_values u h = values_of u h.labels
 
-pub rows_below : (u : List Label) (ms : List Condition) → AllByRecursion (IsRowBelow (length u)) (map (row_of u) ms)
+pub rows_below : (u : List Label) (ms : List Matcher) → AllByRecursion (IsRowBelow (length u)) (map (row_of u) ms)
 rows_below u [] = tt
 rows_below u (m ∷ ms) = (λ i e. (position-Some (λ l. same_text l.name m.name) u i no_label e).0, rows_below u ms)
 
-pub built_exact : (u : List Label) (ms : List Condition) (rows : List TruthRow) (cube : MaskedLabels) (count : ℕ) → IsUniverse u
+pub built_exact : (u : List Label) (ms : List Matcher) (rows : List TruthRow) (cube : MaskedLabels) (count : ℕ) → IsUniverse u
     → rows ≡ map (row_of u) ms → count ≡ length u → IsBuilt u rows cube count → IsCubeOf u ms cube
 built_exact u ms rows cube count h same all built = λ prefix admitted.
     let ns = sizes u in
@@ -187,11 +187,11 @@ built_exact u ms rows cube count h same all built = λ prefix admitted.
 
 -- ---- The rows are as long as their labels have values.
 
-row_sized : (u : List Label) (m : Condition) (o : Option ℕ) (label size : ℕ) → slice_get (sizes u) label ≡ Some size → o ≡ Some label → length (truths_of u m o) ≡ size
+row_sized : (u : List Label) (m : Matcher) (o : Option ℕ) (label size : ℕ) → slice_get (sizes u) label ≡ Some size → o ≡ Some label → length (truths_of u m o) ≡ size
 row_sized u m o label size at e =
     ap (λ p. length (truths_of u m p)) e ∙ length-map (values_at u label) (truth_on_value m) ∙ size_at u label size at
 
-all_sized_at : (u : List Label) (ms : List Condition) (label size k : ℕ) (d : TruthRow) → slice_get (sizes u) label ≡ Some size → k < length (map (row_of u) ms)
+all_sized_at : (u : List Label) (ms : List Matcher) (label size k : ℕ) (d : TruthRow) → slice_get (sizes u) label ≡ Some size → k < length (map (row_of u) ms)
     → (get_or (map (row_of u) ms) k d).label ≡ Some label → length (get_or (map (row_of u) ms) k d).truths ≡ size
 all_sized_at u [] label size k d at h e = absurd (omega arith)
 all_sized_at u (m ∷ ms) label size zero d at h e = row_sized u m (label_position u m.name) label size at e
@@ -206,7 +206,7 @@ rest_of_all P xs ys all = λ k d h.
     subst P (get_or-append-add xs ys k d)
     (all (length xs + k) d (omega (arith, h, length-append xs ys)))
 
-pub all_sized : (u : List Label) (ms : List Condition) (rows more : List TruthRow)
+pub all_sized : (u : List Label) (ms : List Matcher) (rows more : List TruthRow)
     (label size : ℕ) → rows ++ more ≡ map (row_of u) ms → slice_get (sizes u) label ≡ Some size
     → All (λ row. row.label ≡ Some label → length row.truths ≡ size) rows
     × All (λ row. row.label ≡ Some label → length row.truths ≡ size) more

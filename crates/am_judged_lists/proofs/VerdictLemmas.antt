@@ -9,7 +9,7 @@ use Rattle.am_universe.proofs.CompletionLemmas.{completions_of_whole}
 use Rattle.am_universe.proofs.ListLemmas.{IsIn, AllByRecursion-at, AllByRecursion-each}
 use Rattle.am_universe.specs.Universe.{Label, sizes}
 use Rattle.am_universe.specs.Choice.{IsWhole}
-use Rattle.am_labels.specs.Matcher.{Condition}
+use Rattle.am_labels.specs.Matcher.{Matcher}
 use Rattle.am_judged_lists.specs.Verdicts.{verdict_over, matches_at, verdict_of_list}
 use Rattle.am_judged_lists.proofs.ListLemmas.{each_passes, all_pass, none_passes, not_all}
 use Rattle.am_judged_lists.proofs.ListLemmas.{some_passes, same_all, same_any}
@@ -66,13 +66,13 @@ verdict_over_one : (test : List ℕ → Bool) (c : List ℕ) → verdict_over te
 verdict_over_one test c = elim (cases_Bool (test c)) [ inl e ↦ rw e refl | inr e ↦ rw e refl ]
 
 -- so is the verdict of a list at a whole choice
-pub list_says : (u : List Label) (ms : List Condition) (c : List ℕ) → IsWhole (sizes u) c
+pub list_says : (u : List Label) (ms : List Matcher) (c : List ℕ) → IsWhole (sizes u) c
     → verdict_of_list u ms c ≡ cond (matches_at u ms c) Yes No
 list_says u ms c whole =
     ap (verdict_over (matches_at u ms)) (completions_of_whole (sizes u) c whole)
     ∙ verdict_over_one (matches_at u ms) c
 
-pub list_closed : (u : List Label) (ms : List Condition) (c : List ℕ) → IsWhole (sizes u) c → verdict_of_list u ms c ≢ Open
+pub list_closed : (u : List Label) (ms : List Matcher) (c : List ℕ) → IsWhole (sizes u) c → verdict_of_list u ms c ≢ Open
 list_closed u ms c whole e = never (matches_at u ms c) (sym (list_says u ms c whole) ∙ e)
   where
     never : (b : Bool) → cond b Yes No ≡ Open → ⊥

@@ -6,7 +6,7 @@ use Rattle.am_search.specs.declared.verdict.Verdict.{Verdict}
 use Rattle.am_search.specs.declared.verdict.Verdict.TheVariants.{Yes, No, Open}
 use Rattle.am_universe.specs.Universe.{Label, sizes}
 use Rattle.am_universe.specs.Choice.{admits}
-use Rattle.am_labels.specs.Matcher.{Condition}
+use Rattle.am_labels.specs.Matcher.{Matcher}
 use Rattle.am_judged_lists.specs.declared.cube.LabelMask.{LabelMask}
 use Rattle.am_judged_lists.specs.Verdicts.{verdict_of_list}
 
@@ -55,7 +55,7 @@ permits_position cube label position =
 
 -- A cube is that of a list of matchers: at each prefix that the universe admits, its verdict is the
 -- verdict of the list.
-abbrev pub IsCubeOf : List Label → List Condition → MaskedLabels → Type 0
+abbrev pub IsCubeOf : List Label → List Matcher → MaskedLabels → Type 0
 IsCubeOf u ms cube =
     (prefix : List ℕ) → IsTrue (admits (sizes u) prefix)
     → verdict_at cube prefix ≡ verdict_of_list u ms prefix

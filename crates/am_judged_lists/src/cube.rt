@@ -2,7 +2,7 @@ ghost use Rattle.std.specs.Prelude.{◌≡◌, ◌<◌, ◌≤◌, ℕ, List, ma
 ghost use Rattle.std.specs.Prelude.{OnErr, slice_index_or, IfSome, IfNone, IsTrue, length, ◌*◌, []};
 ghost use Rattle.std.specs.Prelude.{◌++◌};
 ghost use Rattle.std.specs.List.{list_any, AllByRecursion};
-ghost use Rattle.am_labels.specs.Matcher.{Condition};
+ghost use Rattle.am_labels.specs.Matcher.{Matcher};
 ghost use Rattle.am_labels.specs.Row.{row_of};
 ghost use Rattle.am_judged_lists.specs.Rows.{is_never_true, is_any_of};
 ghost use Rattle.am_judged_lists.specs.Cube.{IsCubeOf, matches, verdict_at, permits_position};
@@ -96,9 +96,9 @@ impl Cube {
         rows: &[Row],
         more: &[Row],
     ) -> Result<Cube, AllocError>
-        requires rows { (ms : List Condition)
+        requires rows { (ms : List Matcher)
             × (rows.now ++ more.now ≡ map (row_of universe.now) ms) }
-        ensures exact { IfOk result (λ cube. (ms : List Condition)
+        ensures exact { IfOk result (λ cube. (ms : List Matcher)
             → rows.now ++ more.now ≡ map (row_of universe.now) ms
             → IsCubeOf universe.now ms cube) }
     {

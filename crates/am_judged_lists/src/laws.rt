@@ -6,7 +6,7 @@ ghost use Rattle.am_universe.specs.Universe.{Label, IsUniverse, sizes};
 ghost use Rattle.am_universe.specs.Choice.{admits, IsWhole};
 ghost use Rattle.am_universe.specs.Completions.{completions};
 ghost use Rattle.am_universe.specs.LabelSet.{label_set_of};
-ghost use Rattle.am_labels.specs.Matcher.{Condition, all_hold};
+ghost use Rattle.am_labels.specs.Matcher.{Matcher, all_hold};
 ghost use Rattle.am_search.specs.declared.verdict.Verdict.TheVariants.{Yes, No, Open};
 ghost use Rattle.am_judged_lists.specs.Verdicts.{matches_at, verdict_of_list};
 
@@ -14,7 +14,7 @@ ghost use Rattle.am_judged_lists.specs.Verdicts.{matches_at, verdict_of_list};
 /// the list.
 #[tactic(auto, using(crate::proofs::VerdictLemmas::yes_exactly))]
 pub fn yes_is_all()
-    ensures exactly { (u : List Label) (ms : List Condition) (prefix : List ℕ)
+    ensures exactly { (u : List Label) (ms : List Matcher) (prefix : List ℕ)
         → (verdict_of_list u ms prefix ≡ Yes)
         ↔ AllByRecursion (λ c. IsTrue (all_hold (label_set_of u c) ms))
         (completions (sizes u) prefix) }
@@ -25,7 +25,7 @@ pub fn yes_is_all()
 ///
 /// The universe has to admit the prefix.
 pub fn no_is_none()
-    ensures exactly { (u : List Label) (ms : List Condition) (prefix : List ℕ)
+    ensures exactly { (u : List Label) (ms : List Matcher) (prefix : List ℕ)
         → IsUniverse u → IsTrue (admits (sizes u) prefix)
         → (verdict_of_list u ms prefix ≡ No)
         ↔ AllByRecursion (λ c. all_hold (label_set_of u c) ms ≡ false)
@@ -36,7 +36,7 @@ pub fn no_is_none()
 /// the list and those of others do not.
 #[tactic(auto, using(crate::proofs::VerdictLemmas::open_exactly))]
 pub fn open_is_some()
-    ensures exactly { (u : List Label) (ms : List Condition) (prefix : List ℕ)
+    ensures exactly { (u : List Label) (ms : List Matcher) (prefix : List ℕ)
         → (verdict_of_list u ms prefix ≡ Open)
         ↔ (IsTrue (list_any (matches_at u ms) (completions (sizes u) prefix))
         × IsTrue (list_any (λ c. not (matches_at u ms c)) (completions (sizes u) prefix))) }
@@ -48,9 +48,9 @@ pub fn open_is_some()
 /// So it is never `Open`.
 #[tactic(auto, using(crate::proofs::VerdictLemmas::list_says, crate::proofs::VerdictLemmas::list_closed))]
 pub fn a_whole_choice_is_never_open()
-    ensures decided { (u : List Label) (ms : List Condition) (c : List ℕ) → IsWhole (sizes u) c
+    ensures decided { (u : List Label) (ms : List Matcher) (c : List ℕ) → IsWhole (sizes u) c
         → verdict_of_list u ms c ≡ (if all_hold (label_set_of u c) ms then Yes else No) }
-    ensures closed { (u : List Label) (ms : List Condition) (c : List ℕ) → IsWhole (sizes u) c
+    ensures closed { (u : List Label) (ms : List Matcher) (c : List ℕ) → IsWhole (sizes u) c
         → verdict_of_list u ms c ≢ Open }
 {}
 
@@ -59,9 +59,9 @@ pub fn a_whole_choice_is_never_open()
 ///
 /// The completions of the longer prefix are among those of the shorter one.
 pub fn a_decided_list_stays_decided()
-    ensures yes { (u : List Label) (ms : List Condition) (prefix more : List ℕ)
+    ensures yes { (u : List Label) (ms : List Matcher) (prefix more : List ℕ)
         → verdict_of_list u ms prefix ≡ Yes → verdict_of_list u ms (prefix ++ more) ≡ Yes }
-    ensures no { (u : List Label) (ms : List Condition) (prefix more : List ℕ)
+    ensures no { (u : List Label) (ms : List Matcher) (prefix more : List ℕ)
         → IsUniverse u → IsTrue (admits (sizes u) (prefix ++ more))
         → verdict_of_list u ms prefix ≡ No → verdict_of_list u ms (prefix ++ more) ≡ No }
 {}

@@ -5,7 +5,7 @@ use Rattle.am_universe.specs.declared.kind.Kind.{Kind}
 use Rattle.am_universe.specs.declared.kind.Kind.TheVariants as kinds
 use Rattle.am_labels.specs.declared.limits.TheConstants.{MAX_MATCHERS}
 use Rattle.am_labels.specs.MatcherText.{WordsSpell}
-use Rattle.am_labels.specs.Matcher.{Condition}
+use Rattle.am_labels.specs.Matcher.{Matcher}
 use Rattle.am_labels.specs.MatcherRefusals.{have_valid_patterns, MatcherRefusedFor, PatternsRefusedFor, WordsRefusedFor}
 
 -- What holds of all elements holds of one that follows others.
@@ -14,13 +14,13 @@ all_at P [] x rest h = h 0 x (omega arith)
 all_at P (y ∷ ys) x rest h = all_at P ys x rest (λ k d l. h (suc k) d (omega arith))
 
 -- A list is refused at a matcher that has a name, after others whose patterns are valid.
-pub refused_at : (before : List Condition) (x : Condition) (after list : List Condition) (kind : Kind)
+pub refused_at : (before : List Matcher) (x : Matcher) (after list : List Matcher) (kind : Kind)
     → before ++ x ∷ after ≡ list → All (λ s. s.name ≢ []) list
     → IsTrue (have_valid_patterns before) → MatcherRefusedFor x kind
     → PatternsRefusedFor list kind
 refused_at before x after list kind e named valid_patterns refused =
     elim refused [
-      | inl unnamed ↦ absurd (all_at (λ (s : Condition). s.name ≢ []) before x after (subst (All (λ (s : Condition). s.name ≢ [])) (sym e) named) unnamed.0)
+      | inl unnamed ↦ absurd (all_at (λ (s : Matcher). s.name ≢ []) before x after (subst (All (λ (s : Matcher). s.name ≢ [])) (sym e) named) unnamed.0)
       | inr value ↦ record {
         before = before;
         refused = x;
@@ -32,7 +32,7 @@ refused_at before x after list kind e named valid_patterns refused =
     ]
 
 -- Words that spell a list are refused as the list is, if the list is not too long.
-pub words_refused : {X : Type 0} (r : Result X Kind) (words : List (List ℕ)) (list : List Condition)
+pub words_refused : {X : Type 0} (r : Result X Kind) (words : List (List ℕ)) (list : List Matcher)
     → WordsSpell words list → length list ≤ MAX_MATCHERS
     → IfErr r (λ kind. kind ≢ kinds.Memory → PatternsRefusedFor list kind)
     → IfErr r (λ kind. kind ≢ kinds.Memory → WordsRefusedFor words kind)

@@ -5,12 +5,12 @@ use Rattle.std.specs.List.{filter, range_with_len}
 use Rattle.std.proofs.lemmas.List.{append-nil, append_assoc, at_drop_more}
 use Rattle.std.proofs.Math.ListN.{drop_of_length-le}
 use Rattle.am_universe.specs.declared.kind.Kind.{Kind}
-use Rattle.am_labels.specs.Matcher.{Condition}
+use Rattle.am_labels.specs.Matcher.{Matcher}
 use Rattle.am_labels.specs.MatcherText.{is_blank, is_separator, separators, pieces_from, without_blank_last, matcher_pieces, pieces_of_words, without_opening, without_closing}
 use Rattle.am_labels.specs.MatcherReading.{IsReadFailure, ◌>>=◌, read_piece, read_each_piece}
 
 -- What is read, after the conditions that were read before.
-abbrev pub after : List Condition → Option (List Condition) → Option (List Condition)
+abbrev pub after : List Matcher → Option (List Matcher) → Option (List Matcher)
 after front None = None
 after front (Some ms) = Some (front ++ ms)
 
@@ -66,32 +66,32 @@ told_at_end text start i last done all l e told = rw (e, ← left_at_end text st
 
 -- ---- the conditions that were read so far, and the pieces that are left
 
-pub after_one : (front : List Condition) (m : Condition) (o : Option (List Condition)) → after front (o >>= λ ms. Some (m ∷ ms)) ≡ after (front ++ m ∷ []) o
+pub after_one : (front : List Matcher) (m : Matcher) (o : Option (List Matcher)) → after front (o >>= λ ms. Some (m ∷ ms)) ≡ after (front ++ m ∷ []) o
 after_one front m None = refl
 after_one front m (Some ms) = ap Some (sym (append_assoc front (m ∷ []) ms))
 
-pub read_next : (front : List Condition) (piece : List ℕ) (more : List (List ℕ)) (m : Condition) → read_piece piece ≡ Some m → after front (read_each_piece (piece ∷ more)) ≡ after (front ++ m ∷ []) (read_each_piece more)
+pub read_next : (front : List Matcher) (piece : List ℕ) (more : List (List ℕ)) (m : Matcher) → read_piece piece ≡ Some m → after front (read_each_piece (piece ∷ more)) ≡ after (front ++ m ∷ []) (read_each_piece more)
 unfolding read_each_piece
 read_next front piece more m e = rw e (after_one front m (read_each_piece more))
 
-pub read_none : (kind : Kind) (front : List Condition) (piece : List ℕ) (more : List (List ℕ)) → IsReadFailure kind (read_piece piece) → IsReadFailure kind (after front (read_each_piece (piece ∷ more)))
+pub read_none : (kind : Kind) (front : List Matcher) (piece : List ℕ) (more : List (List ℕ)) → IsReadFailure kind (read_piece piece) → IsReadFailure kind (after front (read_each_piece (piece ∷ more)))
 unfolding read_each_piece
 read_none kind front piece more (inl memory) = inl memory
 read_none kind front piece more (inr none) = inr (none.0, rw none.1 refl)
 
-after_all : (front : List Condition) → after front (read_each_piece []) ≡ Some front
+after_all : (front : List Matcher) → after front (read_each_piece []) ≡ Some front
 unfolding read_each_piece
 after_all front = ap Some (append-nil front)
 
 -- in the loop: what was read, and the pieces from an index on, give what all pieces give
-module _ {X : Type 0} (text : X → List ℕ) (ws : List X) (i : ℕ) (ss : List Condition)
-    (all : Option (List Condition)) (told : after ss (read_each_piece (map text (drop i ws))) ≡ all) where
+module _ {X : Type 0} (text : X → List ℕ) (ws : List X) (i : ℕ) (ss : List Matcher)
+    (all : Option (List Matcher)) (told : after ss (read_each_piece (map text (drop i ws))) ≡ all) where
   told_next : (d : X) → i < length ws
       → after ss (read_each_piece (text (get_or ws i d) ∷ map text (drop (i + 1) ws))) ≡ all
   told_next d l =
       sym (at_drop_more (λ rest. after ss (read_each_piece (map text rest))) ws i d l) ∙ told
 
-  pub told_at_piece : (d : X) (m : Condition) → i < length ws
+  pub told_at_piece : (d : X) (m : Matcher) → i < length ws
       → read_piece (text (get_or ws i d)) ≡ Some m
       → after (ss ++ m ∷ []) (read_each_piece (map text (drop (i + 1) ws))) ≡ all
   told_at_piece d m l r =

@@ -13,7 +13,7 @@ use Rattle.am_universe.specs.declared.kind.Kind.TheVariants.{Memory}
 use Rattle.am_labels.specs.declared.op.Op.{Op}
 use Rattle.am_labels.specs.declared.op.Op.TheVariants.{Equal, Matches}
 use Rattle.am_labels.specs.declared.op.TheConstants.Op.{ALL}
-use Rattle.am_labels.specs.Matcher.{Condition, operator_text}
+use Rattle.am_labels.specs.Matcher.{Matcher, operator_text}
 use Rattle.am_labels.specs.MatcherText.{is_space, is_blank, begins_name, continues_name, is_name, unescaped_text, is_trimmed, IsLongest, SpellsOne, Spells, matcher_pieces, without_opening, without_closing, pieces_of_words, WordsSpell}
 use Rattle.am_labels.specs.MatcherRefusals.{WordsRefusedFor}
 use Rattle.am_labels.specs.MatcherReading.{IsReadFailure, read_body, read_operator, read_name, read_piece, read_each_piece, read_list, read_words, without_leading_blanks, without_trailing_blanks, ◌>>=◌}
@@ -80,7 +80,7 @@ raw_is_cut after (c ∷ cs) behind a b t =
     rw (drop_prefix is_space after ((c ∷ cs) ++ behind) a (not-true (is_space c) ends.0))
     (take_before_suffix is_space (c ∷ cs) behind b (not-true (is_space (get_or (c ∷ cs) (length (c ∷ cs) - 1) 0)) ends.1))
 
-pub spelled_is_read : (piece : List ℕ) (m : Condition) → SpellsOne piece m → read_piece piece ≡ Some m
+pub spelled_is_read : (piece : List ℕ) (m : Matcher) → SpellsOne piece m → read_piece piece ≡ Some m
 spelled_is_read piece m s =
     let four = and_parts ((is_blank s.before && is_blank s.between) && is_blank s.after) (is_blank s.behind) s.blanks in
     let three = and_parts (is_blank s.before && is_blank s.between) (is_blank s.after) four.0 in
@@ -189,58 +189,58 @@ spelled_by piece name op body n o b =
       value = record { body = body; has_body = body_is.0; no_quote = body_is.1; value_is = refl };
     }
 
-pub read_is_spelled : (piece : List ℕ) (m : Condition) → read_piece piece ≡ Some m → SpellsOne piece m
+pub read_is_spelled : (piece : List ℕ) (m : Matcher) → read_piece piece ≡ Some m → SpellsOne piece m
 unfolding read_piece
 read_is_spelled piece m e =
-    let written : List ℕ × List ℕ → Op × List ℕ → List ℕ → Option Condition = λ name op body. Some (record { name = name.0; op = op.0; value = unescaped_text body }) in
-    let from_op : List ℕ × List ℕ → Op × List ℕ → Option Condition = λ name op. read_body (without_trailing_blanks (without_leading_blanks op.1)) >>= written name op in
-    let from_name : List ℕ × List ℕ → Option Condition = λ name. read_operator (without_leading_blanks name.1) >>= from_op name in
+    let written : List ℕ × List ℕ → Op × List ℕ → List ℕ → Option Matcher = λ name op body. Some (record { name = name.0; op = op.0; value = unescaped_text body }) in
+    let from_op : List ℕ × List ℕ → Op × List ℕ → Option Matcher = λ name op. read_body (without_trailing_blanks (without_leading_blanks op.1)) >>= written name op in
+    let from_name : List ℕ × List ℕ → Option Matcher = λ name. read_operator (without_leading_blanks name.1) >>= from_op name in
     option_and_then_some from_name (read_name (without_leading_blanks piece)) m e (λ name n f.
     option_and_then_some (from_op name) (read_operator (without_leading_blanks name.1)) m f (λ op o g.
     option_and_then_some (written name op) (read_body (without_trailing_blanks (without_leading_blanks op.1))) m g (λ body b h.
-    subst (λ (x : Condition). SpellsOne piece x) (same_Some (record { name = name.0; op = op.0; value = unescaped_text body }) m h) (spelled_by piece name op body n o b))))
+    subst (λ (x : Matcher). SpellsOne piece x) (same_Some (record { name = name.0; op = op.0; value = unescaped_text body }) m h) (spelled_by piece name op body n o b))))
 
 -- ---- lists
 
-each_is_read : (ps : List (List ℕ)) (ms : List Condition) → AllZip SpellsOne ps ms → read_each_piece ps ≡ Some ms
+each_is_read : (ps : List (List ℕ)) (ms : List Matcher) → AllZip SpellsOne ps ms → read_each_piece ps ≡ Some ms
 unfolding read_each_piece
 each_is_read [] [] s = refl
 each_is_read (p ∷ ps) (m ∷ ms) s = rw (spelled_is_read p m s.0, each_is_read ps ms s.1) refl
 each_is_read ps ms s = absurd s
 
-each_is_spelled : (ps : List (List ℕ)) (ms : List Condition) → read_each_piece ps ≡ Some ms → AllZip SpellsOne ps ms
+each_is_spelled : (ps : List (List ℕ)) (ms : List Matcher) → read_each_piece ps ≡ Some ms → AllZip SpellsOne ps ms
 unfolding read_each_piece
 each_is_spelled [] ms e = rw (← same_Some [] ms e) tt
 each_is_spelled (p ∷ ps) ms e =
-    let others : Condition → Option (List Condition) = λ m. read_each_piece ps >>= λ ns. Some (m ∷ ns) in
+    let others : Matcher → Option (List Matcher) = λ m. read_each_piece ps >>= λ ns. Some (m ∷ ns) in
     option_and_then_some others (read_piece p) ms e (λ m r f.
     option_and_then_some (λ ns. Some (m ∷ ns)) (read_each_piece ps) ms f (λ ns q g.
     rw (← same_Some (m ∷ ns) ms g) (read_is_spelled p m r, each_is_spelled ps ns q)))
 
-pub list_is_read : (text : List ℕ) (ms : List Condition) → Spells text ms → read_list text ≡ Some ms
+pub list_is_read : (text : List ℕ) (ms : List Matcher) → Spells text ms → read_list text ≡ Some ms
 unfolding read_list
 list_is_read text ms s = each_is_read (matcher_pieces (without_closing (without_opening text))) ms s
 
-pub list_is_spelled : (text : List ℕ) (ms : List Condition) → read_list text ≡ Some ms → Spells text ms
+pub list_is_spelled : (text : List ℕ) (ms : List Matcher) → read_list text ≡ Some ms → Spells text ms
 unfolding read_list
 list_is_spelled text ms e = each_is_spelled (matcher_pieces (without_closing (without_opening text))) ms e
 
-pub words_are_read : (words : List (List ℕ)) (ms : List Condition) → WordsSpell words ms
+pub words_are_read : (words : List (List ℕ)) (ms : List Matcher) → WordsSpell words ms
     → read_words words ≡ Some ms
 unfolding read_words
 words_are_read words ms s = each_is_read (pieces_of_words words) ms s
 
-pub words_are_spelled : (words : List (List ℕ)) (ms : List Condition) → read_words words ≡ Some ms
+pub words_are_spelled : (words : List (List ℕ)) (ms : List Matcher) → read_words words ≡ Some ms
     → WordsSpell words ms
 unfolding read_words
 words_are_spelled words ms e = each_is_spelled (pieces_of_words words) ms e
 
-pub one_list_of_words : (words : List (List ℕ)) (ms ns : List Condition) → WordsSpell words ms
+pub one_list_of_words : (words : List (List ℕ)) (ms ns : List Matcher) → WordsSpell words ms
     → WordsSpell words ns → ms ≡ ns
 one_list_of_words words ms ns s t =
     same_Some ms ns (sym (words_are_read words ms s) ∙ words_are_read words ns t)
 
-pub one_list : (text : List ℕ) (ms ns : List Condition) → Spells text ms → Spells text ns → ms ≡ ns
+pub one_list : (text : List ℕ) (ms ns : List Matcher) → Spells text ms → Spells text ns → ms ≡ ns
 one_list text ms ns s t = same_Some ms ns (sym (list_is_read text ms s) ∙ list_is_read text ns t)
 
 -- ---- an answer of the reader
@@ -254,13 +254,13 @@ refused_is_none kind words (inr none) other =
 name_is_some : (name : List ℕ) → is_name name ≡ true → name ≢ []
 name_is_some name h e = false≢true (rw e at h)
 
-each_named : (ps : List (List ℕ)) (ss : List Condition) → AllZip SpellsOne ps ss → AllByRecursion (λ (s : Condition). s.name ≢ []) ss
+each_named : (ps : List (List ℕ)) (ss : List Matcher) → AllZip SpellsOne ps ss → AllByRecursion (λ (s : Matcher). s.name ≢ []) ss
 each_named ps [] h = tt
 each_named [] (s ∷ ss) h = absurd h
 each_named (p ∷ ps) (s ∷ ss) h = (name_is_some (s.name) h.0.name, each_named ps ss h.1)
 
-pub all_named : (words : List (List ℕ)) (ms : List Condition) → read_words words ≡ Some ms
+pub all_named : (words : List (List ℕ)) (ms : List Matcher) → read_words words ≡ Some ms
     → All (λ m. m.name ≢ []) ms
 all_named words ms e =
-    All-from_recursion (λ (m : Condition). m.name ≢ []) ms
+    All-from_recursion (λ (m : Matcher). m.name ≢ []) ms
     (each_named (pieces_of_words words) ms (words_are_spelled words ms e))

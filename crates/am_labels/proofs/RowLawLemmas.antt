@@ -11,7 +11,7 @@ use Rattle.am_universe.specs.Text.{same_text}
 use Rattle.am_universe.specs.Universe.{Label, IsUniverse, sizes, values_at, label_position}
 use Rattle.am_universe.specs.Choice.{IsWhole}
 use Rattle.am_universe.specs.LabelSet.{value_of, label_set_of}
-use Rattle.am_labels.specs.Matcher.{Condition, holds, condition_holds, all_hold}
+use Rattle.am_labels.specs.Matcher.{Matcher, holds, condition_holds, all_hold}
 use Rattle.am_labels.specs.Row.{is_reached, truth_on_value, truths_of, truth_among, row_of, row_holds, rows_hold}
 use Rattle.am_universe.proofs.LabelValueLemmas.{value_in}
 use Rattle.am_universe.proofs.LabelSetLemmas.{value_of_declared, value_of_undeclared}
@@ -26,7 +26,7 @@ none_passes p xs e k d h = elim (cases_lt (position_or_len p xs) (length xs)) [
   | inr past ↦ fails_before_first p xs k d (omega (arith, past))
 ]
 
-declared : (u : List Label) (c : List ℕ) (m : Condition) (i : ℕ) → IsUniverse u → IsWhole (sizes u) c → label_position u m.name ≡ Some i
+declared : (u : List Label) (c : List ℕ) (m : Matcher) (i : ℕ) → IsUniverse u → IsWhole (sizes u) c → label_position u m.name ≡ Some i
     → condition_holds (label_set_of u c) m ≡ truth_among (Some i) (truths_of u m (Some i)) (slice_index c i)
 declared u c m i h whole e =
     let found = position-Some (λ l. same_text l.name m.name) u i no_label e in
@@ -43,33 +43,33 @@ declared u c m i h whole e =
     let values : values_at u i ≡ l.values = ap (λ o. unwrap_or (option_map (λ l. l.values) o) []) label in
     ap (holds m.op m.value) value ∙ sym (ap (λ vs. get_or (map (truth_on_value m) vs) p false) values ∙ get_or-map (truth_on_value m) l.values p None false below)
 
-undeclared : (u : List Label) (c : List ℕ) (m : Condition) → label_position u m.name ≡ None
+undeclared : (u : List Label) (c : List ℕ) (m : Matcher) → label_position u m.name ≡ None
     → condition_holds (label_set_of u c) m ≡ truth_among None (truths_of u m None) 0
 undeclared u c m e = ap (holds m.op m.value) (value_of_undeclared u c m.name (λ at.
     let inside : at.0 < length u = omega (arith, at.1, length-map u (λ (l : Label). l.name)) in
     let named : (get_or u at.0 no_label).name ≡ m.name = sym (get_or-map (λ l. l.name) u at.0 no_label m.name inside) ∙ at.2 in
     false≢true (sym (none_passes (λ l. same_text l.name m.name) u e at.0 no_label inside) ∙ (bytes_decides (get_or u at.0 no_label).name m.name).1 named)))
 
-by_label : (u : List Label) (c : List ℕ) (m : Condition) (o : Option ℕ) → IsUniverse u → IsWhole (sizes u) c → label_position u m.name ≡ o
+by_label : (u : List Label) (c : List ℕ) (m : Matcher) (o : Option ℕ) → IsUniverse u → IsWhole (sizes u) c → label_position u m.name ≡ o
     → condition_holds (label_set_of u c) m ≡ truth_among o (truths_of u m o) (slice_index c (unwrap_or o 0))
 by_label u c m None h whole e = undeclared u c m e
 by_label u c m (Some i) h whole e = declared u c m i h whole e
 
 -- a whole choice has a position for a declared label
-is_reached_by : (u : List Label) (c : List ℕ) (m : Condition) (o : Option ℕ) → IsWhole (sizes u) c → label_position u m.name ≡ o
+is_reached_by : (u : List Label) (c : List ℕ) (m : Matcher) (o : Option ℕ) → IsWhole (sizes u) c → label_position u m.name ≡ o
     → is_reached o (length c) ≡ true
 is_reached_by u c m None whole e = refl
 is_reached_by u c m (Some i) whole e =
     let found = position-Some (λ l. same_text l.name m.name) u i no_label e in
     lt-ltb i (length c) (omega (arith, found.0, whole.1, length-map u (λ (l : Label). length l.values)))
 
-pub row_decides : (u : List Label) (c : List ℕ) (m : Condition) → IsUniverse u → IsWhole (sizes u) c → condition_holds (label_set_of u c) m ≡ row_holds (row_of u m) c
+pub row_decides : (u : List Label) (c : List ℕ) (m : Matcher) → IsUniverse u → IsWhole (sizes u) c → condition_holds (label_set_of u c) m ≡ row_holds (row_of u m) c
 row_decides u c m h whole =
     let o = label_position u m.name in
     let reached : is_reached o (length c) ≡ true = is_reached_by u c m o whole refl in
     by_label u c m o h whole refl ∙ sym (ap (λ b. b && truth_among o (truths_of u m o) (slice_index c (unwrap_or o 0))) reached)
 
-pub rows_decide : (u : List Label) (c : List ℕ) (ms : List Condition) → IsUniverse u → IsWhole (sizes u) c → all_hold (label_set_of u c) ms ≡ rows_hold u ms c
+pub rows_decide : (u : List Label) (c : List ℕ) (ms : List Matcher) → IsUniverse u → IsWhole (sizes u) c → all_hold (label_set_of u c) ms ≡ rows_hold u ms c
 rows_decide u c [] h whole = refl
 rows_decide u c (m ∷ ms) h whole =
     ap (λ b. b && all_hold (label_set_of u c) ms) (row_decides u c m h whole) ∙ ap (λ b. row_holds (row_of u m) c && b) (rows_decide u c ms h whole)

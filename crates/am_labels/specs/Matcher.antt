@@ -11,7 +11,7 @@ use Rattle.am_universe.specs.LabelSet.{LabelMap, value_of}
 
 -- A matcher: the name of a label, an operator, and the value that the operator compares with, which
 -- is a text or a pattern.
-pub record Condition : Type 0 where
+pub record Matcher : Type 0 where
   pub name : List ℕ
   pub op : Op
   pub value : List ℕ
@@ -65,12 +65,12 @@ holds NotMatches value text = not (finds value text)
 
 -- The truth of a matcher on a label set: that of its operator and value on the value of the label.
 -- If the label is missing, this is the empty text.
-abbrev pub condition_holds : LabelMap → Condition → Bool
+abbrev pub condition_holds : LabelMap → Matcher → Bool
 condition_holds s m = holds m.op m.value (value_of s m.name)
 
 -- A list of matchers matches a label set: each matcher is true of it.
 -- Source: Alertmanager configuration reference 0.25, "<matcher>".
 -- Example: `team="db",severity!="page"` matches `{team="db"}`. The empty list matches every label
 -- set.
-abbrev pub all_hold : LabelMap → List Condition → Bool
+abbrev pub all_hold : LabelMap → List Matcher → Bool
 all_hold s ms = list_all (condition_holds s) ms

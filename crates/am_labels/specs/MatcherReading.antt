@@ -10,7 +10,7 @@ use Rattle.am_universe.specs.declared.kind.Kind.{Kind}
 use Rattle.am_universe.specs.declared.kind.Kind.TheVariants.{Memory, BadMatcher}
 use Rattle.am_labels.specs.declared.op.Op.{Op}
 use Rattle.am_labels.specs.declared.op.TheConstants.Op.{ALL}
-use Rattle.am_labels.specs.Matcher.{Condition, operator_text}
+use Rattle.am_labels.specs.Matcher.{Matcher, operator_text}
 use Rattle.am_labels.specs.MatcherText.{is_space, begins_name, continues_name, is_quote}
 use Rattle.am_labels.specs.MatcherText.{unescaped_text, matcher_pieces}
 use Rattle.am_labels.specs.MatcherText.{without_opening, without_closing, pieces_of_words}
@@ -70,7 +70,7 @@ read_name text =
     else None
 
 -- The condition that a piece spells.
-unfoldable pub read_piece : List ℕ → Option Condition
+unfoldable pub read_piece : List ℕ → Option Matcher
 read_piece piece = do
   name ← read_name (without_leading_blanks piece)
   op ← read_operator (without_leading_blanks name.1)
@@ -78,7 +78,7 @@ read_piece piece = do
   Some (record { name = name.0; op = op.0; value = unescaped_text body })
 
 -- The conditions that pieces spell, one by one.
-unfoldable pub read_each_piece : List (List ℕ) → Option (List Condition)
+unfoldable pub read_each_piece : List (List ℕ) → Option (List Matcher)
 read_each_piece [] = Some []
 read_each_piece (piece ∷ more) = do
   first ← read_piece piece
@@ -86,9 +86,9 @@ read_each_piece (piece ∷ more) = do
   Some (first ∷ others)
 
 -- The list that a text spells.
-unfoldable pub read_list : List ℕ → Option (List Condition)
+unfoldable pub read_list : List ℕ → Option (List Matcher)
 read_list text = read_each_piece (matcher_pieces (without_closing (without_opening text)))
 
 -- The list that words spell.
-unfoldable pub read_words : List (List ℕ) → Option (List Condition)
+unfoldable pub read_words : List (List ℕ) → Option (List Matcher)
 read_words words = read_each_piece (pieces_of_words words)

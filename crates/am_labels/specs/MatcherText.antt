@@ -11,7 +11,7 @@ use Rattle.am_labels.specs.declared.op.Op.{Op}
 use Rattle.am_universe.specs.Bytes.{line_feed, double_quote, comma, colon, backslash, letter_n}
 use Rattle.am_universe.specs.Bytes.{left_brace, right_brace}
 use Rattle.am_universe.specs.Universe.{begins_label_name, continues_label_name}
-use Rattle.am_labels.specs.Matcher.{Condition, operator_text}
+use Rattle.am_labels.specs.Matcher.{Matcher, operator_text}
 
 -- ---- Bytes.
 
@@ -144,7 +144,7 @@ IsLongest op text =
 -- whitespace. Each whitespace may be empty. The operator is the longest one there.
 -- Source: Alertmanager configuration reference 0.25, "<matcher>".
 -- Example: ` team = db ` spells the name `team`, the operator `=` and the value `db`.
-pub record SpellsOne (piece : List ℕ) (m : Condition) : Type 0 where
+pub record SpellsOne (piece : List ℕ) (m : Matcher) : Type 0 where
   pub before : List ℕ
   pub between : List ℕ
   pub after : List ℕ
@@ -163,7 +163,7 @@ pub record SpellsOne (piece : List ℕ) (m : Condition) : Type 0 where
 -- Source: Alertmanager configuration reference 0.25, "<matcher>".
 -- Example: `{team="db",severity=~"crit.*"}` spells two conditions; the empty text spells the empty
 -- list.
-abbrev pub Spells : List ℕ → List Condition → Type 0
+abbrev pub Spells : List ℕ → List Matcher → Type 0
 Spells text ms = AllZip SpellsOne (matcher_pieces (without_closing (without_opening text))) ms
 
 -- ---- Words.
@@ -180,5 +180,5 @@ pieces_of_words (word ∷ next ∷ more) = word ∷ next ∷ more
 -- Source: amtool 0.25, "config routes test": each label is a word of its own; one word: own choice.
 -- Example: `team=db` and `note=a,b` spell two conditions, the second with the value `a,b`;
 -- `{team=db` and `note=a}` spell none.
-abbrev pub WordsSpell : List (List ℕ) → List Condition → Type 0
+abbrev pub WordsSpell : List (List ℕ) → List Matcher → Type 0
 WordsSpell words ms = AllZip SpellsOne (pieces_of_words words) ms

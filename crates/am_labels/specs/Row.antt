@@ -3,7 +3,7 @@ use Rattle.std.specs.Prelude.{ℕ, List, [], ◌∷◌, length, map, slice_index
 use Rattle.std.specs.Prelude.{Bool, true, false, ◌&&◌, Option, Some, None, unwrap_or}
 use Rattle.std.specs.List.{list_all}
 use Rattle.am_universe.specs.Universe.{Label, values_at, label_position}
-use Rattle.am_labels.specs.Matcher.{Condition, holds}
+use Rattle.am_labels.specs.Matcher.{Matcher, holds}
 
 -- The position of the matcher's label, if it is declared, and the truths on that label's values, in
 -- declared order. For a label that is not declared there is one truth.
@@ -12,17 +12,17 @@ pub record TruthRow : Type 0 where
   pub truths : List Bool
 
 -- The truth on a value; absence is the empty text.
-abbrev pub truth_on_value : Condition → Option (List ℕ) → Bool
+abbrev pub truth_on_value : Matcher → Option (List ℕ) → Bool
 truth_on_value m value = holds m.op m.value (unwrap_or value [])
 
 -- The truths on the values of the label at a position, or on absence alone if the label is not
 -- declared.
-abbrev pub truths_of : List Label → Condition → Option ℕ → List Bool
+abbrev pub truths_of : List Label → Matcher → Option ℕ → List Bool
 truths_of u m None = truth_on_value m None ∷ []
 truths_of u m (Some i) = map (truth_on_value m) (values_at u i)
 
 -- The row of a matcher over the labels of a universe.
-abbrev pub row_of : List Label → Condition → TruthRow
+abbrev pub row_of : List Label → Matcher → TruthRow
 row_of u m =
     record { label = label_position u m.name; truths = truths_of u m (label_position u m.name) }
 
@@ -48,5 +48,5 @@ abbrev pub row_holds : TruthRow → List ℕ → Bool
 row_holds row c =
     is_reached row.label (length c) && truth_at row (slice_index c (unwrap_or row.label 0))
 
-abbrev pub rows_hold : List Label → List Condition → List ℕ → Bool
+abbrev pub rows_hold : List Label → List Matcher → List ℕ → Bool
 rows_hold u ms c = list_all (λ m. row_holds (row_of u m) c) ms

@@ -6,13 +6,13 @@ use Rattle.am_universe.specs.Universe.{Label, IsUniverse, sizes}
 use Rattle.am_universe.specs.Choice.{choices, IsWhole}
 use Rattle.am_universe.specs.LabelSet.{LabelMap, label_set_of}
 use Rattle.am_labels.specs.declared.limits.TheConstants.{MAX_IMPOSSIBLE}
-use Rattle.am_labels.specs.Matcher.{Condition, all_hold}
+use Rattle.am_labels.specs.Matcher.{Matcher, all_hold}
 
 -- A space: labels with their values, and lists of matchers that are impossible. No label set of the
 -- space matches such a list.
 pub record Space : Type 0 where
   pub labels : List Label
-  pub impossible : List (List Condition)
+  pub impossible : List (List Matcher)
 
 -- The labels are a universe, and there are at most `MAX_IMPOSSIBLE` impossible lists.
 pub record IsSpace (s : Space) : Type 0 where
@@ -21,7 +21,7 @@ pub record IsSpace (s : Space) : Type 0 where
 
 -- A label set is possible: no list that is impossible matches it. The empty list matches every
 -- label set.
-abbrev pub is_possible : List (List Condition) → LabelMap → Bool
+abbrev pub is_possible : List (List Matcher) → LabelMap → Bool
 is_possible impossible set = not (list_any (all_hold set) impossible)
 
 -- A choice is possible: no impossible list of the space matches its label set.

@@ -8,7 +8,7 @@ ghost use Rattle.am_universe.specs.Choice.{IsWhole, choices};
 ghost use Rattle.am_universe.specs.LabelSet.{label_set_of, value_of};
 ghost use Rattle.am_labels.specs.Space.{Space, all_choices, IsChoiceOf};
 ghost use Rattle.am_labels.specs.declared.limits.TheConstants.{MAX_MATCHERS, MAX_IMPOSSIBLE};
-ghost use Rattle.am_labels.specs.Matcher.{Condition, condition_holds, all_hold};
+ghost use Rattle.am_labels.specs.Matcher.{Matcher, condition_holds, all_hold};
 ghost use Rattle.am_labels.specs.declared.pattern_profile.Piece.{Piece};
 ghost use Rattle.am_labels.specs.PatternProfile.{IsJoinOf, IsInProfile, in_profile};
 ghost use Rattle.am_labels.specs.Row.{row_of, row_holds, rows_hold};
@@ -48,30 +48,30 @@ pub fn the_profile_is_decided()
 /// A text spells at most one list of matchers.
 #[tactic(auto, using(crate::proofs::MatcherTextWhole::one_list))]
 pub fn one_list_a_text()
-    ensures same_list { (text : List ℕ) (ms ns : List Condition)
+    ensures same_list { (text : List ℕ) (ms ns : List Matcher)
         → Spells text ms → Spells text ns → ms ≡ ns }
 {}
 
 /// Words spell at most one list of matchers, and one word spells what it spells as a text.
 #[tactic(auto, using(crate::proofs::MatcherTextWhole::one_list_of_words))]
 pub fn one_list_of_words()
-    ensures same_list { (words : List (List ℕ)) (ms ns : List Condition)
+    ensures same_list { (words : List (List ℕ)) (ms ns : List Matcher)
         → WordsSpell words ms → WordsSpell words ns → ms ≡ ns }
-    ensures one_word { (text : List ℕ) (ms : List Condition)
+    ensures one_word { (text : List ℕ) (ms : List Matcher)
         → WordsSpell (text ∷ []) ms ↔ Spells text ms }
 {}
 
 /// A text spells a list exactly if reading it step by step gives that list.
 #[tactic(auto, using(crate::proofs::MatcherTextWhole::list_is_read, crate::proofs::MatcherTextWhole::list_is_spelled))]
 pub fn texts_are_read()
-    ensures exactly { (text : List ℕ) (ms : List Condition)
+    ensures exactly { (text : List ℕ) (ms : List Matcher)
         → Spells text ms ↔ (read_list text ≡ Some ms) }
 {}
 
 /// If a list repeats no name, each of its names has its value in the label set of the list.
 #[tactic(auto, using(crate::proofs::ParsedLabelSetLemmas::value_of_listed))]
 pub fn listed_value()
-    ensures value { (ms : List Condition) (m : Condition)
+    ensures value { (ms : List Matcher) (m : Matcher)
         → repeats_name ms ≡ false → Contains ms m
         → value_of (set_of_list ms) m.name ≡ m.value }
 {}
@@ -79,7 +79,7 @@ pub fn listed_value()
 /// In the label set of a list, a name that is not in the list has the empty text.
 #[tactic(auto, using(crate::proofs::ParsedLabelSetLemmas::value_of_unlisted))]
 pub fn unlisted_value()
-    ensures value { (ms : List Condition) (name : List ℕ)
+    ensures value { (ms : List Matcher) (name : List ℕ)
         → ¬ Contains (map (λ m. m.name) ms) name
         → value_of (set_of_list ms) name ≡ [] }
 {}
@@ -87,7 +87,7 @@ pub fn unlisted_value()
 /// The truth of a matcher on the label set of a whole choice is its row's truth at that choice.
 #[tactic(auto, using(crate::proofs::RowLawLemmas::row_decides))]
 pub fn a_row_decides_a_matcher()
-    ensures same_truth { (u : List Label) (c : List ℕ) (m : Condition)
+    ensures same_truth { (u : List Label) (c : List ℕ) (m : Matcher)
         → IsUniverse u → IsWhole (sizes u) c
         → condition_holds (label_set_of u c) m ≡ row_holds (row_of u m) c }
 {}
@@ -96,7 +96,7 @@ pub fn a_row_decides_a_matcher()
 /// is true at that choice.
 #[tactic(auto, using(crate::proofs::RowLawLemmas::rows_decide))]
 pub fn rows_decide_a_list()
-    ensures same_truth { (u : List Label) (c : List ℕ) (ms : List Condition)
+    ensures same_truth { (u : List Label) (c : List ℕ) (ms : List Matcher)
         → IsUniverse u → IsWhole (sizes u) c
         → all_hold (label_set_of u c) ms ≡ rows_hold u ms c }
 {}

@@ -25,9 +25,9 @@ pub struct Matcher {
 
 impl Model for Matcher {
     ghost use Rattle.std.specs.Prelude.{◌≡◌, ◌≢◌, [], Some, None, if◌then◌else◌, string_bytes};
-    ghost use Rattle.am_labels.specs.Matcher.{Condition, takes_pattern};
+    ghost use Rattle.am_labels.specs.Matcher.{Matcher, takes_pattern};
 
-    ghost Value = { Condition };
+    ghost Value = { Matcher };
 
     ghost view = { λ m.
         record { name = string_bytes m.name; op = m.op; value = string_bytes m.value } };
@@ -129,9 +129,9 @@ pub struct PreparedMatcher<'m> {
 
 impl<'m> Model for PreparedMatcher<'m> {
     ghost use Rattle.std.specs.Prelude.{◌≡◌, Some, None, if◌then◌else◌};
-    ghost use Rattle.am_labels.specs.Matcher.{Condition, takes_pattern};
+    ghost use Rattle.am_labels.specs.Matcher.{Matcher, takes_pattern};
 
-    ghost Value = { Condition };
+    ghost Value = { Matcher };
 
     ghost view = { λ t. record { name = t.name.now; op = t.op; value = t.value.now } };
 

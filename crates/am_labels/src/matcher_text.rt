@@ -25,17 +25,17 @@ use std::marker::Model;
 
 /// A matcher as a text spells it. Its pattern, if it has one, is neither checked nor built.
 #[derive(Debug, Drop)]
-struct Condition {
+struct SpelledMatcher {
     name: String,
     op: Op,
     value: String,
 }
 
-impl Model for Condition {
+impl Model for SpelledMatcher {
     ghost use Rattle.std.specs.Prelude.{string_bytes};
     ghost use Rattle.am_labels.specs.Matcher as spec;
 
-    ghost Value = { spec.Condition };
+    ghost Value = { spec.Matcher };
 
     ghost view = { λ m.
         record { name = string_bytes m.name; op = m.op; value = string_bytes m.value } };
@@ -75,7 +75,7 @@ pub(crate) fn parse_words(alloc: Global, words: &[&str]) -> Result<Matchers, Kin
 }
 
 /// The matchers that were read, each with its pattern built.
-fn matchers_of(alloc: Global, list: Vec<Condition>) -> Result<Matchers, Kind>
+fn matchers_of(alloc: Global, list: Vec<SpelledMatcher>) -> Result<Matchers, Kind>
     requires named { All (λ m. m.name ≢ []) list.items }
     requires at_most { length list.items ≤ MAX_MATCHERS }
     ensures ok { IfOk result (λ ms. ms ≡ list.items) }
@@ -92,7 +92,7 @@ fn matchers_of(alloc: Global, list: Vec<Condition>) -> Result<Matchers, Kind>
 
 /// Reads the list of matchers that words spell, however long. Fails with `BadMatcher` if they spell
 /// none, and with `Memory` if memory runs out.
-fn read_words(alloc: Global, words: &[&str]) -> Result<Vec<Condition>, Kind>
+fn read_words(alloc: Global, words: &[&str]) -> Result<Vec<SpelledMatcher>, Kind>
     ensures { ReturnsReading (λ list. list.items) result
         (read_words (map (λ word. word.now) words.now)) }
 {
@@ -155,7 +155,7 @@ fn is_blank(text: &[u8]) -> bool
 }
 
 /// Reads pieces one by one.
-fn read_pieces(alloc: Global, pieces: &[&str]) -> Result<Vec<Condition>, Kind>
+fn read_pieces(alloc: Global, pieces: &[&str]) -> Result<Vec<SpelledMatcher>, Kind>
     ensures { ReturnsReading (λ list. list.items) result
         (read_each_piece (map (λ piece. piece.now) pieces.now)) }
 {
@@ -167,7 +167,7 @@ fn read_pieces(alloc: Global, pieces: &[&str]) -> Result<Vec<Condition>, Kind>
 }
 
 /// Reads one piece: a name, an operator and a value. Each may have whitespace around it.
-fn read_piece(alloc: Global, piece: &str) -> Result<Condition, Kind>
+fn read_piece(alloc: Global, piece: &str) -> Result<SpelledMatcher, Kind>
     ensures { ReturnsReading (λ m. m) result (read_piece piece.now) }
 {
     let (name, rest) = read_name(piece.trim_ascii_start())?;
@@ -175,7 +175,7 @@ fn read_piece(alloc: Global, piece: &str) -> Result<Condition, Kind>
     let body = read_body(rest.trim_ascii())?;
     let name = String::from_str(alloc, name)?;
     let value = unescape(alloc, body)?;
-    Ok(Condition { name, op, value })
+    Ok(SpelledMatcher { name, op, value })
 }
 
 /// Whether a name may begin with the byte.

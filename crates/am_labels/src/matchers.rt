@@ -18,9 +18,9 @@ pub struct Matchers {
 impl Model for Matchers {
     ghost use Rattle.std.specs.Prelude.{List, ◌≤◌, length};
     ghost use Rattle.am_labels.specs.declared.limits.TheConstants.{MAX_MATCHERS};
-    ghost use Rattle.am_labels.specs.Matcher.{Condition};
+    ghost use Rattle.am_labels.specs.Matcher.{Matcher};
 
-    ghost Value = { List Condition };
+    ghost Value = { List Matcher };
 
     ghost view = { λ a. a.matchers.items };
 

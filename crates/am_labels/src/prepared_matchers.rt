@@ -20,9 +20,9 @@ pub struct PreparedMatchers<'m> {
 
 impl<'m> Model for PreparedMatchers<'m> {
     ghost use Rattle.std.specs.Prelude.{◌≡◌, List, length, take};
-    ghost use Rattle.am_labels.specs.Matcher.{Condition};
+    ghost use Rattle.am_labels.specs.Matcher.{Matcher};
 
-    ghost Value = { List Condition };
+    ghost Value = { List Matcher };
 
     ghost view = { λ p. p.matchers.now };
 

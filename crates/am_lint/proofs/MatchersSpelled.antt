@@ -9,7 +9,7 @@ use Rattle.std.proofs.lemmas.Bool.Decides.{nat_tests}
 use Rattle.am_universe.specs.Text.{label_value_escape, quoted_text}
 use Rattle.am_labels.specs.declared.op.Op.{Op}
 use Rattle.am_labels.specs.declared.op.Op.TheVariants.{Equal}
-use Rattle.am_labels.specs.Matcher.{Condition, operator_text}
+use Rattle.am_labels.specs.Matcher.{Matcher, operator_text}
 use Rattle.am_labels.specs.MatcherText.{is_space, is_blank, begins_name, continues_name, is_name}
 use Rattle.am_labels.specs.MatcherText.{without_opening, without_closing, matcher_pieces}
 use Rattle.am_labels.specs.MatcherText.{SpellsOne, Spells}
@@ -84,7 +84,7 @@ passes_quoted t =
     (passes_both true true false (flat_map label_value_escape t) (34 ∷ []) (passes_value t)
     (λ piece rest. refl))
 
-passes_matcher : (m : Condition) → is_name m.name ≡ true → Passes false (matcher_text m) false
+passes_matcher : (m : Matcher) → is_name m.name ≡ true → Passes false (matcher_text m) false
 passes_matcher m h =
     passes_both false false false m.name (operator_text m.op ++ quoted_text m.value)
     (passes_name m.name h)
@@ -102,10 +102,10 @@ name_not_blank [] more h = absurd (false≢true h)
 name_not_blank (c ∷ cs) more h =
     rw (begins_no_space c (and_parts (begins_name c) (list_all continues_name cs) h).0) refl
 
-abbrev Named : List Condition → Type 0
+abbrev Named : List Matcher → Type 0
 Named = AllByRecursion (λ m. IsTrue (is_name m.name))
 
-cut_list : (m : Condition) (ms : List Condition) → is_name m.name ≡ true → Named ms → cut false
+cut_list : (m : Matcher) (ms : List Matcher) → is_name m.name ≡ true → Named ms → cut false
     false [] (matcher_text m ++ texts_behind (codes ",") (codes ",") matcher_text ms) ≡
     matcher_text m ∷ map matcher_text ms
 cut_list m [] name named =
@@ -115,7 +115,7 @@ cut_list m (next ∷ ms) name named =
     passes_matcher m name [] (texts_behind (codes ",") (codes ",") matcher_text (next ∷ ms)) ∙ ap
     (λ r. matcher_text m ∷ r) (cut_list next ms named.0 named.1)
 
-cut_all : (ms : List Condition) → Named ms → cut false false []
+cut_all : (ms : List Matcher) → Named ms → cut false false []
     (texts_behind (codes "") (codes ",") matcher_text ms) ≡ map matcher_text ms
 cut_all [] named = refl
 cut_all (m ∷ ms) named = cut_list m ms named.0 named.1
@@ -135,7 +135,7 @@ braces_off text =
 
 -- ---- the law
 
-spells_one : (m : Condition) → is_name m.name ≡ true → SpellsOne (matcher_text m) m
+spells_one : (m : Matcher) → is_name m.name ≡ true → SpellsOne (matcher_text m) m
 spells_one m h = record {
   before = [];
   between = [];
@@ -150,11 +150,11 @@ spells_one m h = record {
   value = quoted_has_value m.value;
 }
 
-each_spelled : (ms : List Condition) → Named ms → AllZip SpellsOne (map matcher_text ms) ms
+each_spelled : (ms : List Matcher) → Named ms → AllZip SpellsOne (map matcher_text ms) ms
 each_spelled [] named = tt
 each_spelled (m ∷ ms) named = (spells_one m named.0, each_spelled ms named.1)
 
-pub matchers_spelled : (ms : List Condition) → AllByRecursion (λ m. IsTrue (is_name m.name)) ms →
+pub matchers_spelled : (ms : List Matcher) → AllByRecursion (λ m. IsTrue (is_name m.name)) ms →
     Spells (matchers_text ms) ms
 matchers_spelled ms named =
     let body : List ℕ = texts_behind (codes "") (codes ",") matcher_text ms in

@@ -4,13 +4,13 @@ use Rattle.std.proofs.Common.{subst, ◌∙◌}
 use Rattle.std.specs.Prelude.{IsTrue, slice_get, ⊤}
 use Rattle.std.proofs.lemmas.Option.{option_and_then_some, same_Some}
 use Rattle.am_universe.specs.LabelSet.{LabelMap, label_set_of}
-use Rattle.am_labels.specs.Matcher.{Condition}
+use Rattle.am_labels.specs.Matcher.{Matcher}
 use Rattle.am_labels.specs.Space.{Space, is_possible}
 use Rattle.am_config.specs.ConfigFile.{Configuration, RouteTree, Routes, route, no_routes}
 use Rattle.am_config.specs.ConfigFile.{next_route}
 use Rattle.am_config.specs.Path.{list_of, route_at}
 use Rattle.am_classes.specs.declared.alphabet.Alphabet.{Alphabet}
-use Rattle.am_asked.specs.Asked.{route_conditions, routes_conditions}
+use Rattle.am_asked.specs.Asked.{route_matchers, routes_matchers}
 use Rattle.am_every_alert.specs.EveryAlert.{IsAlert, IsAlertOf, MeetsTheSame}
 use Rattle.am_every_alert.specs.Deciding.{StandsFor}
 use Rattle.am_every_alert.proofs.SpaceAlerts.{IsToldBy, meets_turned, alert_of_set, none_over}
@@ -27,30 +27,30 @@ use Rattle.am_lint.specs.Standing.{IsSeenBy, IsReasonFor, IsStanding}
 -- ---- What meets the same of the matchers of all routes.
 
 met_among : (s t : LabelMap) (rs : Routes) (p : ℕ) (r : RouteTree)
-    → MeetsTheSame (routes_conditions rs) s t → slice_get (list_of rs) p ≡ Some r
-    → MeetsTheSame (route_conditions r) s t
+    → MeetsTheSame (routes_matchers rs) s t → slice_get (list_of rs) p ≡ Some r
+    → MeetsTheSame (route_matchers r) s t
 met_among s t no_routes p r h is = absurd (cc)
 met_among s t (next_route first rs) zero r h is =
-    subst (λ (x : RouteTree). MeetsTheSame (route_conditions x) s t) (same_Some first r is)
-    (front_met s t (route_conditions first) (routes_conditions rs) h)
+    subst (λ (x : RouteTree). MeetsTheSame (route_matchers x) s t) (same_Some first r is)
+    (front_met s t (route_matchers first) (routes_matchers rs) h)
 met_among s t (next_route first rs) (suc p) r h is =
-    met_among s t rs p r (rest_met s t (route_conditions first) (routes_conditions rs) h) is
+    met_among s t rs p r (rest_met s t (route_matchers first) (routes_matchers rs) h) is
 
 met_at : (s t : LabelMap) (root : RouteTree) (q : List ℕ) (r : RouteTree)
-    → MeetsTheSame (route_conditions root) s t → route_at root q ≡ Some r
-    → MeetsTheSame (route_conditions r) s t
+    → MeetsTheSame (route_matchers root) s t → route_at root q ≡ Some r
+    → MeetsTheSame (route_matchers r) s t
 met_at s t root [] r h at =
-    subst (λ (x : RouteTree). MeetsTheSame (route_conditions x) s t) (same_Some root r at) h
+    subst (λ (x : RouteTree). MeetsTheSame (route_matchers x) s t) (same_Some root r at) h
 met_at s t (route settings children) (p ∷ q) r h at =
     option_and_then_some (λ child. route_at child q) (slice_get (list_of children) p) r at
     (λ child is further.
     met_at s t child q r
     (met_among s t children p child
-    (rest_met s t settings.matchers (routes_conditions children) h) is) further)
+    (rest_met s t settings.matchers (routes_matchers children) h) is) further)
 
 module _ (c : Configuration) where
-  abbrev pub routes : List Condition
-  routes = route_conditions c.root
+  abbrev pub routes : List Matcher
+  routes = route_matchers c.root
 
   matches_told : (q : List ℕ) → IsToldBy routes (Matches c q)
   matches_told q s t met h =
@@ -64,7 +64,7 @@ module _ (c : Configuration) where
 
 -- ---- A space that stands for its alerts.
 
-abbrev IsAlertBut : Alphabet → List (List Condition) → LabelMap → Type 0
+abbrev IsAlertBut : Alphabet → List (List Matcher) → LabelMap → Type 0
 IsAlertBut a lists set = IsAlert a set × IsTrue (is_possible lists set)
 
 abbrev pub StandsForAlerts : Alphabet → Space → Configuration → Type 0

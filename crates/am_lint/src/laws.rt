@@ -1,7 +1,7 @@
 //! Facts about the definitions alone: each is the contract of a function with an empty body.
 ghost use Rattle.std.specs.Prelude.{ℕ, List, IsTrue};
 ghost use Rattle.std.specs.List.{AllByRecursion};
-ghost use Rattle.am_labels.specs.Matcher.{Condition};
+ghost use Rattle.am_labels.specs.Matcher.{Matcher};
 ghost use Rattle.am_labels.specs.MatcherText.{is_name, Spells};
 ghost use Rattle.am_universe.specs.Universe.{IsUniverse};
 ghost use Rattle.am_labels.specs.Space.{Space};
@@ -11,7 +11,7 @@ ghost use Rattle.am_classes.specs.declared.alphabet.Alphabet.{Alphabet};
 ghost use Rattle.am_complete.specs.Complete.{IsSpaceComplete};
 ghost use Rattle.am_complete.specs.Covering.{HasTextsOver};
 ghost use Rattle.am_every_alert.specs.EveryAlert.{IsAlertOf};
-ghost use Rattle.am_every_alert.specs.Deciding.{coverage_conditions};
+ghost use Rattle.am_every_alert.specs.Deciding.{coverage_matchers};
 ghost use Rattle.am_lint.specs.declared.standing.Cause.{Cause};
 ghost use Rattle.am_lint.specs.declared.standing.Standing.{Standing};
 ghost use Rattle.am_lint.specs.Reasons.{IsExcludedBy, IsTakenBy, IsHandedTo};
@@ -21,7 +21,7 @@ ghost use Rattle.am_report_texts.specs.MatchersText.{matchers_text};
 /// The text of matchers is read back as these matchers, if each name may stand in a matcher list.
 #[tactic(auto, using(crate::proofs::MatchersSpelled::matchers_spelled))]
 pub fn the_text_of_matchers_spells_them()
-    ensures spells { (ms : List Condition) → AllByRecursion (λ m. IsTrue (is_name m.name)) ms
+    ensures spells { (ms : List Matcher) → AllByRecursion (λ m. IsTrue (is_name m.name)) ms
         → Spells (matchers_text ms) ms }
 {}
 
@@ -47,17 +47,17 @@ pub fn a_reason_keeps_alerts_out()
 pub fn a_route_stands_over_all_alerts_as_over_a_complete_space()
     ensures standing { (a : Alphabet) (s : Space) (c : Configuration) (path : List ℕ)
         (standing : Standing) → IsUniverse s.labels → HasTextsOver a s.labels
-        → IsSpaceComplete a s (coverage_conditions s c)
+        → IsSpaceComplete a s (coverage_matchers s c)
         → IsStanding s.labels (IsSetOf s) c path standing
         → IsStanding s.labels (IsAlertOf a s) c path standing }
     ensures reason { (a : Alphabet) (s : Space) (c : Configuration) (path : List ℕ) (cause : Cause)
         (routes : List (List ℕ)) → IsUniverse s.labels → HasTextsOver a s.labels
-        → IsSpaceComplete a s (coverage_conditions s c)
+        → IsSpaceComplete a s (coverage_matchers s c)
         → IsReasonFor (IsSetOf s) c path cause routes
         → IsReasonFor (IsAlertOf a s) c path cause routes }
     ensures handed { (a : Alphabet) (s : Space) (c : Configuration) (path : List ℕ)
         (children : List (List ℕ)) → IsUniverse s.labels → HasTextsOver a s.labels
-        → IsSpaceComplete a s (coverage_conditions s c)
+        → IsSpaceComplete a s (coverage_matchers s c)
         → IsHandedTo (IsSetOf s) c path children
         → IsHandedTo (IsAlertOf a s) c path children }
 {}

@@ -6,7 +6,7 @@ use Rattle.std.specs.Prelude.{IsErrAnd}
 use Rattle.am_universe.specs.declared.kind.Kind.{Kind}
 use Rattle.am_universe.specs.declared.kind.Kind.TheVariants as kinds
 use Rattle.am_labels.specs.declared.limits.TheConstants.{MAX_MATCHERS}
-use Rattle.am_labels.specs.Matcher.{Condition}
+use Rattle.am_labels.specs.Matcher.{Matcher}
 use Rattle.am_labels.specs.PatternProfile.{in_profile}
 use Rattle.am_labels.specs.MatcherText.{Spells}
 use Rattle.am_labels.specs.MatcherReading.{read_list}
@@ -25,7 +25,7 @@ use Rattle.am_json.proofs.Deciding.{accept_decides, count_decides, found_decides
 use Rattle.am_json.proofs.Deciding.{then_decides, within_decides}
 use Rattle.am_list_files.proofs.Matching.{patterns_decide, patterns_refused}
 
-abbrev err_of : ReadError → Result (List Condition) ReadError
+abbrev err_of : ReadError → Result (List Matcher) ReadError
 err_of e = Err e
 
 refused_is_no_memory : (found : Refusal) → err_of (errors.Refused found) ≡ err_of errors.Memory → ⊥
@@ -43,17 +43,17 @@ spelled_decides part limit text =
     (λ ms. then_decides (within_decides limit (count_decides MAX_MATCHERS (length ms)))
     (λ _. then_decides (within_decides part (patterns_decide ms)) (λ _. accept_decides ms))))
     (λ all (ms, read, (_, few, (_, valid, is))).
-    subst (λ (ns : List Condition).
+    subst (λ (ns : List Matcher).
     Spells text ns × (length ns ≤ MAX_MATCHERS) × IsTrue (have_valid_patterns ns)) is
     (list_is_spelled text ms read, few, valid))
     (λ all (spells, few, valid). (all, list_is_read text all spells, (tt, few, (tt, valid, refl))))
 
-none_read : (text : List ℕ) (found : Option (List Condition)) → read_list text ≡ found
-    → ((ms : List Condition) → Spells text ms → ⊥) → read_list text ≡ None
+none_read : (text : List ℕ) (found : Option (List Matcher)) → read_list text ≡ found
+    → ((ms : List Matcher) → Spells text ms → ⊥) → read_list text ≡ None
 none_read text None is none = is
 none_read text (Some ms) is none = absurd (none ms (list_is_spelled text ms is))
 
-text_patterns : (part limit : List ℕ) (text : List ℕ) (ms : List Condition) (r : Refusal)
+text_patterns : (part limit : List ℕ) (text : List ℕ) (ms : List Matcher) (r : Refusal)
     → Spells text ms → length ms ≤ MAX_MATCHERS → MayRefuse (check_patterns ms) r
     → MayRefuse (matcher_text_form part limit text) (refusal_within part r)
 unfolding matcher_text_form
@@ -65,9 +65,9 @@ text_patterns part limit text ms r spells le h =
     refl in
     let second : (reading_within limit (check_count MAX_MATCHERS (length ms))).result ≡ Ok tt =
     rw (check_count_fits MAX_MATCHERS (length ms) le) refl in
-    let patterns : List Condition → Reading (List Condition) =
+    let patterns : List Matcher → Reading (List Matcher) =
     λ ns. reading_within part (check_patterns ns) >>= λ _. accept ns in
-    let few : List Condition → Reading (List Condition) =
+    let few : List Matcher → Reading (List Matcher) =
     λ ns. reading_within limit (check_count MAX_MATCHERS (length ns)) >>= λ _. patterns ns in
     let third =
     refuses_first (reading_within part (check_patterns ms)) (λ _. accept ms)
@@ -108,7 +108,7 @@ text_refused part limit text kind (inr s) =
     ]
 
 pub text_fails : (part limit : List ℕ) (text : List ℕ) (kind : Kind)
-    (result : Result (List Condition) ReadError) → (kind ≢ kinds.Memory → TextRefusedFor text kind)
+    (result : Result (List Matcher) ReadError) → (kind ≢ kinds.Memory → TextRefusedFor text kind)
     → IsErrAnd result (λ e. IsRefusalOrMemory e (text_refusal part limit kind))
     → (kind ≡ kinds.Memory → result ≡ Err errors.Memory)
     → Gives (λ ms. ms) result (matcher_text_form part limit text)

@@ -4,7 +4,7 @@ use Rattle.std.proofs.Common.{Some, None, IsTrue, inl, inr, refl, sym, ◌∙◌
 use Rattle.std.proofs.lemmas.Bool.{and_parts}
 use Rattle.am_universe.specs.declared.kind.Kind.{Kind}
 use Rattle.am_labels.specs.declared.op.Op.{Op}
-use Rattle.am_labels.specs.Matcher.{Condition, takes_pattern}
+use Rattle.am_labels.specs.Matcher.{Matcher, takes_pattern}
 use Rattle.am_labels.specs.Pattern.{is_pattern}
 use Rattle.am_labels.specs.PatternProfile.{in_profile}
 use Rattle.am_labels.specs.MatcherRefusals.{has_valid_pattern, have_valid_patterns, pattern_refusal}
@@ -38,17 +38,17 @@ met_of true false r more = refl
 met_of false true r more = refl
 met_of false false r more = refl
 
-abbrev fault_in : List Condition → Option Refusal
+abbrev fault_in : List Matcher → Option Refusal
 fault_in ms = first_fault (pattern_objections ms)
 
-fault_is : (m : Condition) (ms : List Condition)
+fault_is : (m : Matcher) (ms : List Matcher)
     → fault_in (m ∷ ms)
     ≡ cond (has_valid_pattern m) (fault_in ms) (Some (refusal_here (pattern_refusal m.value)))
 fault_is m ms =
     first_of (has_profile_pattern m) (has_valid_pattern m) (refusal_here (pattern_refusal m.value))
     (pattern_objections ms)
 
-met_is : (m : Condition) (ms : List Condition)
+met_is : (m : Matcher) (ms : List Matcher)
     → patterns_before (pattern_objections (m ∷ ms))
     ≡ cond (has_profile_pattern m) ([] ∷ []) []
     ++ cond (has_valid_pattern m) (patterns_before (pattern_objections ms)) []
@@ -57,32 +57,32 @@ met_is m ms =
     (pattern_objections ms)
 
 -- valid patterns have no fault
-sound_passes : (ms : List Condition) → IsTrue (have_valid_patterns ms) → fault_in ms ≡ None
+sound_passes : (ms : List Matcher) → IsTrue (have_valid_patterns ms) → fault_in ms ≡ None
 sound_passes [] h = refl
 sound_passes (m ∷ ms) h =
     let split = and_parts (has_valid_pattern m) (have_valid_patterns ms) h in
     fault_is m ms ∙ rw split.0 (sound_passes ms split.1)
 
-sound_by : (m : Condition) (ms : List Condition) (b : Bool) → has_valid_pattern m ≡ b
+sound_by : (m : Matcher) (ms : List Matcher) (b : Bool) → has_valid_pattern m ≡ b
     → cond b (fault_in ms) (Some (refusal_here (pattern_refusal m.value))) ≡ None
     → (fault_in ms ≡ None → IsTrue (have_valid_patterns ms))
     → IsTrue (have_valid_patterns (m ∷ ms))
 sound_by m ms true is h rest = rw (is, rest h) refl
 sound_by m ms false is h rest = absurd cc
 
-passes_sound : (ms : List Condition) → fault_in ms ≡ None → IsTrue (have_valid_patterns ms)
+passes_sound : (ms : List Matcher) → fault_in ms ≡ None → IsTrue (have_valid_patterns ms)
 passes_sound [] h = refl
 passes_sound (m ∷ ms) h =
     sound_by m ms (has_valid_pattern m) refl (sym (fault_is m ms) ∙ h) (passes_sound ms)
 
-pub patterns_decide : (ms : List Condition)
+pub patterns_decide : (ms : List Matcher)
     → Decides (λ _. IsTrue (have_valid_patterns ms)) ((check_patterns ms).result)
 patterns_decide ms = record {
   says = λ x h. passes_sound ms (unless_ok (fault_in ms) tt x h);
   reads = λ x valid. rw (sound_passes ms valid) refl;
 }
 
-refused_first : (m : Condition) (after : List Condition) (takes profile pattern : Bool)
+refused_first : (m : Matcher) (after : List Matcher) (takes profile pattern : Bool)
     → takes_pattern m.op ≡ takes → in_profile m.value ≡ profile → is_pattern m.value ≡ pattern
     → takes ≡ true
     → MayRefuse (check_patterns (m ∷ after)) (refusal_here (pattern_refusal m.value))
@@ -90,7 +90,7 @@ refused_first m after true true pattern t p q h = inr (rw (met_is m after, t, p)
 refused_first m after true false pattern t p q h = inl (rw (fault_is m after, t, p) refl)
 refused_first m after false profile pattern t p q h = absurd cc
 
-refused_behind : (x : Condition) (ms : List Condition) (r : Refusal) → has_valid_pattern x ≡ true
+refused_behind : (x : Matcher) (ms : List Matcher) (r : Refusal) → has_valid_pattern x ≡ true
     → MayRefuse (check_patterns ms) r → MayRefuse (check_patterns (x ∷ ms)) r
 refused_behind x ms r sound (inl h) = inl (rw (fault_is x ms, sound) h)
 refused_behind x ms r sound (inr h) =
@@ -99,7 +99,7 @@ refused_behind x ms r sound (inr h) =
     inr (rw (met_is x ms) (pattern_right (cond (has_profile_pattern x) ([] ∷ []) [])
     (cond (has_valid_pattern x) met []) r later))
 
-refused_at : (before : List Condition) (m : Condition) (after : List Condition)
+refused_at : (before : List Matcher) (m : Matcher) (after : List Matcher)
     → IsTrue (have_valid_patterns before) → IsTrue (takes_pattern m.op)
     → MayRefuse (check_patterns (before ++ m ∷ after)) (refusal_here (pattern_refusal m.value))
 refused_at [] m after sound takes =
@@ -110,7 +110,7 @@ refused_at (x ∷ before) m after sound takes =
     refused_behind x (before ++ m ∷ after) (refusal_here (pattern_refusal m.value)) split.0
     (refused_at before m after split.1 takes)
 
-pub patterns_refused : (ms : List Condition) (kind : Kind) → PatternsRefusedFor ms kind
+pub patterns_refused : (ms : List Matcher) (kind : Kind) → PatternsRefusedFor ms kind
     → MayRefuse (check_patterns ms) (refusal_here kind)
 patterns_refused ms kind refused =
     rw (refused.parts, refused.value.kind_is)
@@ -135,13 +135,13 @@ named_decides name =
 
 -- ---- One matcher.
 
-pub checked_matcher_decides : (n : Condition)
+pub checked_matcher_decides : (n : Matcher)
     → Decides (λ m. (n ≡ m) × IsTrue (has_valid_pattern n)) ((check_matcher n).result)
 checked_matcher_decides n =
     said_as (then_decides (patterns_decide (n ∷ [])) (λ _. accept_decides n))
     (λ m (_, valid, is). (is, (and_parts (has_valid_pattern n) true valid).0))
     (λ m (is, valid). (tt, rw valid refl, is))
 
-pub same_condition : (m : Condition) (name : List ℕ) (op : Op) → m.name ≡ name → m.op ≡ op
+pub same_matcher : (m : Matcher) (name : List ℕ) (op : Op) → m.name ≡ name → m.op ≡ op
     → record { name = name; op = op; value = m.value } ≡ m
-same_condition m name op n o = rw (← n, ← o) refl
+same_matcher m name op n o = rw (← n, ← o) refl

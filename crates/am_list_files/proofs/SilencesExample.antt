@@ -6,8 +6,8 @@ use Rattle.am_labels.specs.MatcherRefusals.{has_valid_pattern}
 use Rattle.am_list_files.specs.Instant.{instant_of}
 use Rattle.am_list_files.specs.Instant.Reading.{instant_read}
 use Rattle.am_list_files.specs.SilencesFile.{SaysSilenceMatcher, SaysSilences}
-use Rattle.am_list_files.specs.SilencesExample.{team_matcher, severity_matcher, silence_example}
-use Rattle.am_list_files.specs.SilencesExample.{silences_example, team_condition, severity_condition}
+use Rattle.am_list_files.specs.SilencesExample.{team_json, severity_json, silence_example}
+use Rattle.am_list_files.specs.SilencesExample.{silences_example, team_matcher, severity_matcher}
 use Rattle.am_list_files.specs.SilencesExample.{example_silences}
 
 begins : instant_of (codes "2024-05-01T10:00:00Z") ≡ Some (pos 1714557600000000000)
@@ -18,7 +18,7 @@ finishes : instant_of (codes "2024-05-01T12:00:00+01:00") ≡ Some (pos 17145612
 unfolding jiff_on_literals
 finishes = instant_read (codes "2024-05-01T12:00:00+01:00") ∙ refl
 
-team_says : SaysSilenceMatcher team_matcher team_condition
+team_says : SaysSilenceMatcher team_json team_matcher
 team_says = record {
   name = refl;
   named = λ e. cc;
@@ -31,8 +31,8 @@ team_says = record {
   valid_pattern = refl;
 }
 
-severity_says : (pattern : List ℕ) → IsTrue (has_valid_pattern (severity_condition pattern))
-    → SaysSilenceMatcher (severity_matcher pattern) (severity_condition pattern)
+severity_says : (pattern : List ℕ) → IsTrue (has_valid_pattern (severity_matcher pattern))
+    → SaysSilenceMatcher (severity_json pattern) (severity_matcher pattern)
 severity_says pattern valid = record {
   name = refl;
   named = λ e. cc;
@@ -45,7 +45,7 @@ severity_says pattern valid = record {
   valid_pattern = valid;
 }
 
-pub says : (pattern : List ℕ) → IsTrue (has_valid_pattern (severity_condition pattern))
+pub says : (pattern : List ℕ) → IsTrue (has_valid_pattern (severity_matcher pattern))
     → SaysSilences (silences_example pattern) (example_silences pattern)
 says pattern valid = inr (record {
   items = silence_example pattern ∷ [];
@@ -53,7 +53,7 @@ says pattern valid = inr (record {
   few = omega arith;
   each = (
     record {
-      items = team_matcher ∷ severity_matcher pattern ∷ [];
+      items = team_json ∷ severity_json pattern ∷ [];
       is_array = refl;
       some = λ e. cc;
       few = omega arith;

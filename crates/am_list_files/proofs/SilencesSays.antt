@@ -8,7 +8,7 @@ use borrow.Author.Tests.{le-ltb}
 use Rattle.serde_json.specs.Data.{Data, string}
 use Rattle.am_universe.specs.declared.kind.Kind.TheVariants as kinds
 use Rattle.am_labels.specs.declared.limits.TheConstants.{MAX_MATCHERS}
-use Rattle.am_labels.specs.Matcher.{Condition}
+use Rattle.am_labels.specs.Matcher.{Matcher}
 use Rattle.am_labels.specs.MatcherRefusals.{has_valid_pattern}
 use Rattle.am_list_files.specs.declared.limits.TheConstants.{MAX_SILENCES}
 use Rattle.am_json.specs.Json.{field}
@@ -28,7 +28,7 @@ use Rattle.am_json.proofs.Deciding.{said_as, text_decides, then_decides, within_
 use Rattle.am_json.proofs.Deciding.{object_of}
 use Rattle.am_json.proofs.Items.{each_decide, or_null_decides}
 use Rattle.am_json.proofs.Readings.{Decides, check_count_ok}
-use Rattle.am_list_files.proofs.Matching.{checked_matcher_decides, named_decides, same_condition}
+use Rattle.am_list_files.proofs.Matching.{checked_matcher_decides, named_decides, same_matcher}
 
 -- ---- A matcher.
 
@@ -53,7 +53,7 @@ matcher_decides d =
     (checked_matcher_decides
     (record { name = name; op = flagged_op is_regex is_equal; value = value })))))))
     (λ m (name, named, (value, valued, (is_regex, regex, (is_equal, equal, (is, valid))))).
-    subst (λ (n : Condition). SaysSilenceMatcher d n) is (record {
+    subst (λ (n : Matcher). SaysSilenceMatcher d n) is (record {
       name = named.0;
       named = named.1;
       value = valued;
@@ -65,9 +65,9 @@ matcher_decides d =
       valid_pattern = valid;
     }))
     (λ m said.
-    let same = same_condition m m.name (flagged_op said.is_regex said.is_equal) refl said.op in
+    let same = same_matcher m m.name (flagged_op said.is_regex said.is_equal) refl said.op in
     let valid =
-    subst (λ (n : Condition). IsTrue (has_valid_pattern n)) (sym same) said.valid_pattern in (
+    subst (λ (n : Matcher). IsTrue (has_valid_pattern n)) (sym same) said.valid_pattern in (
       m.name,
       (said.name, said.named),
       (m.value, said.value, (said.is_regex, said.regex, (said.is_equal, said.equal, (same, valid)))),
@@ -87,7 +87,7 @@ fits_count [] some few = absurd (some refl)
 fits_count (d ∷ ds) some few = rw (le-ltb MAX_MATCHERS (length (d ∷ ds)) few) refl
 
 -- an array of matchers
-abbrev SaysMatchers : List Data → List Condition → Type 0
+abbrev SaysMatchers : List Data → List Matcher → Type 0
 SaysMatchers items ms =
     (items ≢ []) × (length items ≤ MAX_MATCHERS) × AllZip SaysSilenceMatcher items ms
 

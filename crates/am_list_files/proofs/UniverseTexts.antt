@@ -7,7 +7,7 @@ use Rattle.std.proofs.lemmas.Option.{same_Some}
 use Rattle.serde_json.specs.Data.{Data, string}
 use Rattle.serde_json.specs.Find.{as_str}
 use Rattle.am_labels.specs.declared.limits.TheConstants.{MAX_IMPOSSIBLE}
-use Rattle.am_labels.specs.Matcher.{Condition}
+use Rattle.am_labels.specs.Matcher.{Matcher}
 use Rattle.am_labels.specs.Space.{Space}
 use Rattle.am_json.specs.Json.{field, items_in_field}
 use Rattle.am_json.specs.OptionalItems.{HasItems}
@@ -27,7 +27,7 @@ items_found key d items (inl has) = rw (has.0, has.1) refl
 items_found key d items (inr has) = rw has refl
 
 -- items that say lists of matchers are texts
-all_are_texts : (items : List Data) (lists : List (List Condition))
+all_are_texts : (items : List Data) (lists : List (List Matcher))
     → AllZip SaysImpossible items lists → map string (filter_map as_str items) ≡ items
 all_are_texts [] lists said = refl
 all_are_texts (d ∷ items) [] said = absurd said

@@ -5,7 +5,7 @@ use Rattle.serde_json.specs.Data.{Data, string}
 use Rattle.am_universe.specs.declared.kind.Kind.{Kind}
 use Rattle.am_universe.specs.declared.kind.Kind.TheVariants as kinds
 use Rattle.am_labels.specs.declared.limits.TheConstants.{MAX_MATCHERS}
-use Rattle.am_labels.specs.Matcher.{Condition}
+use Rattle.am_labels.specs.Matcher.{Matcher}
 use Rattle.am_labels.specs.MatcherText.{Spells}
 use Rattle.am_labels.specs.MatcherReading.{read_list}
 use Rattle.am_json.specs.Pointer.{Refusal, refusal_here, refusal_within}
@@ -16,13 +16,13 @@ use Rattle.am_list_files.specs.MatcherFaults.{check_patterns}
 -- Source: Alertmanager configuration reference 0.25, "<matcher>".
 -- Example: the text `{team=db, severity!="info"}` says the matchers `team="db"` and
 -- `severity!="info"`. The text `team` says no list, and neither does the number 1.
-abbrev pub SaysMatcherText : Data → List Condition → Type 0
+abbrev pub SaysMatcherText : Data → List Matcher → Type 0
 SaysMatcherText d matchers = (text : List ℕ) × (d ≡ string text) × Spells text matchers
 
 -- The matchers of the text at `part` of the value that is looked at. Too many of them are a fault
 -- at `limit_part`. By a law of `am_labels`, `read_list` gives the one list that a text `Spells`, or
 -- none if it spells none.
-unfoldable pub matcher_text_form : List ℕ → List ℕ → List ℕ → Reading (List Condition)
+unfoldable pub matcher_text_form : List ℕ → List ℕ → List ℕ → Reading (List Matcher)
 matcher_text_form part limit_part text = do
   ms ← reading_within part (accept_or [] (read_list text) (refusal_here kinds.BadMatcher))
   _ ← reading_within limit_part (check_count MAX_MATCHERS (length ms))

@@ -6,7 +6,7 @@ use Rattle.std.specs.Prelude.{Some, option_and_then, codes}
 use Rattle.std.specs.List.{AllZip}
 use Rattle.serde_json.specs.Data.{Data, string}
 use Rattle.am_labels.specs.declared.limits.TheConstants.{MAX_MATCHERS}
-use Rattle.am_labels.specs.Matcher.{Condition}
+use Rattle.am_labels.specs.Matcher.{Matcher}
 use Rattle.am_labels.specs.MatcherRefusals.{has_valid_pattern}
 use Rattle.am_labels.specs.declared.op.Op.{Op}
 use Rattle.am_labels.specs.declared.op.Op.TheVariants.{Equal, NotEqual, Matches, NotMatches}
@@ -18,7 +18,7 @@ use Rattle.am_list_files.specs.Instant.{instant_of}
 -- A silence: its matchers, and the instants at which it begins and ends, in nanoseconds since
 -- 1970-01-01T00:00:00Z.
 pub record Silence : Type 0 where
-  pub matchers : List Condition
+  pub matchers : List Matcher
   pub starts : ℤ
   pub ends : ℤ
 
@@ -38,7 +38,7 @@ flagged_op true false = NotMatches
 -- absent; which patterns are valid.
 -- Example: `{"name": "team", "value": "db|web", "isRegex": true}` says `team=~"db|web"`. With
 -- `"isEqual": false` beside it, it says `team!~"db|web"`.
-pub record SaysSilenceMatcher (d : Data) (m : Condition) : Type 0 where
+pub record SaysSilenceMatcher (d : Data) (m : Matcher) : Type 0 where
   pub name : field (codes "name") d ≡ Some (string m.name)
   pub named : m.name ≢ []
   pub value : field (codes "value") d ≡ Some (string m.value)

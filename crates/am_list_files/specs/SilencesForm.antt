@@ -6,7 +6,7 @@ use Rattle.serde_json.specs.Data.{Data}
 use Rattle.am_universe.specs.declared.kind.Kind.{Kind}
 use Rattle.am_universe.specs.declared.kind.Kind.TheVariants as kinds
 use Rattle.am_labels.specs.declared.limits.TheConstants.{MAX_MATCHERS}
-use Rattle.am_labels.specs.Matcher.{Condition}
+use Rattle.am_labels.specs.Matcher.{Matcher}
 use Rattle.am_labels.specs.declared.op.Op.{Op}
 use Rattle.am_list_files.specs.declared.limits.TheConstants.{MAX_SILENCES}
 use Rattle.am_json.specs.Objections.{first_fault, IsRefusedFor, limit_fault}
@@ -27,13 +27,13 @@ label_name_form d = do
   accept name
 
 -- A matcher of these parts. Its pattern is refused at the field `value`.
-abbrev pub flagged_matcher_form : List ℕ → Op → List ℕ → Reading Condition
+abbrev pub flagged_matcher_form : List ℕ → Op → List ℕ → Reading Matcher
 flagged_matcher_form name op value =
     reading_within (to_field (codes "value"))
     (check_matcher (record { name = name; op = op; value = value }))
 
 -- A matcher of a silence. Its other fields are not read.
-unfoldable pub silence_matcher_form : Form Data Condition
+unfoldable pub silence_matcher_form : Form Data Matcher
 silence_matcher_form d = do
   _ ← as_object d
   name ← label_name_form d
@@ -48,7 +48,7 @@ matcher_count_fault zero = Some kinds.Empty
 matcher_count_fault (suc count) = limit_fault MAX_MATCHERS (suc count)
 
 -- The matchers of a silence.
-unfoldable pub silence_matchers_form : Form (List Data) (List Condition)
+unfoldable pub silence_matchers_form : Form (List Data) (List Matcher)
 silence_matchers_form items = do
   _ ← refuse_for (matcher_count_fault (length items))
   read_items (λ before item. silence_matcher_form item) [] items

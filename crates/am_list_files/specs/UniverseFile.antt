@@ -5,7 +5,7 @@ use Rattle.std.specs.List.{AllZip}
 use Rattle.serde_json.specs.Data.{Data, null, string}
 use Rattle.am_universe.specs.Universe.{Label, IsUniverse}
 use Rattle.am_labels.specs.declared.limits.TheConstants.{MAX_MATCHERS, MAX_IMPOSSIBLE}
-use Rattle.am_labels.specs.Matcher.{Condition}
+use Rattle.am_labels.specs.Matcher.{Matcher}
 use Rattle.am_labels.specs.MatcherRefusals.{have_valid_patterns}
 use Rattle.am_labels.specs.Space.{Space}
 use Rattle.am_json.specs.Json.{FileSays, field, items_of, HasOnlyFields}
@@ -44,7 +44,7 @@ pub record SaysLabel (d : Data) (label : Label) : Type 0 where
 -- Source: own choice.
 -- Example: `team=db,severity=info` says a list of two matchers. `{}` says the empty list, which
 -- matches every label set. `team` and `team=~(` say none.
-pub record SaysImpossible (d : Data) (ms : List Condition) : Type 0 where
+pub record SaysImpossible (d : Data) (ms : List Matcher) : Type 0 where
   pub text : SaysMatcherText d ms
   pub few : length ms ≤ MAX_MATCHERS
   pub valid_patterns : IsTrue (have_valid_patterns ms)
@@ -78,7 +78,7 @@ FileSaysUniverse bytes s = FileSays SaysUniverse bytes s
 -- Source: own choice.
 -- Example: `a=y` is a text of the list with the one matcher `a="y"`, and so is `{a="y"}`. The lists
 -- `a="y"` and `b="z"` have the texts `a=y` and `b=z`, in this order, and not `a=y` alone.
-pub record AreTextsOfLists (texts : List (List ℕ)) (lists : List (List Condition)) : Type 0 where
+pub record AreTextsOfLists (texts : List (List ℕ)) (lists : List (List Matcher)) : Type 0 where
   pub few : length texts ≤ MAX_IMPOSSIBLE
   pub each : AllZip SaysImpossible (map string texts) lists
 

@@ -4,7 +4,7 @@ use Rattle.serde_json.specs.Data.{Data}
 use Rattle.am_universe.specs.declared.limits.TheConstants.{MAX_LABELS}
 use Rattle.am_universe.specs.Universe.{Values, Label, name_fault, count_fault, value_fault}
 use Rattle.am_labels.specs.declared.limits.TheConstants.{MAX_IMPOSSIBLE}
-use Rattle.am_labels.specs.Matcher.{Condition}
+use Rattle.am_labels.specs.Matcher.{Matcher}
 use Rattle.am_labels.specs.Space.{Space}
 use Rattle.am_json.specs.Json.{is_null}
 use Rattle.am_json.specs.Objections.{first_fault, IsRefusedFor}
@@ -57,13 +57,13 @@ all_labels_form d = do
   reading_within (to_field (codes "labels")) (labels_form items)
 
 -- An impossible list of matchers. All its faults are at its text.
-unfoldable pub impossible_form : Form Data (List Condition)
+unfoldable pub impossible_form : Form Data (List Matcher)
 impossible_form d = do
   text ← as_text d
   matcher_text_form [] [] text
 
 -- The lists in the field `impossible`.
-abbrev pub all_lists_form : Form Data (List (List Condition))
+abbrev pub all_lists_form : Form Data (List (List Matcher))
 all_lists_form d = read_optional_array (codes "impossible") MAX_IMPOSSIBLE impossible_form d
 
 -- The space of a value.

@@ -20,7 +20,7 @@ ghost use Rattle.am_list_files.specs.UniverseForm.{UniverseFileRefusedFor};
 ghost use Rattle.am_list_files.specs.SilencesFile.{Silence, flagged_op, SaysSilences};
 ghost use Rattle.am_list_files.specs.SilencesFile.{FileSaysSilences};
 ghost use Rattle.am_list_files.specs.SilencesExample.{silences_example, example_silences};
-ghost use Rattle.am_list_files.specs.SilencesExample.{severity_condition};
+ghost use Rattle.am_list_files.specs.SilencesExample.{severity_matcher};
 ghost use Rattle.am_list_files.specs.SilencesForm.{silences_form, silences_file_form};
 ghost use Rattle.am_list_files.specs.SilencesForm.{IsFirstFaultOfSilences};
 ghost use Rattle.am_list_files.specs.SilencesForm.{IsFirstFaultOfSilencesFile};
@@ -94,7 +94,7 @@ pub fn flags_are_told_by_the_operator()
 /// The first matcher has no `isEqual`. The second has `isRegex` true, `isEqual` false, and any
 /// valid pattern.
 pub fn an_example_of_silences()
-    ensures says { (pattern : List ℕ) → IsTrue (has_valid_pattern (severity_condition pattern))
+    ensures says { (pattern : List ℕ) → IsTrue (has_valid_pattern (severity_matcher pattern))
         → SaysSilences (silences_example pattern) (example_silences pattern) }
 {}
 

@@ -7,7 +7,7 @@ use Rattle.am_labels.specs.Space.{Space, is_possible}
 use Rattle.am_universe.specs.Universe.{sizes}
 use Rattle.am_universe.specs.Choice.{admits}
 use Rattle.am_universe.specs.Completions.{completions}
-use Rattle.am_labels.specs.Matcher.{Condition}
+use Rattle.am_labels.specs.Matcher.{Matcher}
 use Rattle.am_universe.specs.LabelSet.{label_set_of}
 use Rattle.am_search.specs.declared.verdict.Verdict.{Verdict}
 use Rattle.am_search.specs.declared.verdict.Verdict.TheVariants.{Yes, No, Open}
@@ -31,7 +31,7 @@ one_way No = refl
 one_way Open = refl
 
 -- with the verdicts of the question at each prefix that the space admits
-module _ (s : Space) (w : World) (ms : List Condition) (none : s.impossible ≡ [])
+module _ (s : Space) (w : World) (ms : List Matcher) (none : s.impossible ≡ [])
     (verdict : List ℕ → Verdict)
     (same : (prefix : List ℕ) → IsTrue (admits (sizes s.labels) prefix)
     → verdict prefix ≡ verdict_of s w (Part (Braces ms)) prefix) where

@@ -5,7 +5,7 @@ use Rattle.std.specs.Prelude.{IsTrue}
 use Rattle.std.specs.List.{list_all, list_any}
 use Rattle.am_universe.proofs.UniverseLemmas.{list_any-map}
 use Rattle.am_universe.specs.Universe.{Label, sizes}
-use Rattle.am_labels.specs.Matcher.{Condition}
+use Rattle.am_labels.specs.Matcher.{Matcher}
 use Rattle.am_labels.specs.Space.{Space}
 use Rattle.am_universe.specs.Choice.{admits, IsWhole}
 use Rattle.am_search.specs.Judge.{AreSizes, is_yes}
@@ -43,7 +43,7 @@ says_possible : (s : Space) (cubes : List MaskedLabels) (prefix : List ℕ) (m :
     ≡ map (λ ms. verdict_of_list s.labels ms prefix) s.impossible
     → possible_by cubes prefix m ≡ passes m (verdict_of_space s prefix)
 says_possible s cubes prefix m same =
-    let verdict = λ (ms : List Condition). verdict_of_list s.labels ms prefix in
+    let verdict = λ (ms : List Matcher). verdict_of_list s.labels ms prefix in
     ap not (sym (list_any-map (passes (other m)) (λ cube. verdict_at cube prefix) cubes)
     ∙ ap (list_any (passes (other m))) same
     ∙ list_any-map (passes (other m)) verdict s.impossible)

@@ -10,7 +10,7 @@ use Rattle.am_universe.specs.Choice.{admits, IsWhole}
 use Rattle.am_universe.specs.Completions.{completions}
 use Rattle.am_universe.specs.LabelSet.{label_set_of}
 use Rattle.am_universe.proofs.ListLemmas.{IsIn, AllByRecursion-at, AllByRecursion-each}
-use Rattle.am_labels.specs.Matcher.{Condition, all_hold}
+use Rattle.am_labels.specs.Matcher.{Matcher, all_hold}
 use Rattle.am_labels.specs.Space.{Space, is_possible_choice}
 use Rattle.am_search.specs.declared.verdict.Verdict.{Verdict}
 use Rattle.am_search.specs.declared.verdict.Verdict.TheVariants.{Yes, No, Open}
@@ -83,7 +83,7 @@ module _ (May_be : Type 0) where
 
   -- if the verdict of each list at a prefix agrees with whether a choice matches the list
   module _ (u : List Label) (w : World) (prefix c : List ℕ)
-      (lists : (ms : List Condition)
+      (lists : (ms : List Matcher)
       → Agrees May_be (verdict_of_list u ms prefix) (matches_at u ms c)) where
     literal_agrees : (l : Literal)
         → Agrees May_be (verdict_of_literal u prefix l) (literal_holds (label_set_of u c) l)
@@ -111,12 +111,12 @@ module _ (May_be : Type 0) where
         or_agrees (verdict_of_question u w q prefix) (verdict_of_question u w r prefix)
         (satisfies_at u w q c) (satisfies_at u w r c) (question_agrees q) (question_agrees r)
 
-    answer_agrees : (q : Question) (impossible : List (List Condition))
+    answer_agrees : (q : Question) (impossible : List (List Matcher))
         → (let s : Space = record { labels = u; impossible = impossible } in
         Agrees May_be (verdict_of s w q prefix) (is_answer s w q c))
     answer_agrees q impossible =
         let s : Space = record { labels = u; impossible = impossible } in
-        let none = λ (ms : List Condition). not (all_hold (label_set_of u c) ms) in
+        let none = λ (ms : List Matcher). not (all_hold (label_set_of u c) ms) in
         and_agrees (verdict_of_question u w q prefix) (verdict_of_space s prefix)
         (satisfies_at u w q c) (is_possible_choice s c) (question_agrees q)
         (subst (λ b. Agrees May_be (verdict_of_space s prefix) b)
@@ -149,7 +149,7 @@ yes_of : (b : Bool) → is_yes (cond b Yes No) ≡ b
 yes_of true = refl
 yes_of false = refl
 
-lists_agree : (u : List Label) (c : List ℕ) → IsWhole (sizes u) c → (ms : List Condition)
+lists_agree : (u : List Label) (c : List ℕ) → IsWhole (sizes u) c → (ms : List Matcher)
     → Agrees ⊥ (verdict_of_list u ms c) (matches_at u ms c)
 lists_agree u c whole ms =
     never_agrees (matches_at u ms c) (verdict_of_list u ms c) (list_says u ms c whole)

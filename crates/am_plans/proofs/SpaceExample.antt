@@ -5,7 +5,7 @@ use Rattle.am_universe.specs.Completions.{completions}
 use Rattle.am_universe.proofs.ListLemmas.{AllByRecursion-each}
 use Rattle.am_universe.proofs.UniverseLemmas.{IsUniverse-empty}
 use Rattle.am_universe.proofs.LabelFaultLemmas.{added_is_universe}
-use Rattle.am_labels.specs.Matcher.{Condition}
+use Rattle.am_labels.specs.Matcher.{Matcher}
 use Rattle.am_labels.specs.Row.{rows_hold}
 use Rattle.am_labels.proofs.RowLawLemmas.{rows_decide}
 use Rattle.am_search.specs.declared.verdict.Verdict.TheVariants.{Yes}
@@ -19,7 +19,7 @@ use Rattle.am_eval.specs.World.{World}
 use Rattle.am_plans.specs.SpaceExample.{team, severity, web_critical, without_web_critical}
 use Rattle.am_plans.specs.Verdicts.{kleene_not, kleene_and, verdict_of}
 
-by_rows : (u : List Label) (ms : List Condition) (prefix : List ℕ) → IsUniverse u
+by_rows : (u : List Label) (ms : List Matcher) (prefix : List ℕ) → IsUniverse u
     → verdict_of_list u ms prefix
     ≡ verdict_over (rows_hold u ms) (completions (sizes u) prefix)
 by_rows u ms prefix is =

@@ -2,7 +2,7 @@
 use Rattle.std.specs.Prelude.{List, [], ◌∷◌, Some, None, codes}
 use Rattle.am_universe.specs.Universe.{Label}
 use Rattle.am_labels.specs.Space.{Space}
-use Rattle.am_labels.specs.Matcher.{Condition}
+use Rattle.am_labels.specs.Matcher.{Matcher}
 use Rattle.am_labels.specs.declared.op.Op.TheVariants.{Equal}
 
 -- The label `team`, which may be `db`, `web` or absent, and the label `severity`, which may be
@@ -20,7 +20,7 @@ severity = record {
 }
 
 -- The list `team="web",severity="critical"`.
-abbrev pub web_critical : List Condition
+abbrev pub web_critical : List Matcher
 web_critical =
     record { name = codes "team"; op = Equal; value = codes "web" }
     ∷ record { name = codes "severity"; op = Equal; value = codes "critical" } ∷ []

@@ -6,7 +6,7 @@ ghost use Rattle.am_universe.specs.Universe.{IsUniverse, sizes};
 ghost use Rattle.am_universe.specs.Choice.{admits, IsWhole};
 ghost use Rattle.am_universe.specs.Completions.{completions};
 ghost use Rattle.am_labels.specs.Space.{Space};
-ghost use Rattle.am_labels.specs.Matcher.{Condition};
+ghost use Rattle.am_labels.specs.Matcher.{Matcher};
 ghost use Rattle.am_search.specs.declared.start.Start.{Start};
 ghost use Rattle.am_search.specs.declared.start.Start.TheVariants.{At};
 ghost use Rattle.am_search.specs.declared.verdict.Verdict.TheVariants.{Yes, No, Open};
@@ -63,7 +63,7 @@ pub fn an_example_of_verdicts_in_a_space()
 /// Its verdict is `Open` only if the label sets of some completions match the list and those of
 /// others do not.
 pub fn one_list_has_an_exact_judge()
-    ensures exact { (s : Space) (w : World) (ms : List Condition) → IsUniverse s.labels
+    ensures exact { (s : Space) (w : World) (ms : List Matcher) → IsUniverse s.labels
         → s.impossible ≡ []
         → IsExactJudge (sizes s.labels) (is_answer s w (Part (Braces ms)))
         (verdict_of s w (Part (Braces ms))) }
@@ -76,7 +76,7 @@ pub fn one_list_has_an_exact_judge()
 /// together. From the first choice on, at most `1 + n * z` are judged, so at most one if no label
 /// set matches the list.
 pub fn the_plan_of_one_list_judges_few_prefixes()
-    ensures at_most { (plan : Plan) (w : World) (ms : List Condition) (start : Start)
+    ensures at_most { (plan : Plan) (w : World) (ms : List Matcher) (start : Start)
         → (plan_space plan).impossible ≡ []
         → ((prefix : List ℕ) → IsTrue (admits (plan_sizes plan) prefix)
         → plan_verdict plan prefix
@@ -85,7 +85,7 @@ pub fn the_plan_of_one_list_judges_few_prefixes()
         ≤ 1 + (length (answers_from (plan_sizes plan)
         (is_answer (plan_space plan) w (Part (Braces ms))) start) + 1)
         * sum (plan_sizes plan) }
-    ensures from_the_first { (plan : Plan) (w : World) (ms : List Condition)
+    ensures from_the_first { (plan : Plan) (w : World) (ms : List Matcher)
         → (plan_space plan).impossible ≡ []
         → ((prefix : List ℕ) → IsTrue (admits (plan_sizes plan) prefix)
         → plan_verdict plan prefix

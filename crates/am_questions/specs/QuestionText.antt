@@ -6,7 +6,7 @@ use Rattle.am_universe.specs.Text.{same_text}
 use Rattle.am_universe.specs.declared.kind.Kind.{Kind}
 use Rattle.am_universe.specs.declared.kind.Kind.TheVariants as kinds
 use Rattle.am_labels.specs.declared.limits.TheConstants.{MAX_MATCHERS}
-use Rattle.am_labels.specs.Matcher.{Condition}
+use Rattle.am_labels.specs.Matcher.{Matcher}
 use Rattle.am_labels.specs.MatcherText.{Spells}
 use Rattle.am_labels.specs.MatcherRefusals.{have_valid_patterns, TextRefusedFor}
 use Rattle.am_config.specs.ConfigFile.{Configuration}
@@ -36,7 +36,7 @@ Means c (WrittenReceiver name) simple =
 Means c (WrittenRoute reach text) simple =
     (path : List ℕ) × IsPathOfRoute c text path × (simple ≡ Route reach path)
 Means c (WrittenBraces text) simple =
-    (matchers : List Condition) × Spells text matchers × (length matchers ≤ MAX_MATCHERS)
+    (matchers : List Matcher) × Spells text matchers × (length matchers ≤ MAX_MATCHERS)
     × IsTrue (have_valid_patterns matchers) × (simple ≡ Braces matchers)
 
 -- A tree means the question of the same form, whose simple parts are what the tree's parts mean.

@@ -1,17 +1,17 @@
 -- Matchers in braces: the text of a list that is read back as these matchers.
 use Rattle.std.specs.Prelude.{ℕ, List, ◌++◌, codes}
 use Rattle.am_universe.specs.Text.{quoted_text}
-use Rattle.am_labels.specs.Matcher.{Condition, operator_text}
+use Rattle.am_labels.specs.Matcher.{Matcher, operator_text}
 use Rattle.am_report_texts.specs.Separated.{texts_behind}
 
 -- A matcher: its name, its operator, and its value in quotes.
 -- Source: Alertmanager configuration reference 0.25, "<matcher>".
 -- Example: `team!~"d.*"`.
-abbrev pub matcher_text : Condition → List ℕ
+abbrev pub matcher_text : Matcher → List ℕ
 matcher_text m = m.name ++ (operator_text m.op ++ quoted_text m.value)
 
 -- The matchers in braces, separated by commas.
 -- Source: Alertmanager configuration reference 0.25, "<matcher>".
 -- Example: `{team="db",severity=~"crit.*"}`; without matchers, `{}`.
-abbrev pub matchers_text : List Condition → List ℕ
+abbrev pub matchers_text : List Matcher → List ℕ
 matchers_text ms = codes "{" ++ (texts_behind (codes "") (codes ",") matcher_text ms ++ codes "}")

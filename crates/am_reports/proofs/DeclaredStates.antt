@@ -8,7 +8,7 @@ use Rattle.std.proofs.lemmas.Option.{slice_get-map}
 use Rattle.am_universe.specs.declared.place.Place.{Place}
 use Rattle.am_universe.specs.Universe.{Label, IsLabel, IsUniverse, names, is_label_name}
 use Rattle.am_universe.proofs.LabelPairLemmas.{at_place}
-use Rattle.am_labels.specs.Matcher.{Condition}
+use Rattle.am_labels.specs.Matcher.{Matcher}
 use Rattle.am_labels.specs.Space.{Space}
 use Rattle.am_json.specs.Pointer.{Refusal}
 use Rattle.am_classes.specs.declared.alphabet.Alphabet.{Alphabet}
@@ -20,7 +20,7 @@ use Rattle.am_complete.specs.AskedLabel.{AskedLabel}
 use Rattle.am_complete.specs.LabelState.{IsSoAt, IsSoIfNamed, is_settled, reported_names}
 use Rattle.am_complete.proofs.CompleteUniverses.{space_complete_without_matchers}
 use Rattle.am_complete.proofs.Pushed.{got_front}
-use Rattle.am_reports.specs.Configurations.{Configurations, routing_conditions}
+use Rattle.am_reports.specs.Configurations.{Configurations, routing_matchers}
 use Rattle.am_reports.specs.Configurations.{labels_of_routes}
 use Rattle.am_reports.specs.Made.{AreDeclaredWhole, IsDeclaredRefusal, LacksValue, IsUndecided}
 use Rattle.am_reports.specs.Made.{IsStateRefusal}
@@ -36,7 +36,7 @@ mapped f None b e = absurd (cc)
 mapped f (Some a) b e = (a, refl, cc)
 
 -- the state at this position is that of the label there, and what it says is true
-pub told_at : (a : Alphabet) (s : Space) (ms : List Condition) (asked : List AskedLabel)
+pub told_at : (a : Alphabet) (s : Space) (ms : List Matcher) (asked : List AskedLabel)
     (states : List LabelState) (i : ℕ) (l : Label) → IsUniverse s.labels
     → map (λ state. string_bytes state.name) states ≡ reported_names s.labels asked
     → AllByRecursion
@@ -63,7 +63,7 @@ told_at a s ms asked states i l is reported each at =
 
 -- ---- What follows from it.
 
-pub whole_by : (a : Alphabet) (s : Space) (ms : List Condition) (asked : List AskedLabel)
+pub whole_by : (a : Alphabet) (s : Space) (ms : List Matcher) (asked : List AskedLabel)
     (name : List ℕ) (found : Completeness) → IsUniverse s.labels → IsTrue (is_settled found)
     → IsSoAt a s ms asked name found → IsSpaceCompleteAt a s ms name
 whole_by a s ms asked name (state_is.Complete classes) is settled so = so.0
@@ -79,7 +79,7 @@ whole_by a s ms asked name (state_is.Unproved origin) is settled so =
 pub refused_by : (a : Alphabet) (s : Space) (k : Configurations) (i : ℕ) (l : Label)
     (found : Completeness) (place : Place) (r : Refusal) → slice_get s.labels i ≡ Some l
     → AreDeclaredWhole a s k (take i s.labels) → IsStateRefusal k i l.name found place r
-    → IsSoAt a s (routing_conditions s k) (labels_of_routes k s.impossible) l.name found
+    → IsSoAt a s (routing_matchers s k) (labels_of_routes k s.impossible) l.name found
     → IsDeclaredRefusal a s k place r
 refused_by a s k i l found place r at before refused so = record {
   position = i;
@@ -90,7 +90,7 @@ refused_by a s k i l found place r at before refused so = record {
 }
   where
     by : (found : Completeness) → IsStateRefusal k i l.name found place r
-        → IsSoAt a s (routing_conditions s k) (labels_of_routes k s.impossible) l.name found
+        → IsSoAt a s (routing_matchers s k) (labels_of_routes k s.impossible) l.name found
         → LacksValue a s k i l place r ⊎ IsUndecided s k l place r
     by (state_is.Complete classes) refused so = absurd refused
     by (state_is.Lacks text) refused so =

@@ -4,7 +4,7 @@ use Rattle.std.specs.Prelude.{if◌then◌else◌}
 use Rattle.am_universe.specs.declared.place.Place.{Place}
 use Rattle.am_universe.specs.declared.place.Place.TheVariants as places
 use Rattle.am_universe.proofs.ListLemmas.{IsIn}
-use Rattle.am_labels.specs.Matcher.{Condition}
+use Rattle.am_labels.specs.Matcher.{Matcher}
 use Rattle.am_labels.specs.Space.{Space}
 use Rattle.am_json.specs.Pointer.{Refusal}
 use Rattle.am_config.specs.ConfigFile.{Configuration}
@@ -44,7 +44,7 @@ first_in (Pair old new) name (origin_is.Question position) =
 first_in (Pair old new) name (origin_is.Impossible position) =
     origin_in (origin_is.Impossible position)
 
-made_in : (a : Alphabet) (lists : List (List Condition)) (k : Configurations) (place : Place)
+made_in : (a : Alphabet) (lists : List (List Matcher)) (k : Configurations) (place : Place)
     (r : Refusal) → IsMadeRefusal a lists k place r → IsIn matcher_places place
 made_in a lists k place r (inl full) = inl (sym full.0)
 made_in a lists k place r (inr unproved) =

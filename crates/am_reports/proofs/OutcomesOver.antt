@@ -10,7 +10,7 @@ use Rattle.am_universe.proofs.ListLemmas.{Contains-from_IsIn, AllByRecursion-eac
 use Rattle.am_labels.specs.Space.{Space, all_choices}
 use Rattle.am_labels.proofs.SpaceLaws.{space_choices}
 use Rattle.am_classes.specs.declared.alphabet.Alphabet.{Alphabet}
-use Rattle.am_asked.specs.Asked.{route_conditions}
+use Rattle.am_asked.specs.Asked.{route_matchers}
 use Rattle.am_every_alert.specs.EveryAlert.{IsAlertOf, MeetsTheSame}
 use Rattle.am_every_alert.proofs.SpaceAlerts.{choice_of_alert, alert_of_set}
 use Rattle.am_every_alert.proofs.SameFate.{front_met, rest_met, same_receivers}
@@ -18,7 +18,7 @@ use Rattle.am_outcomes.specs.Outcomes.{fate, same_fate, with_fate, outcomes_of}
 use Rattle.am_outcomes.proofs.FirstsLemmas.{Decides, first_is_one, first_of_key, firsts_apart}
 use Rattle.am_reports.specs.Configurations.{Configurations, One, Pair, each_of}
 use Rattle.am_every_alert.specs.Deciding.{space_of}
-use Rattle.am_reports.specs.Configurations.{conditions_of_routes}
+use Rattle.am_reports.specs.Configurations.{matchers_of_routes}
 use Rattle.am_reports.specs.Made.{StandsForAll}
 use Rattle.am_reports.specs.AllOutcomes.{AreAllOutcomes, IsOutcome, fates}
 
@@ -27,12 +27,12 @@ fate_decides = pointwise_decides bytes_decides
 
 -- what meets the same of the matchers of the routes has the same fate
 fate_met : (k : Configurations) (set alert : LabelMap)
-    → MeetsTheSame (conditions_of_routes k) set alert
+    → MeetsTheSame (matchers_of_routes k) set alert
     → fate (each_of k) set ≡ fate (each_of k) alert
 fate_met (One c) set alert met = λ i. same_receivers set alert c met i ∷ []
 fate_met (Pair old new) set alert met =
-    let before = route_conditions old.root in
-    let after = route_conditions new.root in
+    let before = route_matchers old.root in
+    let after = route_matchers new.root in
     let first = same_receivers set alert old (front_met set alert before after met) in
     let second = same_receivers set alert new (rest_met set alert before after met) in
     λ i. first i ∷ second i ∷ []
@@ -48,7 +48,7 @@ module _ (a : Alphabet) (s : Space) (k : Configurations) (u : List Label)
   choice_counts : (choice : List ℕ) → IsIn (all_choices made) choice
       → IsAlertOf a s (label_set_of u choice)
   choice_counts choice there =
-      alert_of_set a made (conditions_of_routes k) stands.stands (label_set_of u choice)
+      alert_of_set a made (matchers_of_routes k) stands.stands (label_set_of u choice)
       (choice, (space_choices made choice).0 (Contains-from_IsIn (all_choices made) choice there), refl)
 
   is_outcome : (outcome : List (List ℕ) × List ℕ) → IsIn (outcomes_of made (each_of k)) outcome
@@ -62,7 +62,7 @@ module _ (a : Alphabet) (s : Space) (k : Configurations) (u : List Label)
       → (choice : List ℕ) × IsIn (all_choices made) choice
       × (fate (each_of k) (label_set_of u choice) ≡ fate (each_of k) alert)
   choice_of alert counts =
-      let r = choice_of_alert a made (conditions_of_routes k) alert
+      let r = choice_of_alert a made (matchers_of_routes k) alert
       stands.stands.universe stands.stands.complete counts in (
         r.0,
         IsIn-from_Contains (all_choices made) r.0 ((space_choices made r.0).1 r.1),

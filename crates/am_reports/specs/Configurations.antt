@@ -4,14 +4,14 @@ use Rattle.std.specs.List.{list_any}
 use Rattle.am_universe.specs.declared.place.Place.{Place}
 use Rattle.am_universe.specs.declared.place.Place.TheVariants as places
 use Rattle.am_universe.specs.Text.{same_text}
-use Rattle.am_labels.specs.Matcher.{Condition}
+use Rattle.am_labels.specs.Matcher.{Matcher}
 use Rattle.am_labels.specs.Space.{Space}
 use Rattle.am_config.specs.ConfigFile.{Configuration}
 use Rattle.am_complete.specs.declared.origin.Origin.{Origin}
 use Rattle.am_complete.specs.declared.origin.Origin.TheVariants as origin_is
 use Rattle.am_complete.specs.AskedLabel.{AskedLabel, asked_labels}
-use Rattle.am_complete.specs.Complete.{impossible_conditions}
-use Rattle.am_asked.specs.Asked.{route_conditions}
+use Rattle.am_complete.specs.Complete.{impossible_matchers}
+use Rattle.am_asked.specs.Asked.{route_matchers}
 use Rattle.am_asked.specs.Placed.{placed_in_routes, placed_in_lists}
 use Rattle.am_asked.specs.OriginPointer.{origin_place}
 
@@ -26,21 +26,21 @@ each_of (One c) = c ∷ []
 each_of (Pair old new) = old ∷ new ∷ []
 
 -- The matchers of the routes of each configuration.
-abbrev pub conditions_of_routes : Configurations → List Condition
-conditions_of_routes (One c) = route_conditions c.root
-conditions_of_routes (Pair old new) = route_conditions old.root ++ route_conditions new.root
+abbrev pub matchers_of_routes : Configurations → List Matcher
+matchers_of_routes (One c) = route_matchers c.root
+matchers_of_routes (Pair old new) = route_matchers old.root ++ route_matchers new.root
 
 -- The matchers that decide to which receivers a label set goes under each configuration, and
 -- whether it is possible: those of the routes, and those of the impossible lists.
 -- Source: own choice.
 -- Example: if the routes of an old configuration ask for `team="db"`, those of a new one ask for
 -- `team="web"`, and nothing is impossible, they are these two matchers.
-abbrev pub routing_conditions : Space → Configurations → List Condition
-routing_conditions s k = conditions_of_routes k ++ impossible_conditions s.impossible
+abbrev pub routing_matchers : Space → Configurations → List Matcher
+routing_matchers s k = matchers_of_routes k ++ impossible_matchers s.impossible
 
 -- The labels that the routes and the impossible lists ask about, each with what first asks about
 -- it.
-abbrev pub labels_of_routes : Configurations → List (List Condition) → List AskedLabel
+abbrev pub labels_of_routes : Configurations → List (List Matcher) → List AskedLabel
 labels_of_routes (One c) impossible =
     asked_labels (placed_in_routes c ++ placed_in_lists impossible)
 labels_of_routes (Pair old new) impossible =

@@ -4,7 +4,7 @@ use Rattle.am_universe.specs.declared.kind.Kind.TheVariants as kinds
 use Rattle.am_universe.specs.declared.place.Place.{Place}
 use Rattle.am_universe.specs.declared.place.Place.TheVariants as places
 use Rattle.am_universe.specs.Universe.{Label}
-use Rattle.am_labels.specs.Matcher.{Condition}
+use Rattle.am_labels.specs.Matcher.{Matcher}
 use Rattle.am_labels.specs.Space.{Space}
 use Rattle.am_json.specs.Pointer.{Refusal, refusal_here}
 use Rattle.am_classes.specs.declared.alphabet.Alphabet.{Alphabet}
@@ -19,7 +19,7 @@ use Rattle.am_reports.specs.Made.{StandsForAll, IsDeclaredRefusal, IsMadeRefusal
 -- Example: there are too many if 21 children of the top-level route have `continue` and ask about
 -- 21 labels, each with one matcher `=`, since each of the 21 matchers may hold or not. With 20 of
 -- them there are not.
-pub record TooManyWaysFor (a : Alphabet) (lists : List (List Condition)) (k : Configurations)
+pub record TooManyWaysFor (a : Alphabet) (lists : List (List Matcher)) (k : Configurations)
     (r : Refusal) : Type 0 where
   pub labels : List Label
   pub stands : StandsForAll a lists k labels

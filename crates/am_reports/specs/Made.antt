@@ -7,7 +7,7 @@ use Rattle.am_universe.specs.declared.kind.Kind.TheVariants as kinds
 use Rattle.am_universe.specs.declared.place.Place.{Place}
 use Rattle.am_universe.specs.declared.place.Place.TheVariants as places
 use Rattle.am_universe.specs.Universe.{Label}
-use Rattle.am_labels.specs.Matcher.{Condition}
+use Rattle.am_labels.specs.Matcher.{Matcher}
 use Rattle.am_labels.specs.Space.{Space}
 use Rattle.am_json.specs.Pointer.{Refusal}
 use Rattle.am_config.specs.ConfigFile.{Configuration}
@@ -24,7 +24,7 @@ use Rattle.am_every_alert.specs.Deciding.{StandsFor, space_of}
 use Rattle.am_asked.specs.OriginPointer.{origin_pointer}
 use Rattle.am_asked.specs.Made.{NoRoomFor, UnprovedFor}
 use Rattle.am_reports.specs.Configurations.{Configurations, One}
-use Rattle.am_reports.specs.Configurations.{conditions_of_routes, routing_conditions}
+use Rattle.am_reports.specs.Configurations.{matchers_of_routes, routing_matchers}
 use Rattle.am_reports.specs.Configurations.{labels_of_routes, first_place}
 
 -- A universe stands for every alert over an alphabet that no impossible list matches: it is
@@ -33,17 +33,17 @@ use Rattle.am_reports.specs.Configurations.{labels_of_routes, first_place}
 -- Source: own choice.
 -- Example: for one route with `team="db"`, the universe in which `team` may be absent or `db` does
 -- so over each alphabet. It does not if `team` may also be `web`.
-pub record StandsForAll (a : Alphabet) (lists : List (List Condition)) (k : Configurations)
+pub record StandsForAll (a : Alphabet) (lists : List (List Matcher)) (k : Configurations)
     (u : List Label) : Type 0 where
-  pub stands : StandsFor a (space_of lists u) (conditions_of_routes k)
-  pub adds : AddsNeeded a (space_of lists []) (routing_conditions (space_of lists u) k) u
+  pub stands : StandsFor a (space_of lists u) (matchers_of_routes k)
+  pub adds : AddsNeeded a (space_of lists []) (routing_matchers (space_of lists u) k) u
 
 -- No universe is made, since there is no room for the labels that are asked about, or since some of
 -- them are unproved. The refusal of an unproved label is at the file of the first matcher on it.
 -- Source: own choice.
 -- Example: this is so if 65 routes ask about 65 labels, each with one matcher `=`.
 abbrev pub IsMadeRefusal :
-    Alphabet → List (List Condition) → Configurations → Place → Refusal → Type 0
+    Alphabet → List (List Matcher) → Configurations → Place → Refusal → Type 0
 IsMadeRefusal a lists k place r =
     let s = space_of lists [] in
     let asked = labels_of_routes k lists in
@@ -56,7 +56,7 @@ IsMadeRefusal a lists k place r =
 -- space has a value for each class of texts that the label may have. And the same for each label of
 -- a list.
 abbrev pub IsDeclaredWhole : Alphabet → Space → Configurations → Label → Type 0
-IsDeclaredWhole a s k label = IsSpaceCompleteAt a s (routing_conditions s k) label.name
+IsDeclaredWhole a s k label = IsSpaceCompleteAt a s (routing_matchers s k) label.name
 
 abbrev pub AreDeclaredWhole : Alphabet → Space → Configurations → List Label → Type 0
 AreDeclaredWhole a s k labels = AllByRecursion (IsDeclaredWhole a s k) labels
@@ -69,7 +69,7 @@ alphabet_over (Some u) = Unicode
 
 -- No universe is made for the alerts that count, or none for ordinary alerts.
 abbrev pub IsRoutesRefusal :
-    Alphabet → List (List Condition) → Configuration → Place → Refusal → Type 0
+    Alphabet → List (List Matcher) → Configuration → Place → Refusal → Type 0
 IsRoutesRefusal a lists c place r =
     IsMadeRefusal a lists (One c) place r ⊎ IsMadeRefusal Ascii lists (One c) place r
 
@@ -100,7 +100,7 @@ LacksValue a s k position label place r =
 abbrev pub IsUndecided : Space → Configurations → Label → Place → Refusal → Type 0
 IsUndecided s k label place r =
     (asked : AskedLabel) × Contains (labels_of_routes k s.impossible) asked
-    × (asked.name ≡ label.name) × HasPattern (about label.name (routing_conditions s k))
+    × (asked.name ≡ label.name) × HasPattern (about label.name (routing_matchers s k))
     × IsUnprovedAt k asked.name asked.first place r
 
 -- A label that the space declares is refused at this place, for one of these reasons. No label

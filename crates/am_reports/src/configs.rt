@@ -7,7 +7,7 @@ ghost use Rattle.am_universe.specs.declared.kind.Kind.TheVariants as kinds;
 ghost use Rattle.am_json.specs.Reading.{refusal_of};
 ghost use Rattle.am_config.specs.ConfigView.{config_view};
 ghost use Rattle.am_complete.specs.AskedLabel.{IsAskedOf};
-ghost use Rattle.am_reports.specs.Configurations.{routing_conditions, labels_of_routes, asks_of};
+ghost use Rattle.am_reports.specs.Configurations.{routing_matchers, labels_of_routes, asks_of};
 ghost use Rattle.am_reports.specs.ConfigsView.{configurations_of};
 ghost use Rattle.am_reports.specs.Made.{IsUnprovedAt};
 
@@ -33,7 +33,7 @@ pub(crate) fn labels_asked<'a>(
     space: &'a Space,
 ) -> Result<Vec<AskedLabel<'a>>, AllocError>
     ensures asked { IfOk result (λ labels.
-        IsAskedOf labels.items (routing_conditions space.now (configurations_of configs.entry))) }
+        IsAskedOf labels.items (routing_matchers space.now (configurations_of configs.entry))) }
     ensures labels { IfOk result (λ labels.
         labels.items ≡ labels_of_routes (configurations_of configs.entry) space.now.impossible) }
 {

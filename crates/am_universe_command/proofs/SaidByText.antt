@@ -16,7 +16,7 @@ use Rattle.am_universe.specs.Universe.{Label, IsUniverse}
 use Rattle.am_json.specs.Json.{field, items_of, HasOnlyFields}
 use Rattle.am_json.specs.declared.limits.TheConstants.{MAX_FILE_BYTES}
 use Rattle.am_json.proofs.Values.{item_list-items_of, json_of_text}
-use Rattle.am_labels.specs.Matcher.{Condition}
+use Rattle.am_labels.specs.Matcher.{Matcher}
 use Rattle.am_labels.specs.Space.{Space}
 use Rattle.am_list_files.specs.UniverseFile.{FileSaysUniverse, SaysUniverse, SaysLabel, SaysValue}
 use Rattle.am_list_files.specs.UniverseFile.{file_fields, AreTextsOfLists, HasImpossibleTexts}
@@ -123,10 +123,10 @@ labels_are_items : (u : List Label) (texts : List (List ℕ))
 labels_are_items u [] = items_are (map label_data u)
 labels_are_items u (text ∷ texts) = items_are (map label_data u)
 
-abbrev space_of : List Label → List (List Condition) → Space
+abbrev space_of : List Label → List (List Matcher) → Space
 space_of u lists = record { labels = u; impossible = lists }
 
-data_says : (u : List Label) (texts : List (List ℕ)) (lists : List (List Condition))
+data_says : (u : List Label) (texts : List (List ℕ)) (lists : List (List Matcher))
     → IsUniverse u → AreTextsOfLists texts lists
     → SaysUniverse (universe_data u texts) (space_of u lists)
 data_says u texts lists is spell = record {
@@ -143,7 +143,7 @@ data_says u texts lists is spell = record {
   };
 }
 
-pub universe_said : (u : List Label) (texts : List (List ℕ)) (lists : List (List Condition))
+pub universe_said : (u : List Label) (texts : List (List ℕ)) (lists : List (List Matcher))
     → IsUniverse u → AreTextsOfLists texts lists → IsUtf8 (universe_text u texts)
     → length (universe_text u texts) ≤ MAX_FILE_BYTES
     → FileSaysUniverse (universe_text u texts) (space_of u lists)

@@ -8,7 +8,7 @@ use Rattle.am_universe.specs.declared.place.Place.{Place}
 use Rattle.am_universe.specs.declared.place.Place.TheVariants as places
 use Rattle.am_universe.specs.LabelSet.{LabelMap}
 use Rattle.am_universe.specs.Universe.{Label, sizes}
-use Rattle.am_labels.specs.Matcher.{Condition}
+use Rattle.am_labels.specs.Matcher.{Matcher}
 use Rattle.am_labels.specs.Space.{Space, all_choices}
 use Rattle.am_json.specs.declared.limits.TheConstants.{MAX_FILE_BYTES}
 use Rattle.am_json.specs.Pointer.{Refusal, refusal_here}
@@ -20,9 +20,9 @@ use Rattle.am_files.specs.Faults.{Stage}
 use Rattle.am_files.specs.Promise.{Promise}
 use Rattle.am_classes.specs.declared.alphabet.Alphabet.{Alphabet}
 use Rattle.am_complete.specs.declared.label_state.LabelState.{LabelState}
-use Rattle.am_complete.specs.Complete.{IsSpaceComplete, impossible_conditions}
+use Rattle.am_complete.specs.Complete.{IsSpaceComplete, impossible_matchers}
 use Rattle.am_complete.specs.AskedLabel.{AskedLabel, asked_labels}
-use Rattle.am_asked.specs.Asked.{route_conditions, world_conditions, questions_conditions}
+use Rattle.am_asked.specs.Asked.{route_matchers, world_matchers, questions_matchers}
 use Rattle.am_asked.specs.Placed.{placed_in_routes, placed_in_world, placed_in_questions}
 use Rattle.am_asked.specs.Placed.{placed_in_lists}
 use Rattle.am_asked.specs.OriginPointer.{origin_place}
@@ -41,11 +41,11 @@ use Rattle.am_universe_command.specs.UniverseInputs.{universe_input_stages, HasL
 -- those that say what is impossible.
 -- Source: own choice.
 -- Example: with `--routes` the matchers of silences are not among them.
-abbrev pub deciding_conditions :
-    Bool → World → List Question → List (List Condition) → List Condition
-deciding_conditions routes w questions impossible =
-    (if routes then route_conditions w.config.root else world_conditions w)
-    ++ (questions_conditions questions ++ impossible_conditions impossible)
+abbrev pub deciding_matchers :
+    Bool → World → List Question → List (List Matcher) → List Matcher
+deciding_matchers routes w questions impossible =
+    (if routes then route_matchers w.config.root else world_matchers w)
+    ++ (questions_matchers questions ++ impossible_matchers impossible)
 
 -- The labels that these ask about, each with what first asks about it, in the order of the files,
 -- the questions, and the impossible lists.
@@ -53,7 +53,7 @@ deciding_conditions routes w questions impossible =
 -- Example: if a route asks about `team`, a rule about `env`, and a silence about `team`, they are
 -- `team`, which the route first asks about, and `env`, which the rule does.
 abbrev pub deciding_labels :
-    Bool → World → List Question → List (List Condition) → List AskedLabel
+    Bool → World → List Question → List (List Matcher) → List AskedLabel
 deciding_labels routes w questions impossible =
     asked_labels ((if routes then placed_in_routes w.config else placed_in_world w)
     ++ (placed_in_questions questions ++ placed_in_lists impossible))
@@ -65,7 +65,7 @@ deciding_labels routes w questions impossible =
 abbrev pub IsMadeFor : UniverseForm → Space → World → List Question → List Label → Type 0
 IsMadeFor form s w questions u =
     IsMadeBeside form.alphabet form.open s
-    (deciding_conditions form.routes w questions s.impossible) u
+    (deciding_matchers form.routes w questions s.impossible) u
 
 -- The text is that of a universe file made from a space, for a world and for questions. `lists` are
 -- the texts of the impossible lists of the space. The file says such a universe, with the same
@@ -170,14 +170,14 @@ pub record IsCheckOf (a : Alphabet) (s : Space) (w : World) (questions : List Qu
   pub names : map (λ state. string_bytes state.name) states
       ≡ reported_names s.labels (deciding_labels routes w questions s.impossible)
   pub each : AllByRecursion
-      (λ state. IsSoIfNamed a s (deciding_conditions routes w questions s.impossible)
+      (λ state. IsSoIfNamed a s (deciding_matchers routes w questions s.impossible)
       (deciding_labels routes w questions s.impossible) (string_bytes state.name)
       state.completeness) states
   pub unseen : AllByRecursion
       (λ state. state.unseen ≡ is_unseen (alerts_if_any has_alerts w) (string_bytes state.name))
       states
   pub complete : IsTrue (list_all (λ state. is_settled state.completeness) states)
-      → IsSpaceComplete a s (deciding_conditions routes w questions s.impossible)
+      → IsSpaceComplete a s (deciding_matchers routes w questions s.impossible)
   pub all_impossible : Bool
   pub impossible : IsTrue all_impossible ↔ all_choices s ≡ []
   pub text : report ≡ check_text (sizes s.labels) all_impossible states

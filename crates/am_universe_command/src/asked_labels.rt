@@ -4,7 +4,7 @@ ghost use Rattle.std.specs.Prelude.{◌≡◌, map, IfOk};
 ghost use Rattle.am_eval.specs.QuestionView.{question_view};
 ghost use Rattle.am_complete.specs.AskedLabel.{IsAskedOf};
 ghost use Rattle.am_asked.specs.Placed.{placed_in_equal};
-ghost use Rattle.am_universe_command.specs.Universes.{deciding_conditions, deciding_labels};
+ghost use Rattle.am_universe_command.specs.Universes.{deciding_matchers, deciding_labels};
 
 use crate::read_inputs::ReadInputs;
 use am_asked::{EqualMatcher, asked_by_routes, asked_in_world};
@@ -20,7 +20,7 @@ pub(crate) fn labels_asked<'m>(
     routes: bool,
 ) -> Result<Vec<AskedLabel<'m>>, AllocError>
     requires { equal.now ≡ placed_in_equal read.now.world }
-    ensures asked { IfOk result (λ labels. IsAskedOf labels.items (deciding_conditions routes
+    ensures asked { IfOk result (λ labels. IsAskedOf labels.items (deciding_matchers routes
         read.now.world (map question_view read.now.questions.items) read.now.space.impossible)) }
     ensures labels { IfOk result (λ labels. labels.items ≡ deciding_labels routes
         read.now.world (map question_view read.now.questions.items) read.now.space.impossible) }

@@ -7,7 +7,7 @@ use Rattle.std.specs.List.{flat_map, enumerate_from, filter}
 use Rattle.std.proofs.lemmas.Bool.{cases_Bool}
 use Rattle.am_universe.specs.LabelSet.{LabelMap}
 use Rattle.am_universe.proofs.Members.{left_at}
-use Rattle.am_labels.specs.Matcher.{Condition}
+use Rattle.am_labels.specs.Matcher.{Matcher}
 use Rattle.am_list_files.specs.SilencesFile.{Silence}
 use Rattle.am_eval.specs.World.{World}
 use Rattle.am_eval.specs.Silencing.{is_over}
@@ -21,7 +21,7 @@ use Rattle.am_unseen.specs.Search.{Search, after_matcher}
 -- ---- Silences.
 
 -- the matchers of the silences from a position on that are not over
-abbrev pub left_from : World → ℕ → List (Origin × Condition)
+abbrev pub left_from : World → ℕ → List (Origin × Matcher)
 left_from w i =
     flat_map placed_in_silence (filter (is_left w) (enumerate_from i (drop i w.silences)))
 
@@ -59,7 +59,7 @@ abbrev state : List LabelMap → List UnseenValue → Search
 state alerts found = record { alerts = alerts; found = found }
 
 pub found_after : (alerts : List LabelMap) (found : List UnseenValue)
-    (placed : List (Origin × Condition))
+    (placed : List (Origin × Matcher))
     → fold after_matcher (record { alerts = alerts; found = found }) placed
     ≡ record { alerts = alerts; found = found ++ unseen_values_among alerts placed }
 found_after alerts found [] = ap (state alerts) (sym (append-nil found))

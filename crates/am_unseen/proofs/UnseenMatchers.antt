@@ -13,7 +13,7 @@ use Rattle.am_universe.specs.Text.{same_text}
 use Rattle.am_universe.proofs.ListLemmas.{IsIn, IsIn-map, IsIn-unmap, Contains-from_IsIn}
 use Rattle.am_universe.proofs.ListLemmas.{AllByRecursion-each}
 use Rattle.am_labels.specs.declared.op.Op.TheVariants.{Equal}
-use Rattle.am_labels.specs.Matcher.{Condition, condition_holds, holds, is_equality}
+use Rattle.am_labels.specs.Matcher.{Matcher, condition_holds, holds, is_equality}
 use Rattle.am_labels.proofs.OperatorLemmas.{equality_is}
 use Rattle.am_labels.proofs.Passing.{any_in, in_any, passes_from_kept, kept_from_passes}
 use Rattle.am_complete.specs.FoundState.{begins, has_label}
@@ -73,12 +73,12 @@ not_in_missing text (x ∷ xs) t i none =
 -- ---- A matcher.
 
 -- the three conditions on a matcher that names an unseen value
-parts : (alerts : List LabelMap) (m : Condition) → IsTrue (names_unseen_value alerts m)
+parts : (alerts : List LabelMap) (m : Matcher) → IsTrue (names_unseen_value alerts m)
     → (is_equality m.op ≡ true) × (begins m.value ≡ true)
     × (is_missing m.value (seen_values alerts m.name) ≡ true)
 parts alerts m h = grind (arith, common_steps, and_parts)
 
-pub unseen_matches_none : (alerts : List LabelMap) (m : Condition)
+pub unseen_matches_none : (alerts : List LabelMap) (m : Matcher)
     → IsTrue (names_unseen_value alerts m)
     → list_any (λ a. condition_holds a m) alerts ≡ false
 unseen_matches_none alerts m h =
@@ -90,7 +90,7 @@ unseen_matches_none alerts m h =
     missing_not_in m.value (seen_values alerts m.name) p.2
     (rw same at (in_seen alerts m.name r.0 r.1 (ap begins same ∙ p.1))))
 
-pub unseen_has_label : (alerts : List LabelMap) (m : Condition)
+pub unseen_has_label : (alerts : List LabelMap) (m : Matcher)
     → IsTrue (names_unseen_value alerts m) → IsTrue (list_any (has_label m.name) alerts)
 unseen_has_label alerts m h =
     let p = parts alerts m h in
@@ -102,7 +102,7 @@ some_text : (text : List ℕ) → text ≢ [] → begins text ≡ true
 some_text [] h = absurd (h refl)
 some_text (c ∷ cs) h = refl
 
-pub each_unseen : (alerts : List LabelMap) (m : Condition) → m.op ≡ Equal → m.value ≢ []
+pub each_unseen : (alerts : List LabelMap) (m : Matcher) → m.op ≡ Equal → m.value ≢ []
     → IsTrue (list_any (has_label m.name) alerts)
     → list_any (λ a. condition_holds a m) alerts ≡ false
     → IsTrue (names_unseen_value alerts m)

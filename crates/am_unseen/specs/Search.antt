@@ -6,7 +6,7 @@ use Rattle.std.specs.Ordering.{nat_cmp}
 use Rattle.std.specs.Cmp.Lexicographic.{slice_cmp}
 use Rattle.indexmap.specs.IndexSet.{IndexSet}
 use Rattle.am_universe.specs.LabelSet.{LabelMap}
-use Rattle.am_labels.specs.Matcher.{Condition}
+use Rattle.am_labels.specs.Matcher.{Matcher}
 use Rattle.am_complete.specs.declared.origin.Origin.{Origin}
 use Rattle.am_unseen.specs.Unseen.{UnseenValue, seen_values, names_unseen_value, unseen_value_of}
 use denote.Ref.{Bor}
@@ -17,7 +17,7 @@ pub record Search : Type 0 where
   pub found : List UnseenValue
 
 -- The search after it has looked at one more matcher, which comes with its origin.
-abbrev pub after_matcher : Search → Origin × Condition → Search
+abbrev pub after_matcher : Search → Origin × Matcher → Search
 after_matcher s placed =
     if names_unseen_value s.alerts placed.1
     then record s { found = s.found ++ unseen_value_of s.alerts placed ∷ [] }

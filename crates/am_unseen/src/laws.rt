@@ -3,7 +3,7 @@ ghost use Rattle.std.specs.Prelude.{◌≡◌, ◌≢◌, ◌<◌, ◌≤◌, �
 ghost use Rattle.std.specs.Prelude.{false};
 ghost use Rattle.std.specs.List.{AllByRecursion, list_any};
 ghost use Rattle.am_universe.specs.LabelSet.{LabelMap};
-ghost use Rattle.am_labels.specs.Matcher.{Condition, condition_holds};
+ghost use Rattle.am_labels.specs.Matcher.{Matcher, condition_holds};
 ghost use Rattle.am_labels.specs.declared.op.Op.TheVariants as operators;
 ghost use Rattle.am_complete.specs.FoundState.{has_label};
 ghost use Rattle.am_unseen.specs.declared.limits.TheConstants.{MOST_EDITS};
@@ -14,12 +14,12 @@ ghost use Rattle.am_unseen.specs.Unseen.{names_unseen_value, most_similar, edits
 /// value.
 #[tactic(auto, using(crate::proofs::UnseenMatchers::unseen_matches_none, crate::proofs::UnseenMatchers::unseen_has_label, crate::proofs::UnseenMatchers::each_unseen))]
 pub fn a_matcher_of_an_unseen_value_matches_no_alert()
-    ensures matches_none { (alerts : List LabelMap) (m : Condition)
+    ensures matches_none { (alerts : List LabelMap) (m : Matcher)
         → IsTrue (names_unseen_value alerts m)
         → list_any (λ a. condition_holds a m) alerts ≡ false }
-    ensures some_has_label { (alerts : List LabelMap) (m : Condition)
+    ensures some_has_label { (alerts : List LabelMap) (m : Matcher)
         → IsTrue (names_unseen_value alerts m) → IsTrue (list_any (has_label m.name) alerts) }
-    ensures each_is_told { (alerts : List LabelMap) (m : Condition) → m.op ≡ operators.Equal
+    ensures each_is_told { (alerts : List LabelMap) (m : Matcher) → m.op ≡ operators.Equal
         → m.value ≢ [] → IsTrue (list_any (has_label m.name) alerts)
         → list_any (λ a. condition_holds a m) alerts ≡ false
         → IsTrue (names_unseen_value alerts m) }

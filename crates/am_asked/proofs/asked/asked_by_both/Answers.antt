@@ -4,7 +4,7 @@ use Rattle.am_config.specs.ConfigView.{config_view}
 use Rattle.am_complete.specs.AskedLabel.{with_asked}
 use Rattle.am_asked.specs.Placed.{placed_in_routes, placed_in_lists}
 use Rattle.am_asked.proofs.AskedLemmas.{asked_of}
-use Rattle.am_asked.proofs.PlacedConditions.{both_placed, of_routes, of_impossible}
+use Rattle.am_asked.proofs.PlacedMatchers.{both_placed, of_routes, of_impossible}
 use Rattle.am_asked.proofs.asked.asked_by_both.Goals as goal
 
 pub returns-clause-asked : goal.returns-clause-asked

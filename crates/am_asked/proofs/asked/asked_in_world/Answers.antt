@@ -7,7 +7,7 @@ use Rattle.am_asked.specs.Placed.{placed_in_routes, placed_in_rules, placed_in_e
 use Rattle.am_asked.specs.Placed.{placed_in_silences, placed_in_lists, placed_in_world}
 use Rattle.am_asked.specs.Placed.{placed_in_questions}
 use Rattle.am_asked.proofs.AskedLemmas.{asked_of}
-use Rattle.am_asked.proofs.PlacedConditions.{both_placed, of_world, of_questions, of_impossible}
+use Rattle.am_asked.proofs.PlacedMatchers.{both_placed, of_world, of_questions, of_impossible}
 use Rattle.am_asked.proofs.asked.asked_in_world.Goals as goal
 
 pub returns-clause-asked : goal.returns-clause-asked

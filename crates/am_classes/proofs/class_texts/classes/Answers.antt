@@ -4,14 +4,14 @@ use Rattle.am_universe.specs.declared.limits.TheConstants.{MAX_VALUES}
 use Rattle.std.proofs.lemmas.List.{length-map}
 use Rattle.am_scan.specs.Automaton.{pattern_of}
 use Rattle.am_labels.specs.declared.op.Comparison.TheVariants.{Pattern}
-use Rattle.am_labels.specs.Matcher.{Condition}
+use Rattle.am_labels.specs.Matcher.{Matcher}
 use Rattle.am_classes.specs.State.{patterns_of}
 use Rattle.am_classes.proofs.AskedLemmas.{has_pattern}
 use Rattle.am_classes.proofs.class_texts.classes.Goals as goal
 
 pub returns-clause-many : goal.returns-clause-many
 returns-clause-many c = λ some_missing.
-    let ms : List Condition = map (λ m. m.now) c.args.matchers.now in
+    let ms : List Matcher = map (λ m. m.now) c.args.matchers.now in
     let questions = c.in-Some.questions in
     let asked = (rw c.in-Some.is at c.in_ok-questions.ensures).some in
     let items = c.in-Some-2.candidates.items in

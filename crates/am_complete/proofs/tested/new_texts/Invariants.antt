@@ -1,5 +1,5 @@
 use Rattle.std.proofs.Common.{◌≡◌, ◌++◌, List, map, string_bytes}
-use Rattle.am_labels.specs.Matcher.{Condition}
+use Rattle.am_labels.specs.Matcher.{Matcher}
 use Rattle.am_complete.specs.Truths.{AreTested, AreNewIn, texts_of}
 use Rattle.am_complete.proofs.tested.new_texts.Given as goal
 
@@ -7,7 +7,7 @@ use Rattle.am_complete.proofs.tested.new_texts.Given as goal
 abbrev pub invariant-loop-text : goal.invariant-loop-text
 invariant-loop-text l = record {
   there : texts_of l.there.items ≡ texts_of l.fn.there.items ++ map string_bytes l.texts.items;
-  new : (ms : List Condition) → AreTested ms l.fn.there.items → AreTested ms l.yielded
+  new : (ms : List Matcher) → AreTested ms l.fn.there.items → AreTested ms l.yielded
       → AreTested ms l.there.items
       × AreNewIn ms (texts_of l.fn.there.items) (texts_of l.yielded)
       (map string_bytes l.texts.items);

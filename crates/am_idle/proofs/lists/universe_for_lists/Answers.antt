@@ -1,22 +1,22 @@
 -- What is made for the labels that the lists ask about, and what is refused for them.
 use Rattle.std.proofs.Common.{◌≡◌, List, map, inl, subst}
-use Rattle.am_labels.specs.Matcher.{Condition}
+use Rattle.am_labels.specs.Matcher.{Matcher}
 use Rattle.am_labels.specs.Space.{Space}
 use Rattle.am_complete.specs.AskedLabel.{IsAskedOf}
-use Rattle.am_complete.specs.Complete.{impossible_conditions}
+use Rattle.am_complete.specs.Complete.{impossible_matchers}
 use Rattle.am_complete.specs.Room.{HaveNoRoom}
 use Rattle.am_complete.proofs.AmongMatchers.{last_among}
 use Rattle.am_asked.proofs.Undeclared.{undeclared_is}
-use Rattle.am_every_alert.specs.Deciding.{deciding_conditions}
-use Rattle.am_idle.specs.Lists.{listed_conditions, labels_of_lists}
+use Rattle.am_every_alert.specs.Deciding.{deciding_matchers}
+use Rattle.am_idle.specs.Lists.{listed_matchers, labels_of_lists}
 use Rattle.am_idle.proofs.lists.universe_for_lists.Goals as goal
 use Rattle.am_idle.proofs.lists.universe_for_lists.Goals.{After-as_slice}
 
-abbrev lists_of : After-as_slice → List (List Condition)
+abbrev lists_of : After-as_slice → List (List Matcher)
 lists_of c = map (λ list. list.now) c.args.lists.now
 
 is_asked : (c : After-as_slice) → IsAskedOf c.as_slice.result.now
-    (deciding_conditions c.args.space.now (listed_conditions (lists_of c)))
+    (deciding_matchers c.args.space.now (listed_matchers (lists_of c)))
 is_asked c = rw (c.as_slice.ensures.value, ← c.impossible.ensures.lists) c.in_ok-asked.ensures.asked
 
 are_asked : (c : After-as_slice) → c.as_slice.result.now
@@ -27,10 +27,10 @@ are_asked c =
 pub universe_for-requires : goal.universe_for-requires
 universe_for-requires c =
     let at = (goal.at.universe_for-requires c).After-as_slice in
-    let listed = listed_conditions (lists_of at) in (
-      deciding_conditions c.args.space.now listed,
+    let listed = listed_matchers (lists_of at) in (
+      deciding_matchers c.args.space.now listed,
       is_asked at,
-      last_among listed (impossible_conditions c.args.space.now.impossible),
+      last_among listed (impossible_matchers c.args.space.now.impossible),
     )
 
 pub returns-clause-refused : goal.returns-clause-refused

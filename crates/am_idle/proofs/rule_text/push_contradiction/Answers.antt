@@ -1,6 +1,6 @@
 use Rattle.std.proofs.Common.{◌≡◌, ℕ, List, ◌++◌, codes, string_bytes, ap, sym, ◌∙◌, append_assoc}
 use Rattle.std.proofs.lemmas.Result.{on_ok_weaker}
-use Rattle.am_labels.specs.Matcher.{Condition}
+use Rattle.am_labels.specs.Matcher.{Matcher}
 use Rattle.am_report_texts.proofs.PieceSteps.{one_put, last_put}
 use Rattle.am_idle.specs.RuleText.{matchers_text_at}
 use Rattle.am_idle.proofs.RuleTextSteps.{target_named, both_named}
@@ -14,7 +14,7 @@ returns-then-is_empty c =
     on_ok_weaker c.push_matchers_at.result
     (λ put. one_put old body (matchers_text_at c.target.result.now targets) _
     (string_bytes c.push_str-then-is_empty.new.self) _ c.in_ok-push_str.ensures.bytes put
-    (ap (λ (ms : List Condition). body ++ matchers_text_at ms targets) c.target.ensures.target
+    (ap (λ (ms : List Matcher). body ++ matchers_text_at ms targets) c.target.ensures.target
     ∙ sym (target_named c.args.rule.now c.args.source.now targets
     (sym c.is_empty.ensures ∙ c.if-is_empty.true)
     (sym c.is_empty-then-is_empty.ensures ∙ c.if-is_empty-2.false))))

@@ -1,6 +1,6 @@
 -- What holds over the universe that is made holds over every alert.
 use Rattle.std.proofs.Common.{◌≡◌, subst, List, [], ◌∷◌}
-use Rattle.am_labels.specs.Matcher.{Condition}
+use Rattle.am_labels.specs.Matcher.{Matcher}
 use Rattle.am_labels.specs.Space.{Space}
 use Rattle.am_every_alert.specs.Deciding.{space_of}
 use Rattle.am_idle.specs.Lists.{StandsForLists}
@@ -21,8 +21,8 @@ returns-clause-finding c =
       impossible = c.declare.ensures.impossible i;
     } in
     let stands = subst
-    (λ (ms : List Condition). StandsForLists a s (ms ∷ rule.target ∷ []) u) c.source.ensures.source
-    (subst (λ (ms : List Condition). StandsForLists a s (c.source.result.now ∷ ms ∷ []) u)
+    (λ (ms : List Matcher). StandsForLists a s (ms ∷ rule.target ∷ []) u) c.source.ensures.source
+    (subst (λ (ms : List Matcher). StandsForLists a s (c.source.result.now ∷ ms ∷ []) u)
     c.target.ensures.target c.in_ok-universe.ensures.stands) in
     found_over rule a s u stands finding
     (subst (λ (t : Space). IsFoundOf (AreMeeting t rule.equal) rule finding) declared

@@ -1,7 +1,7 @@
 -- The cube of a matcher, asked of a side.
 use Rattle.std.proofs.Common.{◌≡◌, ap, [], ◌∷◌, ℕ, List, ◌∙◌, true, false, Bool, refl}
 use Rattle.std.specs.Prelude.{◌&&◌}
-use Rattle.am_labels.specs.Matcher.{Condition, condition_holds}
+use Rattle.am_labels.specs.Matcher.{Matcher, condition_holds}
 use Rattle.am_labels.specs.Row.{TruthRow}
 use Rattle.am_universe.specs.Universe.{sizes}
 use Rattle.am_universe.specs.Choice.{IsWhole}
@@ -34,7 +34,7 @@ loop-i-preserved c =
     let cube = c.in_ok-cube.cube in
     let exact = c.in_ok-cube.ensures.exact (m ∷ [])
     (ap (λ (r : TruthRow). r ∷ []) c.in_ok-row.ensures.row) in
-    zip_more (λ (n : Condition) (asked : MaskedLabels). (e : List ℕ) → IsPossible (pair_choices pairs) e
+    zip_more (λ (n : Matcher) (asked : MaskedLabels). (e : List ℕ) → IsPossible (pair_choices pairs) e
     → IsWhole (sizes u) (side_of pairs side e)
     → matches asked e ≡ condition_holds (label_set_of u (side_of pairs side e)) n)
     c.args.matchers.now c.loop-i.i m c.in_ok-cube-2.field-0 c.loop-i.cubes.items

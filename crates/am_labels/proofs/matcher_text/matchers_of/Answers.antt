@@ -1,7 +1,7 @@
 use Rattle.std.proofs.Common.{◌≡◌, ◌∷◌, subst}
 use Rattle.std.proofs.lemmas.Result.{err_from_is_err_and}
 use Rattle.std.specs.Vec.Iter.{into_iter_items}
-use Rattle.am_labels.specs.Matcher.{Condition}
+use Rattle.am_labels.specs.Matcher.{Matcher}
 use Rattle.am_labels.specs.MatcherRefusals.{MatcherRefusedFor}
 use Rattle.am_labels.proofs.MatcherRefusalLemmas.{refused_at}
 use Rattle.am_labels.proofs.matcher_text.matchers_of.Goals as goal
@@ -13,7 +13,7 @@ returns-in_err-new-clause-refused c =
     let steps : into_iter_items at.condition-iterator ≡ c.in-Some.condition ∷ into_iter_items c.next.new.self = c.in-Some.ensures.steps.0 in
     rw (p.1, p.2) (λ other.
     let refused =
-    subst (λ (m : Condition). MatcherRefusedFor m c.in_err-new.field-0.0) c.condition.view_is
+    subst (λ (m : Matcher). MatcherRefusedFor m c.in_err-new.field-0.0) c.condition.view_is
     (c.in_err-new.ensures.refused other) in
     refused_at at.yielded c.in-Some.condition _ c.args.list.items _
     (rw steps at at.invariant.left) c.requires.named

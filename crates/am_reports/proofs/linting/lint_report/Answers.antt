@@ -2,7 +2,7 @@
 use Rattle.std.proofs.Common.{◌≡◌, ◌≢◌, List, ◌∷◌, [], ap, ◌∙◌, inl, inr, subst}
 use Rattle.am_universe.specs.declared.fault.Fault.{Fault}
 use Rattle.am_universe.specs.declared.kind.Kind.TheVariants as kinds
-use Rattle.am_labels.specs.Matcher.{Condition}
+use Rattle.am_labels.specs.Matcher.{Matcher}
 use Rattle.am_labels.specs.Space.{Space}
 use Rattle.am_json.specs.Reading.{refusal_of}
 use Rattle.am_config.specs.ConfigFile.{Configuration}
@@ -62,7 +62,7 @@ returns-in_err-routes-clause-refused c =
     c.from_residual-in_err-routes.result c.from_residual-in_err-routes.ensures.1
     (λ remembered. inr (
       declared_whole at.In_ok-check_declared,
-      inl (subst (λ (x : List (List Condition) × Configuration).
+      inl (subst (λ (x : List (List Matcher) × Configuration).
           IsRoutesRefusal c.args.alphabet x.0 x.1 fault.place (refusal_of fault))
           (λ i. (c.declare.ensures.impossible i, c.config-2.ensures.config i))
           (c.in_err-routes.ensures.refused remembered)),

@@ -10,10 +10,10 @@ use Rattle.am_universe.proofs.LabelPairLemmas.{found_at}
 use Rattle.am_complete.specs.declared.label_state.LabelState.{LabelState}
 use Rattle.am_complete.specs.AskedLabel.{AskedLabel, IsAskedOf}
 use Rattle.am_complete.specs.LabelState.{IsSoAt}
-use Rattle.am_complete.specs.Complete.{impossible_conditions}
+use Rattle.am_complete.specs.Complete.{impossible_matchers}
 use Rattle.am_complete.proofs.AmongMatchers.{last_among}
 use Rattle.am_complete.proofs.Pushed.{one_more_passes}
-use Rattle.am_reports.specs.Configurations.{conditions_of_routes, routing_conditions}
+use Rattle.am_reports.specs.Configurations.{matchers_of_routes, routing_matchers}
 use Rattle.am_reports.specs.Configurations.{labels_of_routes}
 use Rattle.am_reports.specs.ConfigsView.{configurations_of}
 use Rattle.am_reports.specs.Made.{IsDeclaredRefusal, IsDeclaredWhole, IsStateRefusal}
@@ -25,22 +25,22 @@ pub label_states-requires : goal.label_states-requires
 label_states-requires c =
     let s = c.args.space.now in
     let k = configurations_of c.args.configs in (
-      routing_conditions s k,
+      routing_matchers s k,
       rw (c.as_slice.ensures.value) c.in-Ok.ensures.asked,
-      last_among (conditions_of_routes k) (impossible_conditions s.impossible),
+      last_among (matchers_of_routes k) (impossible_matchers s.impossible),
     )
 
 -- the label at this position, and what is true of it
 here : (c : After-index) → (l : Label) × (slice_get c.args.space.now.labels c.loop-i.i ≡ Some l)
     × (string_bytes c.index.result.now.name ≡ l.name)
     × IsSoAt c.args.alphabet c.args.space.now
-    (routing_conditions c.args.space.now (configurations_of c.args.configs))
+    (routing_matchers c.args.space.now (configurations_of c.args.configs))
     (labels_of_routes (configurations_of c.args.configs) c.args.space.now.impossible) l.name
     c.index.result.now.completeness
 here c =
     let s = c.args.space.now in
     let k = configurations_of c.args.configs in
-    let ms = routing_conditions s k in
+    let ms = routing_matchers s k in
     let states = c.in-Ok-label_states.states.items in
     let i = c.loop-i.i in
     let asked : c.as_slice.result.now ≡ labels_of_routes k s.impossible =
@@ -88,5 +88,5 @@ loop-i-preserved c =
     let l = here (goal.at.loop-i-preserved c).After-index in
     let is : IsUniverse s.labels = rw (← c.universe-2.ensures.labels) c.len-i-end.ensures.universe in
     one_more_passes (IsDeclaredWhole a s k) s.labels c.loop-i.i l.0 l.1 c.loop-i.invariant
-    (whole_by a s (routing_conditions s k) (labels_of_routes k s.impossible) l.0.name
+    (whole_by a s (routing_matchers s k) (labels_of_routes k s.impossible) l.0.name
     c.index.result.now.completeness is c.in_ok-check_state.ensures.settled l.3)

@@ -6,11 +6,11 @@ use Rattle.am_json.specs.Reading.{refusal_of}
 use Rattle.am_files.proofs.FirstFaults.{handed_on}
 use Rattle.am_complete.specs.AskedLabel.{IsAskedOf}
 use Rattle.am_complete.specs.Covering.{AddsNeeded}
-use Rattle.am_complete.specs.Complete.{impossible_conditions}
+use Rattle.am_complete.specs.Complete.{impossible_matchers}
 use Rattle.am_complete.proofs.AmongMatchers.{last_among}
 use Rattle.am_asked.specs.Made.{NoRoomFor, IsFirstUnproved}
 use Rattle.am_asked.proofs.Undeclared.{undeclared_is}
-use Rattle.am_reports.specs.Configurations.{conditions_of_routes, routing_conditions}
+use Rattle.am_reports.specs.Configurations.{matchers_of_routes, routing_matchers}
 use Rattle.am_reports.specs.Configurations.{labels_of_routes}
 use Rattle.am_reports.specs.ConfigsView.{configurations_of}
 use Rattle.am_reports.specs.Made.{IsMadeRefusal}
@@ -18,7 +18,7 @@ use Rattle.am_reports.proofs.made.universe_for_routes.Goals as goal
 use Rattle.am_reports.proofs.made.universe_for_routes.Goals.{After-as_slice}
 
 is_asked : (c : After-as_slice) → IsAskedOf c.as_slice.result.now
-    (routing_conditions c.args.space.now (configurations_of c.args.configs))
+    (routing_matchers c.args.space.now (configurations_of c.args.configs))
 is_asked c = rw (c.as_slice.ensures.value) c.in-Ok.ensures.asked
 
 are_asked : (c : After-as_slice) → c.as_slice.result.now
@@ -29,9 +29,9 @@ pub universe_for-requires : goal.universe_for-requires
 universe_for-requires c =
     let s = c.args.space.now in
     let k = configurations_of c.args.configs in (
-      routing_conditions s k,
+      routing_matchers s k,
       is_asked (goal.at.universe_for-requires c).After-as_slice,
-      last_among (conditions_of_routes k) (impossible_conditions s.impossible),
+      last_among (matchers_of_routes k) (impossible_matchers s.impossible),
     )
 
 pub returns-in_err-found-clause-refused : goal.returns-in_err-found-clause-refused
@@ -72,7 +72,7 @@ returns-clause-refused c = λ remembered.
 pub returns-in-Ok-found-clause-stands : goal.returns-in-Ok-found-clause-stands
 returns-in-Ok-found-clause-stands c =
     let s = c.args.space.now in
-    let ms = routing_conditions s (configurations_of c.args.configs) in
+    let ms = routing_matchers s (configurations_of c.args.configs) in
     let made = (rw c.in-Ok-found.is at c.in_ok-found.ensures.made) ms
     (is_asked (goal.at.returns-in-Ok-found-clause-stands c).After-as_slice) in
     record {

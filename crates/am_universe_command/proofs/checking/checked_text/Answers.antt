@@ -4,7 +4,7 @@ use Rattle.am_universe.specs.Universe.{sizes}
 use Rattle.am_eval.specs.QuestionView.{question_view}
 use Rattle.am_complete.specs.AskedLabel.{IsAskedOf}
 use Rattle.am_universe_command.specs.CheckText.{check_text}
-use Rattle.am_universe_command.specs.Universes.{deciding_conditions}
+use Rattle.am_universe_command.specs.Universes.{deciding_matchers}
 use Rattle.am_universe_command.proofs.AskedFacts.{lists_decide}
 use Rattle.am_universe_command.proofs.CheckFacts.{none_told}
 use Rattle.am_universe_command.proofs.checking.checked_text.Goals as goal
@@ -12,7 +12,7 @@ use Rattle.am_universe_command.proofs.checking.checked_text.Goals.{After-as_slic
 
 -- the labels are those that the deciding matchers ask about
 asked_as : (c : After-as_slice-2) → IsAskedOf c.as_slice-2.result.now
-    (deciding_conditions c.args.routes c.args.read.now.world
+    (deciding_matchers c.args.routes c.args.read.now.world
     (map question_view c.args.read.now.questions.items) c.args.read.now.space.impossible)
 asked_as c = rw (c.as_slice-2.ensures.value) c.in_ok-asked.ensures.asked
 
@@ -20,7 +20,7 @@ pub label_states-requires : goal.label_states-requires
 label_states-requires c =
     let read = c.args.read.now in
     let questions = map question_view read.questions.items in (
-      deciding_conditions c.args.routes read.world questions read.space.impossible,
+      deciding_matchers c.args.routes read.world questions read.space.impossible,
       asked_as (goal.at.label_states-requires c).After-as_slice-2,
       lists_decide c.args.routes read.world questions read.space.impossible,
     )
@@ -36,7 +36,7 @@ returns c =
     let all_impossible = c.is_none-all_impossible.result in
     let told = c.in_ok-states.ensures in
     let empty = c.in_ok-first_possible.ensures.none in
-    let ms = deciding_conditions routes w questions s.impossible in
+    let ms = deciding_matchers routes w questions s.impossible in
     let of = asked_as (goal.at.returns c).After-as_slice-2 in
     let labels = c.as_slice-2.ensures.value ∙ c.in_ok-asked.ensures.labels in
     let none = none_told c.in_ok-first_possible.field-0 all_impossible

@@ -5,7 +5,7 @@ use Rattle.am_json.specs.Reading.{refusal_of}
 use Rattle.am_universe.specs.declared.kind.Kind.TheVariants as kinds
 use Rattle.am_files.proofs.FirstFaults.{handed_on}
 use Rattle.am_complete.specs.AskedLabel.{IsAskedOf}
-use Rattle.am_universe_command.specs.Universes.{deciding_conditions, deciding_labels}
+use Rattle.am_universe_command.specs.Universes.{deciding_matchers, deciding_labels}
 use Rattle.am_universe_command.specs.Universes.{IsMakingRefusal}
 use Rattle.am_universe_command.proofs.AskedFacts.{lists_decide}
 use Rattle.am_universe_command.proofs.making.made_universe.Goals as goal
@@ -13,7 +13,7 @@ use Rattle.am_universe_command.proofs.making.made_universe.Goals.{After-as_slice
 
 -- the labels are those that the deciding matchers ask about
 is_asked : (c : After-as_slice-labels) → IsAskedOf c.as_slice-labels.result.now
-    (deciding_conditions c.args.form.routes c.args.read.now.world
+    (deciding_matchers c.args.form.routes c.args.read.now.world
     (map question_view c.args.read.now.questions.items) c.args.read.now.space.impossible)
 is_asked c = rw (c.as_slice-labels.ensures.value) c.in-Ok-labels_asked.ensures.asked
 
@@ -26,7 +26,7 @@ pub universe_for-requires : goal.universe_for-requires
 universe_for-requires c =
     let read = c.args.read.now in
     let questions = map question_view read.questions.items in (
-      deciding_conditions c.args.form.routes read.world questions read.space.impossible,
+      deciding_matchers c.args.form.routes read.world questions read.space.impossible,
       is_asked (goal.at.universe_for-requires c).After-as_slice-labels,
       lists_decide c.args.form.routes read.world questions read.space.impossible,
     )
@@ -54,6 +54,6 @@ pub returns-in-Ok-found-clause-made : goal.returns-in-Ok-found-clause-made
 returns-in-Ok-found-clause-made c =
     let read = c.args.read.now in
     (rw c.in-Ok-found.is at c.in_ok-found.ensures.made)
-    (deciding_conditions c.args.form.routes read.world (map question_view read.questions.items)
+    (deciding_matchers c.args.form.routes read.world (map question_view read.questions.items)
     read.space.impossible)
     (is_asked (goal.at.returns-in-Ok-found-clause-made c).After-as_slice-labels)
