@@ -1,7 +1,7 @@
 pub mod StandingChoice
 pub mod CompleteSpaces
 pub mod UniverseAlerts
-pub mod SameFate
+pub mod TreatedAlike
 pub mod SpaceAlerts
 pub mod OverAscii
 pub mod CompleteExample

@@ -30,14 +30,14 @@ use Rattle.am_complete.specs.Covering.{HasTextsOver}
 use Rattle.am_complete.proofs.Alike.{alike_itself}
 use Rattle.am_complete.proofs.LabelTexts.{undeclared_texts}
 use Rattle.am_complete.proofs.CompleteUniverses.{alone_truth, takes_away}
-use Rattle.am_every_alert.specs.EveryAlert.{IsAlert, IsAlertOf, MeetsTheSame, HaveTheSameFate}
+use Rattle.am_every_alert.specs.EveryAlert.{IsAlert, IsAlertOf, MeetsTheSame, AreTreatedAlike}
 use Rattle.am_every_alert.specs.Deciding.{coverage_matchers, asked_matchers, StandsFor}
 use Rattle.am_every_alert.specs.Deciding.{deciding_matchers}
 use Rattle.am_every_alert.proofs.CompleteSpaces.{complete_space}
 use Rattle.am_every_alert.proofs.StandingChoice.{standing_choice}
 use Rattle.am_every_alert.proofs.UniverseAlerts.{universe_alert}
-use Rattle.am_every_alert.proofs.SameFate.{front_met, rest_met, same_ends, same_receivers}
-use Rattle.am_every_alert.proofs.SameFate.{same_possible, same_fate, same_truth}
+use Rattle.am_every_alert.proofs.TreatedAlike.{front_met, rest_met, same_ends, same_receivers}
+use Rattle.am_every_alert.proofs.TreatedAlike.{same_possible, treated_alike, same_truth}
 
 -- ---- A choice that meets the same of matchers.
 
@@ -196,15 +196,15 @@ module _ (a : Alphabet) (s : Space) (alert : LabelMap) (h : IsUniverse s.labels)
   pub answer_of_alert : (w : World) (q : Question) → IsSpaceComplete a s (asked_matchers s w q)
       → IsTrue (satisfies w q alert)
       → (choice : List ℕ) × Contains (answers s w q) choice
-      × HaveTheSameFate w (set_of choice) alert
+      × AreTreatedAlike w (set_of choice) alert
   answer_of_alert w q complete true_of_it =
       let world = world_matchers w in
       let asked = question_matchers q in
       let r = choice_of_alert a s (world ++ asked) alert h complete is in
       let set = set_of r.0 in
-      let fate = same_fate set alert w (front_met set alert world asked r.2) in
-      let truth = same_truth set alert w q fate (rest_met set alert world asked r.2) in
-      (r.0, (answers_exact s w q r.0).1 (r.1, truth ∙ true_of_it), fate)
+      let treated = treated_alike set alert w (front_met set alert world asked r.2) in
+      let truth = same_truth set alert w q treated (rest_met set alert world asked r.2) in
+      (r.0, (answers_exact s w q r.0).1 (r.1, truth ∙ true_of_it), treated)
 
   pub no_alert : (w : World) (q : Question) → IsSpaceComplete a s (asked_matchers s w q)
       → answers s w q ≡ [] → IsFalse (satisfies w q alert)

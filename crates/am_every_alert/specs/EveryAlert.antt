@@ -33,11 +33,11 @@ IsAlertOf a s alert = IsAlert a alert × IsTrue (is_possible s.impossible alert)
 abbrev pub MeetsTheSame : List Matcher → LabelMap → LabelMap → Type 0
 MeetsTheSame ms s t = AllByRecursion (λ m. condition_holds s m ≡ condition_holds t m) ms
 
--- Two label sets have the same fate in a world: they end at the same routes and go to the same
+-- Two label sets are treated alike in a world: they end at the same routes and go to the same
 -- receivers, both or neither are silenced, and both or neither are inhibited.
 -- Source: own choice.
--- Example: if no matcher and no `equal` names `env`, `{env="dev"}` and `{}` have the same fate.
-pub record HaveTheSameFate (w : World) (s t : LabelMap) : Type 0 where
+-- Example: if no matcher and no `equal` names `env`, `{env="dev"}` and `{}` are treated alike.
+pub record AreTreatedAlike (w : World) (s t : LabelMap) : Type 0 where
   pub same_ends : ends s w.config ≡ ends t w.config
   pub same_receivers : receivers s w.config ≡ receivers t w.config
   pub same_silenced : is_silenced w s ≡ is_silenced w t

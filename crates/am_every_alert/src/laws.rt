@@ -29,7 +29,7 @@ ghost use Rattle.am_complete.specs.Covering.{HasTextsOver, KeepsLabels};
 ghost use Rattle.am_asked.specs.Asked.{route_matchers, rule_matchers, equal_matchers};
 ghost use Rattle.am_asked.specs.Asked.{silence_matchers, world_matchers, questions_matchers};
 ghost use Rattle.am_every_alert.specs.EveryAlert.{IsAlert, IsAlertOf, MeetsTheSame};
-ghost use Rattle.am_every_alert.specs.EveryAlert.{HaveTheSameFate};
+ghost use Rattle.am_every_alert.specs.EveryAlert.{AreTreatedAlike};
 ghost use Rattle.am_every_alert.specs.Deciding.{coverage_matchers, asked_matchers};
 ghost use Rattle.am_every_alert.specs.CompleteExample.{team_universe, db_or_absent, db_alone};
 ghost use Rattle.am_every_alert.specs.CompleteExample.{team_not_db, db_alone_possible};
@@ -52,12 +52,12 @@ pub fn a_complete_universe_stands_for_every_alert()
         → (c : List ℕ) × IsWhole (sizes u) c × MeetsTheSame ms (label_set_of u c) s }
 {}
 
-/// Label sets that meet the same of a world's matchers have the same fate. If they meet the same of
+/// Label sets that meet the same of a world's matchers are treated alike. If they meet the same of
 /// the matchers of the routes, they end at the same routes and go to the same receivers. Both or
 /// neither are silenced, inhibited or possible, if they meet the same of the matchers that decide
 /// it. Label sets that meet the same of some matchers meet the same of each part of them.
-#[tactic(auto, using(crate::proofs::SameFate::alike))]
-pub fn what_meets_the_same_has_the_same_fate()
+#[tactic(auto, using(crate::proofs::TreatedAlike::alike))]
+pub fn what_meets_the_same_is_treated_alike()
     ensures ends { (c : Configuration) (s t : LabelMap)
         → MeetsTheSame (route_matchers c.root) s t → ends s c ≡ ends t c }
     ensures receivers { (c : Configuration) (s t : LabelMap)
@@ -71,20 +71,20 @@ pub fn what_meets_the_same_has_the_same_fate()
     ensures possible { (impossible : List (List Matcher)) (s t : LabelMap)
         → MeetsTheSame (impossible_matchers impossible) s t
         → is_possible impossible s ≡ is_possible impossible t }
-    ensures fate { (w : World) (s t : LabelMap)
-        → MeetsTheSame (world_matchers w) s t → HaveTheSameFate w s t }
+    ensures alike { (w : World) (s t : LabelMap)
+        → MeetsTheSame (world_matchers w) s t → AreTreatedAlike w s t }
     ensures part { (ns ms : List Matcher) (s t : LabelMap)
         → AreAmong ns ms → MeetsTheSame ms s t → MeetsTheSame ns s t }
 {}
 
-/// In a universe that is complete for a world, over an alphabet, every alert over this alphabet has
-/// the fate of some choice. It ends at the same routes, goes to the same receivers, and is
+/// In a universe that is complete for a world, over an alphabet, every alert over this alphabet is
+/// treated as some choice is. It ends at the same routes, goes to the same receivers, and is
 /// silenced, or inhibited, exactly if the choice is. A universe that is complete for a world is so
 /// at every instant.
-pub fn every_alert_has_the_fate_of_a_choice()
-    ensures fate { (a : Alphabet) (u : List Label) (w : World) (s : LabelMap) → IsUniverse u
+pub fn every_alert_is_treated_as_a_choice()
+    ensures alike { (a : Alphabet) (u : List Label) (w : World) (s : LabelMap) → IsUniverse u
         → IsComplete a u (world_matchers w) → IsAlert a s
-        → (c : List ℕ) × IsWhole (sizes u) c × HaveTheSameFate w (label_set_of u c) s }
+        → (c : List ℕ) × IsWhole (sizes u) c × AreTreatedAlike w (label_set_of u c) s }
     ensures any_instant { (w : World) (instant : ℤ)
         → world_matchers (at_instant w instant) ≡ world_matchers w }
 {}
@@ -110,15 +110,15 @@ pub fn every_alert_of_a_space_ends_as_a_choice_does()
         × (receivers (label_set_of s.labels choice) c ≡ receivers alert c) }
 {}
 
-/// A question that is true of an alert of a complete space has an answer with the same fate. So a
-/// question without answers is true of no such alert. The space is complete, over the alphabet of
+/// A question that is true of an alert of a complete space has an answer that is treated alike. So
+/// a question without answers is true of no such alert. The space is complete, over the alphabet of
 /// the alert, for all matchers that decide the question.
 pub fn a_question_without_answers_is_true_of_no_alert()
     ensures answered { (a : Alphabet) (s : Space) (w : World) (q : Question) (alert : LabelMap)
         → IsUniverse s.labels → IsSpaceComplete a s (asked_matchers s w q)
         → IsAlertOf a s alert → IsTrue (satisfies w q alert)
         → (choice : List ℕ) × Contains (answers s w q) choice
-        × HaveTheSameFate w (label_set_of s.labels choice) alert }
+        × AreTreatedAlike w (label_set_of s.labels choice) alert }
     ensures unanswered { (a : Alphabet) (s : Space) (w : World) (q : Question) (alert : LabelMap)
         → IsUniverse s.labels → IsSpaceComplete a s (asked_matchers s w q)
         → IsAlertOf a s alert → answers s w q ≡ [] → IsFalse (satisfies w q alert) }

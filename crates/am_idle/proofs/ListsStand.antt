@@ -10,7 +10,7 @@ use Rattle.am_every_alert.specs.EveryAlert.{IsAlertOf}
 use Rattle.am_every_alert.specs.Deciding.{space_of}
 use Rattle.am_eval.specs.Reaching.{IsSetOf}
 use Rattle.am_every_alert.proofs.SpaceAlerts.{IsToldBy, each_over, some_over}
-use Rattle.am_every_alert.proofs.SameFate.{front_met, all_alike}
+use Rattle.am_every_alert.proofs.TreatedAlike.{front_met, all_alike}
 use Rattle.am_idle.specs.declared.extent.Extent.{Extent}
 use Rattle.am_idle.specs.declared.extent.Extent.TheVariants as extent_is
 use Rattle.am_idle.specs.Lists.{listed_matchers, StandsForLists}

@@ -39,7 +39,7 @@ use Rattle.am_complete.specs.Complete.{impossible_matchers}
 use Rattle.am_every_alert.specs.EveryAlert.{MeetsTheSame}
 use Rattle.am_every_alert.specs.Deciding.{deciding_matchers, space_of}
 use Rattle.am_every_alert.proofs.SpaceAlerts.{space_choice, alert_of_set}
-use Rattle.am_every_alert.proofs.SameFate.{front_met, rest_met, all_alike, same_possible}
+use Rattle.am_every_alert.proofs.TreatedAlike.{front_met, rest_met, all_alike, same_possible}
 use Rattle.am_idle.specs.declared.rules.IdleReason.{IdleReason}
 use Rattle.am_idle.specs.declared.rules.IdleReason.TheVariants as reason_is
 use Rattle.am_idle.specs.Lists.{listed_matchers}

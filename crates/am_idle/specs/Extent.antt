@@ -21,8 +21,8 @@ MatchesEach Occurs ms = (set : LabelMap) → Occurs set → IsTrue (all_hold set
 abbrev pub MatchesOne : (LabelMap → Type 0) → List Matcher → Type 0
 MatchesOne Occurs ms = (set : LabelMap) × Occurs set × IsTrue (all_hold set ms)
 
-abbrev pub SparesOne : (LabelMap → Type 0) → List Matcher → Type 0
-SparesOne Occurs ms = (set : LabelMap) × Occurs set × IsFalse (all_hold set ms)
+abbrev pub MissesOne : (LabelMap → Type 0) → List Matcher → Type 0
+MissesOne Occurs ms = (set : LabelMap) × Occurs set × IsFalse (all_hold set ms)
 
 -- How far a list reaches: whether it matches none, each or some of the label sets that occur. If
 -- nothing occurs, it matches none.
@@ -31,4 +31,4 @@ SparesOne Occurs ms = (set : LabelMap) × Occurs set × IsFalse (all_hold set ms
 abbrev pub IsExtent : (LabelMap → Type 0) → List Matcher → Extent → Type 0
 IsExtent Occurs ms extent_is.NoAlert = MatchesNone Occurs ms
 IsExtent Occurs ms extent_is.EachAlert = MatchesOne Occurs ms × MatchesEach Occurs ms
-IsExtent Occurs ms extent_is.SomeAlerts = MatchesOne Occurs ms × SparesOne Occurs ms
+IsExtent Occurs ms extent_is.SomeAlerts = MatchesOne Occurs ms × MissesOne Occurs ms

@@ -13,7 +13,7 @@ use Rattle.am_every_alert.specs.EveryAlert.{IsAlertOf}
 use Rattle.am_idle.specs.declared.silences.SilenceFinding.{SilenceFinding}
 use Rattle.am_idle.specs.declared.silences.SilenceFinding.TheVariants as finding_is
 use Rattle.am_idle.specs.Lists.{StandsForLists, IsRefusalForLists}
-use Rattle.am_idle.specs.Extent.{MatchesNone, MatchesEach, MatchesOne, SparesOne}
+use Rattle.am_idle.specs.Extent.{MatchesNone, MatchesEach, MatchesOne, MissesOne}
 
 -- A silence is unused in a world: it is active, and hides none of the alerts that fire.
 -- Source: own choice.
@@ -34,7 +34,7 @@ abbrev pub IsSilenceFinding :
     Alphabet → Space → World → Bool → Silence → Option SilenceFinding → Type 0
 IsSilenceFinding a s w given silence None =
     IsTrue (is_over w.instant silence)
-    ⊎ (MatchesOne (IsAlertOf a s) silence.matchers × SparesOne (IsAlertOf a s) silence.matchers
+    ⊎ (MatchesOne (IsAlertOf a s) silence.matchers × MissesOne (IsAlertOf a s) silence.matchers
     × IsFalse (given && is_unused w silence))
 IsSilenceFinding a s w given silence (Some finding_is.Idle) =
     IsFalse (is_over w.instant silence) × MatchesNone (IsAlertOf a s) silence.matchers
@@ -43,7 +43,7 @@ IsSilenceFinding a s w given silence (Some finding_is.All) =
     × MatchesEach (IsAlertOf a s) silence.matchers
 IsSilenceFinding a s w given silence (Some finding_is.Unused) =
     IsFalse (is_over w.instant silence) × MatchesOne (IsAlertOf a s) silence.matchers
-    × SparesOne (IsAlertOf a s) silence.matchers × IsTrue given × IsTrue (is_unused w silence)
+    × MissesOne (IsAlertOf a s) silence.matchers × IsTrue given × IsTrue (is_unused w silence)
 
 -- ---- Why none is said.
 

@@ -16,13 +16,13 @@ use Rattle.am_eval.proofs.SimpleParts.{end_of_receiver, receiver_of_end}
 use Rattle.am_classes.specs.declared.alphabet.Alphabet.{Alphabet}
 use Rattle.am_classes.specs.declared.alphabet.Alphabet.TheVariants.{Unicode, Ascii}
 use Rattle.am_every_alert.specs.EveryAlert.{IsAlertOf}
-use Rattle.am_lint.specs.declared.standing.Standing.{Standing}
-use Rattle.am_lint.specs.declared.standing.Standing.TheVariants as standing_is
+use Rattle.am_lint.specs.declared.arrival.Arrival.{Arrival}
+use Rattle.am_lint.specs.declared.arrival.Arrival.TheVariants as arrival_is
 use Rattle.am_lint.specs.declared.found.FoundRoute.{FoundRoute}
 use Rattle.am_lint.specs.declared.found.ReceiverFinding.{ReceiverFinding}
 use Rattle.am_lint.specs.declared.found.ReceiverFinding.TheVariants as receiver_is
 use Rattle.am_eval.specs.Reaching.{EndsAt, GoesTo, SomeIs, IsDead, IsUnmatched}
-use Rattle.am_lint.specs.Standing.{IsStanding}
+use Rattle.am_lint.specs.Arrival.{IsArrival}
 use Rattle.am_lint.specs.Findings.{IsOrdinary, IsRouteFinding, IsReceiverFinding}
 use Rattle.am_lint.specs.FoundView.{finding_by, is_end, is_end_if_any, said_of, IsKnown}
 use Rattle.am_lint.specs.FoundView.{has_ordinary, has_other, receiver_finding}
@@ -36,7 +36,7 @@ use Rattle.am_lint.proofs.EnteringLemmas.{enters_to_end}
 -- how a route stands over every alert; this need not be known if some ordinary alert ends there,
 -- and it is not known if only printable ASCII counts
 abbrev pub IsFurther :
-    Alphabet → Space → List Label → Configuration → List ℕ → Standing → Option Standing → Type 0
+    Alphabet → Space → List Label → Configuration → List ℕ → Arrival → Option Arrival → Type 0
 IsFurther Ascii s v c path ordinary every = every ≡ None
 IsFurther Unicode s v c path ordinary every =
     is_end ordinary ≡ false → IsKnown v (IsAlertOf Unicode s) c path every
@@ -47,7 +47,7 @@ pub record IsFoundSo (alphabet : Alphabet) (s : Space) (u v : List Label) (c : C
     (route : List ℕ × RouteTree) (found : FoundRoute) : Type 0 where
   pub path : found.path ≡ route.0
   pub receiver : found.receiver ≡ receiver_of route.1
-  pub ordinary : IsStanding u (IsOrdinary s) c route.0 found.ordinary
+  pub ordinary : IsArrival u (IsOrdinary s) c route.0 found.ordinary
   pub further : IsFurther alphabet s v c route.0 found.ordinary found.every
 
 -- ---- Lists, position by position.
@@ -68,42 +68,42 @@ zip_own Q f each (x ∷ xs) = (each x, zip_own Q f each xs)
 -- ---- Routes and their ends.
 
 module _ (u : List Label) (Occurs : LabelMap → Type 0) (c : Configuration) (path : List ℕ) where
-  some_end : (every : Option Standing) → is_end_if_any every ≡ true
+  some_end : (every : Option Arrival) → is_end_if_any every ≡ true
       → IsKnown u Occurs c path every → SomeIs Occurs (EndsAt c path)
   some_end None e so = absurd so
-  some_end (Some (standing_is.Ends choice)) e so = (label_set_of u choice, so.1, so.2)
-  some_end (Some (standing_is.HandsOn entry children)) e so = absurd (false≢true e)
-  some_end (Some (standing_is.NeverEntered reason)) e so = absurd (false≢true e)
+  some_end (Some (arrival_is.Ends choice)) e so = (label_set_of u choice, so.1, so.2)
+  some_end (Some (arrival_is.HandsOn entry children)) e so = absurd (false≢true e)
+  some_end (Some (arrival_is.NeverEntered reason)) e so = absurd (false≢true e)
 
-  no_end : (every : Option Standing) → is_end_if_any every ≡ false
+  no_end : (every : Option Arrival) → is_end_if_any every ≡ false
       → IsKnown u Occurs c path every → IsDead Occurs c path
   no_end None e so = absurd so
-  no_end (Some (standing_is.Ends choice)) e so = absurd (false≢true (sym e))
-  no_end (Some (standing_is.HandsOn entry children)) e so = so.1
-  no_end (Some (standing_is.NeverEntered reason)) e so =
+  no_end (Some (arrival_is.Ends choice)) e so = absurd (false≢true (sym e))
+  no_end (Some (arrival_is.HandsOn entry children)) e so = so.1
+  no_end (Some (arrival_is.NeverEntered reason)) e so =
       λ set is ends. so.0 set is (enters_to_end c path set ends)
 
 -- ---- What is said of a route.
 
 module _ (s : Space) (u v : List Label) (c : Configuration) (path : List ℕ) where
-  finding_so : (alphabet : Alphabet) (ordinary : Standing) (every : Option Standing)
-      → IsStanding u (IsOrdinary s) c path ordinary
+  finding_so : (alphabet : Alphabet) (ordinary : Arrival) (every : Option Arrival)
+      → IsArrival u (IsOrdinary s) c path ordinary
       → IsFurther alphabet s v c path ordinary every
       → IsRouteFinding alphabet s v c path (finding_by ordinary every)
-  finding_so alphabet (standing_is.Ends choice) every so further =
+  finding_so alphabet (arrival_is.Ends choice) every so further =
       (label_set_of u choice, so.1, so.2)
-  finding_so alphabet (standing_is.HandsOn entry children) every so further =
+  finding_so alphabet (arrival_is.HandsOn entry children) every so further =
       ((label_set_of u entry, so.0.1, so.0.2), so.1, so.2)
-  finding_so Ascii (standing_is.NeverEntered reason) None so further = so
-  finding_so Ascii (standing_is.NeverEntered reason) (Some standing) so further = absurd (cc)
-  finding_so Unicode (standing_is.NeverEntered reason) None so further = absurd (further refl)
-  finding_so Unicode (standing_is.NeverEntered reason) (Some (standing_is.Ends choice)) so further =
+  finding_so Ascii (arrival_is.NeverEntered reason) None so further = so
+  finding_so Ascii (arrival_is.NeverEntered reason) (Some arrival) so further = absurd (cc)
+  finding_so Unicode (arrival_is.NeverEntered reason) None so further = absurd (further refl)
+  finding_so Unicode (arrival_is.NeverEntered reason) (Some (arrival_is.Ends choice)) so further =
       let h = further refl in
       (refl, so.0, so.1, h.1, enters_to_end c path (label_set_of v choice) h.2)
-  finding_so Unicode (standing_is.NeverEntered reason) (Some (standing_is.HandsOn entry children)) so
+  finding_so Unicode (arrival_is.NeverEntered reason) (Some (arrival_is.HandsOn entry children)) so
       further =
       let h = further refl in (refl, so.0, so.1, h.0.1, h.0.2)
-  finding_so Unicode (standing_is.NeverEntered reason) (Some (standing_is.NeverEntered other)) so
+  finding_so Unicode (arrival_is.NeverEntered reason) (Some (arrival_is.NeverEntered other)) so
       further = further refl
 
 -- ---- What is said of a receiver.
@@ -115,15 +115,15 @@ module _ (alphabet : Alphabet) (s : Space) (u v : List Label) (c : Configuration
   IsSo route found = IsFoundSo alphabet s u v c route found
 
   -- over every alert that counts
-  none_counted : (b : Alphabet) (path : List ℕ) (ordinary : Standing) (every : Option Standing)
-      → IsStanding u (IsOrdinary s) c path ordinary → IsFurther b s v c path ordinary every
+  none_counted : (b : Alphabet) (path : List ℕ) (ordinary : Arrival) (every : Option Arrival)
+      → IsArrival u (IsOrdinary s) c path ordinary → IsFurther b s v c path ordinary every
       → is_end ordinary ≡ false → is_end_if_any every ≡ false → IsDead (IsAlertOf b s) c path
   none_counted Ascii path ordinary every is further none other =
       no_end u (IsOrdinary s) c path (Some ordinary) none is
   none_counted Unicode path ordinary every is further none other =
       no_end v (IsAlertOf Unicode s) c path every other (further none)
 
-  some_counted : (b : Alphabet) (path : List ℕ) (ordinary : Standing) (every : Option Standing)
+  some_counted : (b : Alphabet) (path : List ℕ) (ordinary : Arrival) (every : Option Arrival)
       → IsFurther b s v c path ordinary every → is_end ordinary ≡ false
       → is_end_if_any every ≡ true → (b ≡ Unicode) × SomeIs (IsAlertOf b s) (EndsAt c path)
   some_counted Ascii path ordinary every further none other =

@@ -11,16 +11,16 @@ use Rattle.am_eval.proofs.AbsentParts.{receiver_below}
 use Rattle.am_classes.specs.declared.alphabet.Alphabet.{Alphabet}
 use Rattle.am_classes.specs.declared.alphabet.Alphabet.TheVariants.{Unicode, Ascii}
 use Rattle.am_every_alert.specs.EveryAlert.{IsAlertOf}
-use Rattle.am_lint.specs.declared.standing.Standing.{Standing}
-use Rattle.am_lint.specs.declared.standing.Standing.TheVariants as standing_is
+use Rattle.am_lint.specs.declared.arrival.Arrival.{Arrival}
+use Rattle.am_lint.specs.declared.arrival.Arrival.TheVariants as arrival_is
 use Rattle.am_lint.specs.declared.found.FoundRoute.{FoundRoute}
 use Rattle.am_lint.specs.Table.{IsRoute}
 use Rattle.am_eval.specs.Reaching.{IsSetOf}
 use Rattle.am_lint.specs.Findings.{IsOrdinary}
 use Rattle.am_lint.specs.FoundView.{finding_by, IsFoundIn, IsKnown, IsLookedAt, IsSameButEvery}
 use Rattle.am_lint.specs.FoundView.{IsShownFinding, IsShown}
-use Rattle.am_lint.specs.Standing.{IsStanding}
-use Rattle.am_lint.proofs.Transfer.{StandsForAlerts, standing_over_as}
+use Rattle.am_lint.specs.Arrival.{IsArrival}
+use Rattle.am_lint.proofs.Transfer.{StandsForAlerts, arrival_over_as}
 use Rattle.am_lint.proofs.TableLemmas.{zip_right, stands_at}
 use Rattle.am_lint.proofs.FoundLemmas.{IsFurther, IsFoundSo}
 
@@ -55,9 +55,9 @@ through R Q (x ∷ xs) [] zs h k = absurd h
 module _ (s o : Space) (c : Configuration) (stands : StandsForAlerts Ascii o c)
     (same : o.impossible ≡ s.impossible) where
   ordinary_so : (route : List ℕ × RouteTree) (found : FoundRoute) → IsFoundIn o c route found
-      → IsStanding o.labels (IsOrdinary s) c route.0 found.ordinary
+      → IsArrival o.labels (IsOrdinary s) c route.0 found.ordinary
   ordinary_so route found is =
-      standing_over_as Ascii o c stands s (sym same) route.0 found.ordinary is.2
+      arrival_over_as Ascii o c stands s (sym same) route.0 found.ordinary is.2
 
   -- if only printable ASCII counts
   pub found_over_ascii : (v : List Label) (found : List FoundRoute)
@@ -76,12 +76,12 @@ module _ (s o : Space) (c : Configuration) (stands : StandsForAlerts Ascii o c)
   -- if every alert counts
   module _ (e : Space) (every : StandsForAlerts Unicode e c)
       (also : e.impossible ≡ s.impossible) where
-    known_so : (path : List ℕ) (further : Option Standing)
+    known_so : (path : List ℕ) (further : Option Arrival)
         → IsKnown e.labels (IsSetOf e) c path further
         → IsKnown e.labels (IsAlertOf Unicode s) c path further
     known_so path None h = absurd h
-    known_so path (Some standing) h =
-        standing_over_as Unicode e c every s (sym also) path standing h
+    known_so path (Some arrival) h =
+        arrival_over_as Unicode e c every s (sym also) path arrival h
 
     looked_so : (x : List ℕ × RouteTree) (y z : FoundRoute) → IsFoundIn o c x y
         → IsSameButEvery y z → IsLookedAt e c z.path z.ordinary z.every
@@ -92,7 +92,7 @@ module _ (s o : Space) (c : Configuration) (stands : StandsForAlerts Ascii o c)
           path = at;
           receiver = but.1 ∙ is.1;
           ordinary =
-              subst (λ (st : Standing). IsStanding o.labels (IsOrdinary s) c x.0 st) (sym but.2)
+              subst (λ (st : Arrival). IsArrival o.labels (IsOrdinary s) c x.0 st) (sym but.2)
               (ordinary_so x y is);
           further = λ none. known_so x.0 z.every
               (subst (λ p. IsKnown e.labels (IsSetOf e) c p z.every) at (looked none));
@@ -120,19 +120,19 @@ found_there o c found is =
     (λ x y i h. subst (IsRoute c) (sym h.0) (x.1, stands_at c x i)) is
 
 finding_shown : (a : Alphabet) (s : Space) (v : List Label) (c : Configuration) (path : List ℕ)
-    (ordinary : Standing) (every : Option Standing)
+    (ordinary : Arrival) (every : Option Arrival)
     → IsFurther a s v c path ordinary every
     → IsShownFinding (sizes v) (finding_by ordinary every)
-finding_shown a s v c path (standing_is.Ends choice) every h = tt
-finding_shown a s v c path (standing_is.HandsOn entry children) every h = tt
-finding_shown a s v c path (standing_is.NeverEntered reason) None h = tt
-finding_shown Ascii s v c path (standing_is.NeverEntered reason) (Some standing) h = absurd (cc)
-finding_shown Unicode s v c path (standing_is.NeverEntered reason)
-    (Some (standing_is.Ends choice)) h = (h refl).0
-finding_shown Unicode s v c path (standing_is.NeverEntered reason)
-    (Some (standing_is.HandsOn entry children)) h = (h refl).0.0
-finding_shown Unicode s v c path (standing_is.NeverEntered reason)
-    (Some (standing_is.NeverEntered other)) h = tt
+finding_shown a s v c path (arrival_is.Ends choice) every h = tt
+finding_shown a s v c path (arrival_is.HandsOn entry children) every h = tt
+finding_shown a s v c path (arrival_is.NeverEntered reason) None h = tt
+finding_shown Ascii s v c path (arrival_is.NeverEntered reason) (Some arrival) h = absurd (cc)
+finding_shown Unicode s v c path (arrival_is.NeverEntered reason)
+    (Some (arrival_is.Ends choice)) h = (h refl).0
+finding_shown Unicode s v c path (arrival_is.NeverEntered reason)
+    (Some (arrival_is.HandsOn entry children)) h = (h refl).0.0
+finding_shown Unicode s v c path (arrival_is.NeverEntered reason)
+    (Some (arrival_is.NeverEntered other)) h = tt
 
 pub found_shown : (a : Alphabet) (s : Space) (u v : List Label) (c : Configuration)
     (found : List FoundRoute) → IsConfig c

@@ -7,7 +7,7 @@ pub mod PlaceSteps
 pub mod EnteringLemmas
 pub mod LiteralTruth
 pub mod NamedReasons
-pub mod StandingSteps
+pub mod ArrivalSteps
 pub mod ReportSteps
 pub mod Transfer
 pub mod FoundLemmas

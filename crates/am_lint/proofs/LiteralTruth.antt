@@ -30,7 +30,7 @@ use Rattle.am_lint.specs.Table.{IsTableOf}
 use Rattle.am_lint.specs.Literals.{is_wanted, stands_in, has_route, path_if_any, path_of, IsAbout}
 use Rattle.am_lint.specs.Literals.{AddsPart}
 use Rattle.am_eval.specs.Reaching.{NoneIs, IsSetOf}
-use Rattle.am_lint.specs.Standing.{IsSeenBy}
+use Rattle.am_lint.specs.Arrival.{IsSeenBy}
 use Rattle.am_lint.proofs.TableLemmas.{its_route, its_place}
 use Rattle.am_lint.proofs.EnteringLemmas.{Meets}
 

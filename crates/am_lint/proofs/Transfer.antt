@@ -15,14 +15,14 @@ use Rattle.am_every_alert.specs.EveryAlert.{IsAlert, IsAlertOf, MeetsTheSame}
 use Rattle.am_every_alert.specs.Deciding.{StandsFor}
 use Rattle.am_every_alert.proofs.SpaceAlerts.{IsToldBy, meets_turned, alert_of_set, none_over}
 use Rattle.am_every_alert.proofs.SpaceAlerts.{some_over, ends_told, enters_told}
-use Rattle.am_every_alert.proofs.SameFate.{front_met, rest_met, own_alike}
-use Rattle.am_lint.specs.declared.standing.Cause.{Cause}
-use Rattle.am_lint.specs.declared.standing.Cause.TheVariants as cause_is
-use Rattle.am_lint.specs.declared.standing.Standing.{Standing}
-use Rattle.am_lint.specs.declared.standing.Standing.TheVariants as standing_is
+use Rattle.am_every_alert.proofs.TreatedAlike.{front_met, rest_met, own_alike}
+use Rattle.am_lint.specs.declared.arrival.Cause.{Cause}
+use Rattle.am_lint.specs.declared.arrival.Cause.TheVariants as cause_is
+use Rattle.am_lint.specs.declared.arrival.Arrival.{Arrival}
+use Rattle.am_lint.specs.declared.arrival.Arrival.TheVariants as arrival_is
 use Rattle.am_eval.specs.Reaching.{EndsAt, Enters, NoneIs, IsSetOf}
 use Rattle.am_lint.specs.Reasons.{IsReasonWhy, Matches, Misses, MatchesWay, IsHandedTo}
-use Rattle.am_lint.specs.Standing.{IsSeenBy, IsReasonFor, IsStanding}
+use Rattle.am_lint.specs.Arrival.{IsSeenBy, IsReasonFor, IsArrival}
 
 -- ---- What meets the same of the matchers of all routes.
 
@@ -111,24 +111,24 @@ module _ (a : Alphabet) (s : Space) (c : Configuration) (h : StandsForAlerts a s
   seen_over Is choice seen =
       (seen.0, alert_of_set a s (routes c) h (label_set_of s.labels choice) seen.1, seen.2)
 
-  pub standing_over : (path : List ℕ) (standing : Standing)
-      → IsStanding s.labels (IsSetOf s) c path standing
-      → IsStanding s.labels (IsAlertOf a s) c path standing
-  standing_over path (standing_is.Ends choice) so = seen_over (EndsAt c path) choice so
-  standing_over path (standing_is.HandsOn entry children) so = (
+  pub arrival_over : (path : List ℕ) (arrival : Arrival)
+      → IsArrival s.labels (IsSetOf s) c path arrival
+      → IsArrival s.labels (IsAlertOf a s) c path arrival
+  arrival_over path (arrival_is.Ends choice) so = seen_over (EndsAt c path) choice so
+  arrival_over path (arrival_is.HandsOn entry children) so = (
     seen_over (Enters c path) entry so.0,
     none_so (EndsAt c path) (ends_told c path) so.1,
     handed_over path children.items so.2,
   )
-  standing_over path (standing_is.NeverEntered reason) so = (
+  arrival_over path (arrival_is.NeverEntered reason) so = (
     none_so (Enters c path) (enters_told c path) so.0,
     reason_over path reason.cause reason.routes.items so.1,
   )
 
   -- the same for the alerts of a space with other labels
-  pub standing_over_as : (t : Space) → t.impossible ≡ s.impossible → (path : List ℕ)
-      → (standing : Standing) → IsStanding s.labels (IsSetOf s) c path standing
-      → IsStanding s.labels (IsAlertOf a t) c path standing
-  standing_over_as t same path standing so =
-      subst (λ lists. IsStanding s.labels (IsAlertBut a lists) c path standing) (sym same)
-      (standing_over path standing so)
+  pub arrival_over_as : (t : Space) → t.impossible ≡ s.impossible → (path : List ℕ)
+      → (arrival : Arrival) → IsArrival s.labels (IsSetOf s) c path arrival
+      → IsArrival s.labels (IsAlertOf a t) c path arrival
+  arrival_over_as t same path arrival so =
+      subst (λ lists. IsArrival s.labels (IsAlertBut a lists) c path arrival) (sym same)
+      (arrival_over path arrival so)

@@ -8,13 +8,13 @@ use Rattle.am_config.specs.ConfigFile.{Configuration}
 use Rattle.am_classes.specs.declared.alphabet.Alphabet.{Alphabet}
 use Rattle.am_classes.specs.declared.alphabet.Alphabet.TheVariants.{Unicode, Ascii}
 use Rattle.am_every_alert.specs.EveryAlert.{IsAlertOf}
-use Rattle.am_lint.specs.declared.standing.Cause.{Cause}
+use Rattle.am_lint.specs.declared.arrival.Cause.{Cause}
 use Rattle.am_lint.specs.declared.found.ReceiverFinding.{ReceiverFinding}
 use Rattle.am_lint.specs.declared.found.ReceiverFinding.TheVariants as receiver_is
 use Rattle.am_eval.specs.Reaching.{EndsAt, Enters, GoesTo, SomeIs, IsDead, IsNeverEntered}
 use Rattle.am_eval.specs.Reaching.{IsUnmatched}
 use Rattle.am_lint.specs.Reasons.{IsHandedTo}
-use Rattle.am_lint.specs.Standing.{IsReasonFor}
+use Rattle.am_lint.specs.Arrival.{IsReasonFor}
 
 -- What is said of a route. It is dead, for this reason. Or it is unusual: no ordinary alert enters
 -- it, for this reason, but the label set of this choice does. Or it hands on to these children.

@@ -7,9 +7,9 @@ use Rattle.am_universe.specs.Choice.{IsWhole}
 use Rattle.am_universe.specs.LabelSet.{LabelMap}
 use Rattle.am_labels.specs.Space.{Space}
 use Rattle.am_config.specs.ConfigFile.{Configuration, RouteTree, receiver_of}
-use Rattle.am_lint.specs.declared.standing.Standing.{Standing}
-use Rattle.am_lint.specs.declared.standing.Standing.TheVariants as standing_is
-use Rattle.am_lint.specs.declared.standing.Reason.{Reason}
+use Rattle.am_lint.specs.declared.arrival.Arrival.{Arrival}
+use Rattle.am_lint.specs.declared.arrival.Arrival.TheVariants as arrival_is
+use Rattle.am_lint.specs.declared.arrival.Reason.{Reason}
 use Rattle.am_lint.specs.declared.found.FoundRoute.{FoundRoute}
 use Rattle.am_lint.specs.declared.found.RouteFinding.{RouteFinding}
 use Rattle.am_lint.specs.declared.found.RouteFinding.TheVariants as finding_is
@@ -18,22 +18,22 @@ use Rattle.am_lint.specs.declared.found.ReceiverFinding.TheVariants as receiver_
 use Rattle.am_lint.specs.Findings.{Finding, Dead, Unusual, HandsOn}
 use Rattle.am_lint.specs.ReportText.{Said}
 use Rattle.am_eval.specs.Reaching.{IsSetOf}
-use Rattle.am_lint.specs.Standing.{IsStanding}
+use Rattle.am_lint.specs.Arrival.{IsArrival}
 
 -- What is said of a route. `unentered` says it of a route that no ordinary alert enters, by how the
 -- route stands over every alert, if other alerts count. The others say it of any route.
-abbrev pub unentered : Reason → Option Standing → Finding
+abbrev pub unentered : Reason → Option Arrival → Finding
 unentered reason None = Dead reason.cause reason.routes.items
-unentered reason (Some (standing_is.Ends choice)) =
+unentered reason (Some (arrival_is.Ends choice)) =
     Unusual reason.cause reason.routes.items choice
-unentered reason (Some (standing_is.HandsOn entry children)) =
+unentered reason (Some (arrival_is.HandsOn entry children)) =
     Unusual reason.cause reason.routes.items entry
-unentered reason (Some (standing_is.NeverEntered other)) = Dead other.cause other.routes.items
+unentered reason (Some (arrival_is.NeverEntered other)) = Dead other.cause other.routes.items
 
-abbrev pub finding_by : Standing → Option Standing → Option Finding
-finding_by (standing_is.Ends choice) every = None
-finding_by (standing_is.HandsOn entry children) every = Some (HandsOn children.items)
-finding_by (standing_is.NeverEntered reason) every = Some (unentered reason every)
+abbrev pub finding_by : Arrival → Option Arrival → Option Finding
+finding_by (arrival_is.Ends choice) every = None
+finding_by (arrival_is.HandsOn entry children) every = Some (HandsOn children.items)
+finding_by (arrival_is.NeverEntered reason) every = Some (unentered reason every)
 
 abbrev pub finding_of : FoundRoute → Option Finding
 finding_of found = finding_by found.ordinary found.every
@@ -45,31 +45,31 @@ finding_view (finding_is.Unusual reason entry) =
     Unusual reason.now.cause reason.now.routes.items entry
 finding_view (finding_is.HandsOn children) = HandsOn children.now.items
 
--- Whether a standing says that some label set ends at the route.
-abbrev pub is_end : Standing → Bool
-is_end (standing_is.Ends choice) = true
-is_end (standing_is.HandsOn entry children) = false
-is_end (standing_is.NeverEntered reason) = false
+-- Whether a arrival says that some label set ends at the route.
+abbrev pub is_end : Arrival → Bool
+is_end (arrival_is.Ends choice) = true
+is_end (arrival_is.HandsOn entry children) = false
+is_end (arrival_is.NeverEntered reason) = false
 
-abbrev pub is_end_if_any : Option Standing → Bool
+abbrev pub is_end_if_any : Option Arrival → Bool
 is_end_if_any None = false
-is_end_if_any (Some standing) = is_end standing
+is_end_if_any (Some arrival) = is_end arrival
 
 -- What was found of a route: its path, its receiver, and how it stands over a space. Nothing is
 -- said here about another space.
 abbrev pub IsFoundIn : Space → Configuration → List ℕ × RouteTree → FoundRoute → Type 0
 IsFoundIn s c route found =
     (found.path ≡ route.0) × (found.receiver ≡ receiver_of route.1)
-    × IsStanding s.labels (IsSetOf s) c route.0 found.ordinary
+    × IsArrival s.labels (IsSetOf s) c route.0 found.ordinary
 
 -- How a route stands over the label sets that occur is known if no label set of another space ends
 -- there: so over a second space.
 abbrev pub IsKnown :
-    List Label → (LabelMap → Type 0) → Configuration → List ℕ → Option Standing → Type 0
+    List Label → (LabelMap → Type 0) → Configuration → List ℕ → Option Arrival → Type 0
 IsKnown u Occurs c path None = ⊥
-IsKnown u Occurs c path (Some standing) = IsStanding u Occurs c path standing
+IsKnown u Occurs c path (Some arrival) = IsArrival u Occurs c path arrival
 
-abbrev pub IsLookedAt : Space → Configuration → List ℕ → Standing → Option Standing → Type 0
+abbrev pub IsLookedAt : Space → Configuration → List ℕ → Arrival → Option Arrival → Type 0
 IsLookedAt s c path ordinary every =
     is_end ordinary ≡ false → IsKnown s.labels (IsSetOf s) c path every
 

@@ -2,7 +2,7 @@ pub mod Places
 pub mod Reasons
 pub mod Table
 pub mod Literals
-pub mod Standing
+pub mod Arrival
 pub mod Findings
 pub mod FoundView
 pub mod ReportText

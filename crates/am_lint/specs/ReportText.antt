@@ -9,8 +9,8 @@ use Rattle.am_config.specs.ConfigFile.{Configuration, RouteTree, matchers_of}
 use Rattle.am_config.specs.Path.{path_text, route_at}
 use Rattle.am_report_texts.specs.Plural.{plural}
 use Rattle.am_report_texts.specs.Separated.{texts_behind}
-use Rattle.am_lint.specs.declared.standing.Cause.{Cause}
-use Rattle.am_lint.specs.declared.standing.Cause.TheVariants as cause_is
+use Rattle.am_lint.specs.declared.arrival.Cause.{Cause}
+use Rattle.am_lint.specs.declared.arrival.Cause.TheVariants as cause_is
 use Rattle.am_lint.specs.declared.found.ReceiverFinding.{ReceiverFinding}
 use Rattle.am_lint.specs.declared.found.ReceiverFinding.TheVariants as receiver_is
 use Rattle.am_lint.specs.Findings.{Finding, Dead, Unusual, HandsOn}

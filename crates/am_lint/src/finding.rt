@@ -13,15 +13,15 @@ ghost use Rattle.am_config.specs.RoutePaths.{all_routes};
 ghost use Rattle.am_lint.specs.FoundView.{IsFoundIn, IsLookedAt, IsSameButEvery, receiver_finding};
 ghost use Rattle.am_lint.specs.Table.{KnowsRoutes, table_space, table_config, IsRoute};
 
+use crate::arrival::arrival_of;
 use crate::found::{FoundRoute, ReceiverFinding, receiver_finding};
-use crate::standing::standing_of;
 use crate::table::Table;
 use am_config::Config;
 use am_labels::Space;
 use std::alloc::{AllocError, Global};
 
-/// Finds how each route of a configuration stands over a space, in preorder. `every` is `None` in
-/// each. Fails only if memory runs out.
+/// Finds how the label sets of a space arrive at each route of a configuration, in preorder.
+/// `every` is `None` in each. Fails only if memory runs out.
 pub fn found_routes(
     alloc: Global,
     space: &Space,
@@ -37,15 +37,15 @@ pub fn found_routes(
         found.push(FoundRoute {
             path: route.path,
             receiver: route.receiver,
-            ordinary: standing_of(alloc, &table, &route.path)?,
+            ordinary: arrival_of(alloc, &table, &route.path)?,
             every: None,
         })?;
     }
     Ok(found)
 }
 
-/// For each route at which no label set of the first space ends, finds how the route stands over
-/// another space, and sets its `every`. Fails only if memory runs out; then some of them may be
+/// For each route at which no label set of the first space ends, finds how those of another space
+/// arrive there, and sets its `every`. Fails only if memory runs out; then some of them may be
 /// set.
 pub fn look_further(
     alloc: Global,
@@ -78,7 +78,7 @@ fn look_further_at(
         route.new.path route.new.ordinary route.new.every) }
 {
     if !route.has_ordinary_end() {
-        route.every = Some(standing_of(alloc, table, &route.path)?);
+        route.every = Some(arrival_of(alloc, table, &route.path)?);
     }
     Ok(())
 }

@@ -4,21 +4,21 @@ ghost use Rattle.std.specs.Prelude.{◌≡◌, option_map, Some};
 ghost use Rattle.am_lint.specs.FoundView.{finding_of, finding_view, unentered, is_end};
 ghost use Rattle.am_lint.specs.FoundView.{is_end_if_any, receiver_finding};
 
-use crate::standing::{Reason, Standing};
+use crate::arrival::{Arrival, Reason};
 use am_config::Path;
 use am_universe::Choice;
 
-/// A route, and how it stands over ordinary alerts and over every alert.
+/// A route, and how ordinary alerts and all alerts arrive there.
 #[derive(Drop)]
 pub struct FoundRoute {
     /// The path of the route.
     pub path: Path,
     /// The position of its receiver.
     pub receiver: usize,
-    /// How the route stands over ordinary alerts, whose values are printable ASCII.
-    pub ordinary: Standing,
-    /// How the route stands over every alert, if no ordinary alert ends there and others count.
-    pub every: Option<Standing>,
+    /// How ordinary alerts arrive there, whose values are printable ASCII.
+    pub ordinary: Arrival,
+    /// How all alerts arrive there, if no ordinary alert ends there and others count.
+    pub every: Option<Arrival>,
 }
 
 /// What is wrong with a route.
@@ -47,9 +47,9 @@ impl FoundRoute {
         ensures finding { option_map finding_view result ≡ finding_of self.now }
     {
         match &self.ordinary {
-            Standing::Ends(_) => None,
-            Standing::HandsOn { children, .. } => Some(RouteFinding::HandsOn(children)),
-            Standing::NeverEntered(reason) => Some(self.finding_of_unentered(reason)),
+            Arrival::Ends(_) => None,
+            Arrival::HandsOn { children, .. } => Some(RouteFinding::HandsOn(children)),
+            Arrival::NeverEntered(reason) => Some(self.finding_of_unentered(reason)),
         }
     }
 
@@ -59,9 +59,9 @@ impl FoundRoute {
     {
         match &self.every {
             None => RouteFinding::Dead(reason),
-            Some(Standing::NeverEntered(reason)) => RouteFinding::Dead(reason),
-            Some(Standing::Ends(choice)) => RouteFinding::Unusual(reason, *choice),
-            Some(Standing::HandsOn { entry, .. }) => RouteFinding::Unusual(reason, *entry),
+            Some(Arrival::NeverEntered(reason)) => RouteFinding::Dead(reason),
+            Some(Arrival::Ends(choice)) => RouteFinding::Unusual(reason, *choice),
+            Some(Arrival::HandsOn { entry, .. }) => RouteFinding::Unusual(reason, *entry),
         }
     }
 
@@ -69,14 +69,14 @@ impl FoundRoute {
     pub(crate) fn has_ordinary_end(&self) -> bool
         ensures { result ≡ is_end self.now.ordinary }
     {
-        matches!(self.ordinary, Standing::Ends(_))
+        matches!(self.ordinary, Arrival::Ends(_))
     }
 
     /// Whether `every` says that an alert ends at the route.
     fn has_other_end(&self) -> bool
         ensures { result ≡ is_end_if_any self.now.every }
     {
-        matches!(self.every, Some(Standing::Ends(_)))
+        matches!(self.every, Some(Arrival::Ends(_)))
     }
 }
 

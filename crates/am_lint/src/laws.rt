@@ -12,10 +12,10 @@ ghost use Rattle.am_complete.specs.Complete.{IsSpaceComplete};
 ghost use Rattle.am_complete.specs.Covering.{HasTextsOver};
 ghost use Rattle.am_every_alert.specs.EveryAlert.{IsAlertOf};
 ghost use Rattle.am_every_alert.specs.Deciding.{coverage_matchers};
-ghost use Rattle.am_lint.specs.declared.standing.Cause.{Cause};
-ghost use Rattle.am_lint.specs.declared.standing.Standing.{Standing};
+ghost use Rattle.am_lint.specs.declared.arrival.Cause.{Cause};
+ghost use Rattle.am_lint.specs.declared.arrival.Arrival.{Arrival};
 ghost use Rattle.am_lint.specs.Reasons.{IsExcludedBy, IsTakenBy, IsHandedTo};
-ghost use Rattle.am_lint.specs.Standing.{IsStanding, IsReasonFor};
+ghost use Rattle.am_lint.specs.Arrival.{IsArrival, IsReasonFor};
 ghost use Rattle.am_report_texts.specs.MatchersText.{matchers_text};
 
 /// The text of matchers is read back as these matchers, if each name may stand in a matcher list.
@@ -40,16 +40,15 @@ pub fn a_reason_keeps_alerts_out()
         → IsDead (IsAlertOf a s) c path }
 {}
 
-/// A route stands over all alerts as it does over the label sets of a complete space, for the same
-/// reasons. The space is complete, over an alphabet, for the matchers of the routes and the
-/// impossible lists, and has only texts over this alphabet. The alerts are those of the space over
-/// this alphabet.
-pub fn a_route_stands_over_all_alerts_as_over_a_complete_space()
-    ensures standing { (a : Alphabet) (s : Space) (c : Configuration) (path : List ℕ)
-        (standing : Standing) → IsUniverse s.labels → HasTextsOver a s.labels
+/// All alerts arrive at a route as the label sets of a complete space do, for the same reasons. The
+/// space is complete, over an alphabet, for the matchers of the routes and the impossible lists,
+/// and has only texts over this alphabet. The alerts are those of the space over this alphabet.
+pub fn all_alerts_arrive_as_those_of_a_complete_space()
+    ensures arrival { (a : Alphabet) (s : Space) (c : Configuration) (path : List ℕ)
+        (arrival : Arrival) → IsUniverse s.labels → HasTextsOver a s.labels
         → IsSpaceComplete a s (coverage_matchers s c)
-        → IsStanding s.labels (IsSetOf s) c path standing
-        → IsStanding s.labels (IsAlertOf a s) c path standing }
+        → IsArrival s.labels (IsSetOf s) c path arrival
+        → IsArrival s.labels (IsAlertOf a s) c path arrival }
     ensures reason { (a : Alphabet) (s : Space) (c : Configuration) (path : List ℕ) (cause : Cause)
         (routes : List (List ℕ)) → IsUniverse s.labels → HasTextsOver a s.labels
         → IsSpaceComplete a s (coverage_matchers s c)

@@ -1,21 +1,21 @@
 //! What is wrong with the routes and receivers of a configuration, and why.
 //!
-//! [`found_routes`] says how each route stands over a space: whether label sets end there or enter
-//! it, and which routes are to blame if none do. [`look_further`] looks at the same routes over
-//! another space. [`found_receivers`] says which receivers no label set reaches, and [`lint_lines`]
-//! writes a line for each finding and note. If one space stands for all ordinary alerts, whose
-//! values are printable ASCII, and the other for all alerts, the findings hold of all alerts.
-//! [`laws`] say that.
+//! [`found_routes`] says how the label sets of a space arrive at each route: whether some end there
+//! or enter it, and which routes are to blame if none do. [`look_further`] looks at the same routes
+//! over another space. [`found_receivers`] says which receivers no label set reaches, and
+//! [`lint_lines`] writes a line for each finding and note. If one space stands for all ordinary
+//! alerts, whose values are printable ASCII, and the other for all alerts, the findings hold of all
+//! alerts. [`laws`] say that.
 #![tactic(auto)]
 
 // The routes, and what they ask of an alert.
 mod literals;
 mod table;
 
-// How a route stands over a space.
-mod standing;
+// How the label sets of a space arrive at a route.
+mod arrival;
 
-pub use standing::{Cause, Reason, Standing};
+pub use arrival::{Arrival, Cause, Reason};
 
 // What is found of routes and receivers.
 mod finding;

@@ -14,8 +14,8 @@ ghost use Rattle.am_lint.specs.ReportText.{receiver_kind, having, have_text, sai
 ghost use Rattle.am_lint.specs.ReportText.{matchers_at_path, kind_if_any, is_dead, is_note};
 ghost use Rattle.am_lint.specs.ReportText.{is_unmatched, is_unusual};
 
+use crate::arrival::{Cause, Reason};
 use crate::found::{FoundRoute, ReceiverFinding, RouteFinding};
-use crate::standing::{Cause, Reason};
 use am_config::{Config, Path};
 use am_report_texts::{gap_before, plural, push_label_set, push_matchers, push_path, push_quoted};
 use am_universe::Universe;

@@ -1,6 +1,6 @@
 pub mod FirstsLemmas
 pub mod FirstSteps
-pub mod WayFates
+pub mod WayReceivers
 pub mod StepLemmas
 pub mod WalkLemmas
 pub mod WaysFound

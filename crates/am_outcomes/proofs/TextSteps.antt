@@ -15,7 +15,7 @@ use Rattle.am_labels.specs.Space.{Space, all_choices, is_possible_choice}
 use Rattle.am_config.specs.ConfigFile.{Configuration}
 use Rattle.am_search.proofs.ChoiceOrder.{in_filter}
 use Rattle.am_report_texts.specs.Separated.{texts_behind}
-use Rattle.am_outcomes.specs.Outcomes.{same_fate, with_fate, outcomes_of}
+use Rattle.am_outcomes.specs.Outcomes.{have_same_receivers, with_receivers, outcomes_of}
 use Rattle.am_outcomes.specs.OutcomeText.{names_of, same_names, is_change}
 use Rattle.am_outcomes.specs.OutcomeText.{changes_of, change_line}
 use Rattle.am_outcomes.proofs.FirstsLemmas.{first_is_one}
@@ -27,10 +27,10 @@ pub whole_at : (s : Space) (cs : List Configuration) (outcomes : List (List (Lis
     (i : ℕ) (outcome : List (List ℕ) × List ℕ) → outcomes ≡ outcomes_of s cs
     → slice_get outcomes i ≡ Some outcome → IsWhole (sizes s.labels) outcome.1
 whole_at s cs outcomes i outcome are at =
-    let all = map (with_fate s cs) (all_choices s) in
+    let all = map (with_receivers s cs) (all_choices s) in
     let there = in_at (outcomes_of s cs) i outcome (ap (λ os. slice_get os i) (sym are) ∙ at) in
-    let from = IsIn-unmap (with_fate s cs) (all_choices s) outcome
-    (first_is_one same_fate all outcome there) in
+    let from = IsIn-unmap (with_receivers s cs) (all_choices s) outcome
+    (first_is_one have_same_receivers all outcome there) in
     let kept = in_filter (is_possible_choice s) (choices (sizes s.labels)) from.0 from.1 in
     subst (λ (o : List (List ℕ) × List ℕ). IsWhole (sizes s.labels) o.1) from.2
     (whole_from_in (sizes s.labels) from.0 kept.0)

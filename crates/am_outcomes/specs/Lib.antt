@@ -4,4 +4,4 @@ pub mod RouteSteps
 pub mod Walks
 pub mod FirstsOfWays
 pub mod OutcomeText
-pub mod FatesView
+pub mod ReceiversView

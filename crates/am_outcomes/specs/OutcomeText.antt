@@ -12,7 +12,7 @@ use Rattle.am_report_texts.specs.Separated.{texts_behind}
 
 -- The receivers of an outcome under the configuration at a position, and their names.
 abbrev pub under : ℕ → List (List ℕ) → List ℕ
-under i fates = unwrap_or (slice_get fates i) []
+under i lists = unwrap_or (slice_get lists i) []
 
 abbrev pub name_of : Configuration → ℕ → List ℕ
 name_of c receiver = unwrap_or (slice_get c.receivers receiver) []

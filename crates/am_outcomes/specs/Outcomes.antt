@@ -13,12 +13,12 @@ use Rattle.am_eval.specs.Routing.{receivers}
 -- Source: Alertmanager configuration reference 0.25, "<route>": `receiver`.
 -- Example: let there be one configuration. If an alert ends at two routes, and both routes have the
 -- receiver at position 2, it is the one list of 2 and 2.
-abbrev pub fate : List Configuration → LabelMap → List (List ℕ)
-fate cs set = map (λ c. receivers set c) cs
+abbrev pub receivers_under : List Configuration → LabelMap → List (List ℕ)
+receivers_under cs set = map (λ c. receivers set c) cs
 
 -- The receivers are the same under each configuration, in the same order.
-abbrev pub same_fate : List (List ℕ) → List (List ℕ) → Bool
-same_fate fates others = pointwise same_text fates others
+abbrev pub have_same_receivers : List (List ℕ) → List (List ℕ) → Bool
+have_same_receivers lists others = pointwise same_text lists others
 
 -- A list of items, each behind a key. `with_first` adds one more at the end, unless its key is
 -- there already. `firsts` keeps only the first item with each key, in the same order.
@@ -38,8 +38,8 @@ module _ {K A : Type 0} (same : K → K → Bool) where
 -- Example: let `team` be `db` or absent, and let alerts of the team `db` go to the receiver at
 -- position 1, and others to the one at position 0. Then the outcomes are 1 with the choice 0, and 0
 -- with the choice 1.
-abbrev pub with_fate : Space → List Configuration → List ℕ → List (List ℕ) × List ℕ
-with_fate s cs choice = (fate cs (label_set_of s.labels choice), choice)
+abbrev pub with_receivers : Space → List Configuration → List ℕ → List (List ℕ) × List ℕ
+with_receivers s cs choice = (receivers_under cs (label_set_of s.labels choice), choice)
 
 abbrev pub outcomes_of : Space → List Configuration → List (List (List ℕ) × List ℕ)
-outcomes_of s cs = firsts same_fate (map (with_fate s cs) (all_choices s))
+outcomes_of s cs = firsts have_same_receivers (map (with_receivers s cs) (all_choices s))

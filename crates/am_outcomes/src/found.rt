@@ -8,9 +8,9 @@
 ghost use Rattle.std.specs.Prelude.{◌≡◌, ◌<◌, [], Some, length, slice_get, IfOk, IfSome, IfNone};
 ghost use Rattle.std.specs.List.Sorted.{IsSortedBy};
 ghost use Rattle.am_search.specs.Start.{comes_before};
-ghost use Rattle.am_outcomes.specs.FatesView.{configs_view, fates_view};
+ghost use Rattle.am_outcomes.specs.ReceiversView.{configs_view, receivers_view};
 ghost use Rattle.am_outcomes.specs.FirstsOfWays.{AreFirstsOfWays};
-ghost use Rattle.am_outcomes.specs.Outcomes.{fate, outcomes_of};
+ghost use Rattle.am_outcomes.specs.Outcomes.{receivers_under, outcomes_of};
 ghost use Rattle.am_outcomes.specs.Ways.{HaveManyWays};
 
 use crate::ways::firsts_of_ways;
@@ -31,7 +31,7 @@ pub struct Outcomes {
 
 impl Model for Outcomes {
     ghost use Rattle.std.specs.Prelude.{List, ℕ, map};
-    ghost use Rattle.am_outcomes.specs.FatesView.{entry_view};
+    ghost use Rattle.am_outcomes.specs.ReceiversView.{entry_view};
 
     ghost Value = { List (List (List ℕ) × List ℕ) };
 
@@ -51,10 +51,10 @@ impl Outcomes {
     /// [`Outcomes::len`].
     pub fn get(&self, i: usize) -> (&[Vec<usize>], &Choice)
         requires { i < length self.now }
-        ensures outcome { slice_get self.now i ≡ Some (fates_view result.0.now, result.1.now) }
+        ensures outcome { slice_get self.now i ≡ Some (receivers_view result.0.now, result.1.now) }
     {
         match self.firsts.get_index(i) {
-            Some((fates, first)) => (fates.as_slice(), first),
+            Some((receivers, first)) => (receivers.as_slice(), first),
             None => unreachable!(),
         }
     }
@@ -96,26 +96,26 @@ fn outcomes_in(
     let mut firsts = IndexMap::new(alloc);
     for choice in choices {
         let set = set_of(alloc, space.universe(), choice)?;
-        let fate = fate_of(alloc, configs, &set)?;
-        if !firsts.contains_key(&fate) {
-            firsts.insert(fate, *choice)?;
+        let receivers = receivers_under(alloc, configs, &set)?;
+        if !firsts.contains_key(&receivers) {
+            firsts.insert(receivers, *choice)?;
         }
     }
     Ok(Outcomes { firsts })
 }
 
 /// Returns the receivers of a label set under each configuration.
-fn fate_of(
+fn receivers_under(
     alloc: Global,
     configs: &[&Config],
     set: &LabelSet,
 ) -> Result<Vec<Vec<usize>>, AllocError>
-    ensures { IfOk result (λ fates.
-        fates_view fates.items ≡ fate (configs_view configs.now) set.now) }
+    ensures { IfOk result (λ lists.
+        receivers_view lists.items ≡ receivers_under (configs_view configs.now) set.now) }
 {
-    let mut fates = Vec::with_capacity(alloc, configs.len())?;
+    let mut lists = Vec::with_capacity(alloc, configs.len())?;
     for config in configs {
-        fates.push(receivers_of(alloc, config, set)?)?;
+        lists.push(receivers_of(alloc, config, set)?)?;
     }
-    Ok(fates)
+    Ok(lists)
 }

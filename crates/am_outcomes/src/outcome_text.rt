@@ -5,7 +5,7 @@ ghost use Rattle.am_universe.specs.Universe.{sizes};
 ghost use Rattle.am_universe.specs.Choice.{IsWhole};
 ghost use Rattle.am_labels.specs.Space.{Space};
 ghost use Rattle.am_config.specs.ConfigView.{config_view};
-ghost use Rattle.am_outcomes.specs.FatesView.{fates_view};
+ghost use Rattle.am_outcomes.specs.ReceiversView.{receivers_view};
 ghost use Rattle.am_outcomes.specs.Outcomes.{outcomes_of};
 ghost use Rattle.am_outcomes.specs.OutcomeText.{outcomes_text, changes_text, changes_of};
 ghost use Rattle.am_outcomes.specs.OutcomeText.{names_text, names_of, name_of, same_names, under};
@@ -33,8 +33,8 @@ pub fn outcomes_text(
 {
     let mut text = String::new(alloc);
     for i in 0..outcomes.len() {
-        let (fates, first) = outcomes.get(i);
-        push_names(&mut text, config, receivers_under(fates, 0))?;
+        let (lists, first) = outcomes.get(i);
+        push_names(&mut text, config, under(lists, 0))?;
         push_first(&mut text, universe, first)?;
     }
     text.push_str("# end\n")?;
@@ -69,8 +69,8 @@ pub fn changes_text(
     let mut text = String::new(alloc);
     let mut count = 0;
     for i in 0..outcomes.len() {
-        let (fates, first) = outcomes.get(i);
-        let (before, after) = (receivers_under(fates, 0), receivers_under(fates, 1));
+        let (lists, first) = outcomes.get(i);
+        let (before, after) = (under(lists, 0), under(lists, 1));
         if !have_same_names(old, before, new, after) {
             push_change(&mut text, old, before, new, after)?;
             push_first(&mut text, universe, first)?;
@@ -83,10 +83,10 @@ pub fn changes_text(
 
 /// The receivers of an outcome under the configuration at a position, or none if there is no such
 /// configuration.
-fn receivers_under(fates: &[Vec<usize>], i: usize) -> &[usize]
-    ensures { result.now ≡ under i (fates_view fates.now) }
+fn under(lists: &[Vec<usize>], i: usize) -> &[usize]
+    ensures { result.now ≡ under i (receivers_view lists.now) }
 {
-    match fates.get(i) {
+    match lists.get(i) {
         Some(receivers) => receivers.as_slice(),
         None => &[],
     }

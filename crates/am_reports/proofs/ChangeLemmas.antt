@@ -16,12 +16,12 @@ use Rattle.am_config.specs.ConfigFile.{Configuration}
 use Rattle.am_eval.specs.Routing.{receivers}
 use Rattle.am_classes.specs.declared.alphabet.Alphabet.{Alphabet}
 use Rattle.am_every_alert.specs.EveryAlert.{IsAlertOf}
-use Rattle.am_outcomes.specs.Outcomes.{fate, same_fate}
+use Rattle.am_outcomes.specs.Outcomes.{receivers_under, have_same_receivers}
 use Rattle.am_outcomes.specs.OutcomeText.{under, names_of, same_names, is_change, changes_of}
 use Rattle.am_outcomes.specs.OutcomeText.{changes_text}
 use Rattle.am_outcomes.proofs.FirstsLemmas.{Decides}
 use Rattle.am_reports.specs.Configurations.{Pair}
-use Rattle.am_reports.specs.AllOutcomes.{AreAllOutcomes, IsOutcome, fates}
+use Rattle.am_reports.specs.AllOutcomes.{AreAllOutcomes, IsOutcome, receivers_of_outcomes}
 use Rattle.am_reports.specs.Comparing.{GoesTheSameWay, IsChange, IsComparison}
 use Rattle.am_reports.proofs.KeptItems.{distinct_kept, without_items}
 
@@ -39,14 +39,14 @@ module _ (a : Alphabet) (s : Space) (old new : Configuration) (u : List Label)
     (outcomes : List (List (List ℕ) × List ℕ))
     (are : AreAllOutcomes a s (Pair old new) u outcomes) where
   abbrev both : LabelMap → List (List ℕ)
-  both set = fate (old ∷ new ∷ []) set
+  both set = receivers_under (old ∷ new ∷ []) set
 
   abbrev changes : List (List (List ℕ) × List ℕ)
   changes = changes_of old new outcomes
 
-  -- the names of the receivers of an outcome are those of each alert that has its fate
+  -- the names of the receivers of an outcome are those of each alert that has its receivers
   abbrev is_same : List (List ℕ) → Bool
-  is_same fates = same_names (names_of old (under 0 fates)) (names_of new (under 1 fates))
+  is_same lists = same_names (names_of old (under 0 lists)) (names_of new (under 1 lists))
 
   differs : (set : LabelMap) (found : List (List ℕ)) → both set ≡ found
       → not (is_same found) ≡ true → GoesTheSameWay old new set → ⊥
@@ -76,22 +76,22 @@ module _ (a : Alphabet) (s : Space) (old new : Configuration) (u : List Label)
       )
 
   abbrev IsTold : LabelMap → Type 0
-  IsTold alert = GoesTheSameWay old new alert ⊎ Contains (fates changes) (both alert)
+  IsTold alert = GoesTheSameWay old new alert ⊎ Contains (receivers_of_outcomes changes) (both alert)
 
   by_test : (alert : LabelMap) (outcome : List (List ℕ) × List ℕ) → IsIn outcomes outcome
       → outcome.0 ≡ both alert → IsTold alert
   by_test alert outcome there has = elim (cases_Bool (is_change old new outcome)) [
     | inl change ↦
         let kept = kept_from_passes (is_change old new) outcomes outcome there change in
-        let told = Contains-from_IsIn (fates changes) outcome.0
+        let told = Contains-from_IsIn (receivers_of_outcomes changes) outcome.0
         (IsIn-map (λ o. o.0) changes outcome kept) in
-        inr (subst (Contains (fates changes)) has told)
+        inr (subst (Contains (receivers_of_outcomes changes)) has told)
     | inr no_change ↦ inl (goes_the_same alert outcome.0 (sym has) no_change)
   ]
 
   is_told : (alert : LabelMap) → IsAlertOf a s alert → IsTold alert
   is_told alert counts =
-      let there = IsIn-from_Contains (fates outcomes) (both alert) (are.all alert counts) in
+      let there = IsIn-from_Contains (receivers_of_outcomes outcomes) (both alert) (are.all alert counts) in
       let outcome = IsIn-unmap (λ o. o.0) outcomes (both alert) there in
       by_test alert outcome.0 outcome.1 outcome.2
 
@@ -102,7 +102,7 @@ module _ (a : Alphabet) (s : Space) (old new : Configuration) (u : List Label)
   none_told none alert counts = elim (is_told alert counts) [
     | inl same ↦ same
     | inr told ↦
-        let there = IsIn-from_Contains (fates changes) (both alert) told in
+        let there = IsIn-from_Contains (receivers_of_outcomes changes) (both alert) told in
         let change = IsIn-unmap (λ o. o.0) changes (both alert) there in
         let never : IsIn [] change.0 =
         subst (λ (cs : List (List (List ℕ) × List ℕ)). IsIn cs change.0)
@@ -124,7 +124,7 @@ module _ (a : Alphabet) (s : Space) (old new : Configuration) (u : List Label)
     are = are;
     each = AllByRecursion-each (IsChange a s u old new) changes is_so;
     all = is_told;
-    once = distinct_kept same_fate (λ o. o.0) (is_change old new) outcomes are.once;
+    once = distinct_kept have_same_receivers (λ o. o.0) (is_change old new) outcomes are.once;
     none = (λ none. none_told (sym counted ∙ none), λ same. counted ∙ none_there same);
     counted = counted;
     text = text;

@@ -13,24 +13,24 @@ use Rattle.am_classes.specs.declared.alphabet.Alphabet.{Alphabet}
 use Rattle.am_asked.specs.Asked.{route_matchers}
 use Rattle.am_every_alert.specs.EveryAlert.{IsAlertOf, MeetsTheSame}
 use Rattle.am_every_alert.proofs.SpaceAlerts.{choice_of_alert, alert_of_set}
-use Rattle.am_every_alert.proofs.SameFate.{front_met, rest_met, same_receivers}
-use Rattle.am_outcomes.specs.Outcomes.{fate, same_fate, with_fate, outcomes_of}
+use Rattle.am_every_alert.proofs.TreatedAlike.{front_met, rest_met, same_receivers}
+use Rattle.am_outcomes.specs.Outcomes.{receivers_under, have_same_receivers, with_receivers, outcomes_of}
 use Rattle.am_outcomes.proofs.FirstsLemmas.{Decides, first_is_one, first_of_key, firsts_apart}
 use Rattle.am_reports.specs.Configurations.{Configurations, One, Pair, each_of}
 use Rattle.am_every_alert.specs.Deciding.{space_of}
 use Rattle.am_reports.specs.Configurations.{matchers_of_routes}
 use Rattle.am_reports.specs.Made.{StandsForAll}
-use Rattle.am_reports.specs.AllOutcomes.{AreAllOutcomes, IsOutcome, fates}
+use Rattle.am_reports.specs.AllOutcomes.{AreAllOutcomes, IsOutcome, receivers_of_outcomes}
 
-fate_decides : Decides same_fate
-fate_decides = pointwise_decides bytes_decides
+receivers_decide : Decides have_same_receivers
+receivers_decide = pointwise_decides bytes_decides
 
--- what meets the same of the matchers of the routes has the same fate
-fate_met : (k : Configurations) (set alert : LabelMap)
+-- what meets the same of the matchers of the routes has the same receivers
+receivers_met : (k : Configurations) (set alert : LabelMap)
     → MeetsTheSame (matchers_of_routes k) set alert
-    → fate (each_of k) set ≡ fate (each_of k) alert
-fate_met (One c) set alert met = λ i. same_receivers set alert c met i ∷ []
-fate_met (Pair old new) set alert met =
+    → receivers_under (each_of k) set ≡ receivers_under (each_of k) alert
+receivers_met (One c) set alert met = λ i. same_receivers set alert c met i ∷ []
+receivers_met (Pair old new) set alert met =
     let before = route_matchers old.root in
     let after = route_matchers new.root in
     let first = same_receivers set alert old (front_met set alert before after met) in
@@ -42,8 +42,8 @@ module _ (a : Alphabet) (s : Space) (k : Configurations) (u : List Label)
   abbrev made : Space
   made = space_of s.impossible u
 
-  abbrev with_fates : List (List (List ℕ) × List ℕ)
-  with_fates = map (with_fate made (each_of k)) (all_choices made)
+  abbrev all_with_receivers : List (List (List ℕ) × List ℕ)
+  all_with_receivers = map (with_receivers made (each_of k)) (all_choices made)
 
   choice_counts : (choice : List ℕ) → IsIn (all_choices made) choice
       → IsAlertOf a s (label_set_of u choice)
@@ -54,33 +54,33 @@ module _ (a : Alphabet) (s : Space) (k : Configurations) (u : List Label)
   is_outcome : (outcome : List (List ℕ) × List ℕ) → IsIn (outcomes_of made (each_of k)) outcome
       → IsOutcome a s u (each_of k) outcome
   is_outcome outcome there =
-      let from = IsIn-unmap (with_fate made (each_of k)) (all_choices made) outcome
-      (first_is_one same_fate with_fates outcome there) in
+      let from = IsIn-unmap (with_receivers made (each_of k)) (all_choices made) outcome
+      (first_is_one have_same_receivers all_with_receivers outcome there) in
       subst (IsOutcome a s u (each_of k)) from.2 (choice_counts from.0 from.1, refl)
 
   choice_of : (alert : LabelMap) → IsAlertOf a s alert
       → (choice : List ℕ) × IsIn (all_choices made) choice
-      × (fate (each_of k) (label_set_of u choice) ≡ fate (each_of k) alert)
+      × (receivers_under (each_of k) (label_set_of u choice) ≡ receivers_under (each_of k) alert)
   choice_of alert counts =
       let r = choice_of_alert a made (matchers_of_routes k) alert
       stands.stands.universe stands.stands.complete counts in (
         r.0,
         IsIn-from_Contains (all_choices made) r.0 ((space_choices made r.0).1 r.1),
-        fate_met k (label_set_of u r.0) alert r.2,
+        receivers_met k (label_set_of u r.0) alert r.2,
       )
 
-  has_fate : (alert : LabelMap) → IsAlertOf a s alert
-      → Contains (fates (outcomes_of made (each_of k))) (fate (each_of k) alert)
-  has_fate alert counts =
+  has_outcome : (alert : LabelMap) → IsAlertOf a s alert
+      → Contains (receivers_of_outcomes (outcomes_of made (each_of k))) (receivers_under (each_of k) alert)
+  has_outcome alert counts =
       let outcomes = outcomes_of made (each_of k) in
       let choice = choice_of alert counts in
-      let one = with_fate made (each_of k) choice.0 in
-      let there : IsIn with_fates one =
-      IsIn-map (with_fate made (each_of k)) (all_choices made) choice.0 choice.1 in
-      let first = first_of_key same_fate fate_decides with_fates one there in
-      let same : first.0.0 ≡ fate (each_of k) alert = first.2 ∙ choice.2 in
-      subst (Contains (fates outcomes)) same
-      (Contains-from_IsIn (fates outcomes) first.0.0
+      let one = with_receivers made (each_of k) choice.0 in
+      let there : IsIn all_with_receivers one =
+      IsIn-map (with_receivers made (each_of k)) (all_choices made) choice.0 choice.1 in
+      let first = first_of_key have_same_receivers receivers_decide all_with_receivers one there in
+      let same : first.0.0 ≡ receivers_under (each_of k) alert = first.2 ∙ choice.2 in
+      subst (Contains (receivers_of_outcomes outcomes)) same
+      (Contains-from_IsIn (receivers_of_outcomes outcomes) first.0.0
       (IsIn-map (λ outcome. outcome.0) outcomes first.0 first.1))
 
   pub outcomes_are : (outcomes : List (List (List ℕ) × List ℕ))
@@ -91,7 +91,7 @@ module _ (a : Alphabet) (s : Space) (k : Configurations) (u : List Label)
         order = refl;
         each = AllByRecursion-each (IsOutcome a s u (each_of k))
             (outcomes_of made (each_of k)) is_outcome;
-        all = has_fate;
-        once = firsts_apart same_fate fate_decides with_fates;
+        all = has_outcome;
+        once = firsts_apart have_same_receivers receivers_decide all_with_receivers;
       } in
       subst (AreAllOutcomes a s k u) (sym order) all

@@ -11,7 +11,7 @@ use Rattle.am_files.specs.Promise.{Promise}
 use Rattle.am_eval.specs.Routing.{receivers}
 use Rattle.am_classes.specs.declared.alphabet.Alphabet.{Alphabet}
 use Rattle.am_every_alert.specs.EveryAlert.{IsAlertOf}
-use Rattle.am_outcomes.specs.Outcomes.{fate, same_fate}
+use Rattle.am_outcomes.specs.Outcomes.{receivers_under, have_same_receivers}
 use Rattle.am_outcomes.specs.OutcomeText.{names_of, changes_of, changes_text}
 use Rattle.am_reports.specs.Configurations.{Pair}
 use Rattle.am_universe_command.specs.Universes.{later_stages}
@@ -19,7 +19,7 @@ use Rattle.am_reports.specs.CompareInputs.{CompareInputs, AcceptsCompareInputs}
 use Rattle.am_reports.specs.CompareInputs.{compare_input_stages}
 use Rattle.am_reports.specs.LaterStages.{IsOutcomesRefusal}
 use Rattle.am_reports.specs.Made.{AreDeclaredWhole}
-use Rattle.am_reports.specs.AllOutcomes.{AreAllOutcomes, fates}
+use Rattle.am_reports.specs.AllOutcomes.{AreAllOutcomes, receivers_of_outcomes}
 
 -- An alert goes to receivers of the same names under both configurations.
 -- Source: own choice.
@@ -36,14 +36,14 @@ abbrev pub IsChange : Alphabet → Space → List Label → Configuration → Co
     → List (List ℕ) × List ℕ → Type 0
 IsChange a s u old new change =
     IsAlertOf a s (label_set_of u change.1)
-    × (fate (old ∷ new ∷ []) (label_set_of u change.1) ≡ change.0)
+    × (receivers_under (old ∷ new ∷ []) (label_set_of u change.1) ≡ change.0)
     × (GoesTheSameWay old new (label_set_of u change.1) → ⊥)
 
 -- The text is a comparison of two configurations, for the alerts of a space over an alphabet: a
 -- line for each outcome that is a change, and the number of changes. What is shown for each change
--- is true. Each alert that counts goes to receivers of the same names under both
--- configurations, or has the fate of one of the changes. No two changes have the same fate. There
--- is no change exactly if every alert that counts goes to receivers of the same names under both.
+-- is true. Each alert that counts goes to receivers of the same names under both configurations, or
+-- has the receivers of one of the changes. No two changes have the same receivers. There is no
+-- change exactly if every alert that counts goes to receivers of the same names under both.
 -- Source: own choice.
 -- Example: `"db-mail" -> "web-pager" {team="web"}` says that `{team="web"}` goes to `db-mail` under
 -- the old configuration, and to `web-pager` under the new one.
@@ -55,8 +55,9 @@ pub record IsComparison (a : Alphabet) (s : Space) (old new : Configuration) (ch
   pub each : AllByRecursion (IsChange a s labels old new) (changes_of old new outcomes)
   pub all : (alert : LabelMap) → IsAlertOf a s alert
       → GoesTheSameWay old new alert
-      ⊎ Contains (fates (changes_of old new outcomes)) (fate (old ∷ new ∷ []) alert)
-  pub once : IsDistinct same_fate (fates (changes_of old new outcomes))
+      ⊎ Contains (receivers_of_outcomes (changes_of old new outcomes))
+      (receivers_under (old ∷ new ∷ []) alert)
+  pub once : IsDistinct have_same_receivers (receivers_of_outcomes (changes_of old new outcomes))
   pub none : (changes ≡ 0)
       ↔ ((alert : LabelMap) → IsAlertOf a s alert → GoesTheSameWay old new alert)
   pub counted : changes ≡ length (changes_of old new outcomes)

@@ -15,7 +15,7 @@ use Rattle.am_report_texts.proofs.PieceSteps.{item_here}
 use Rattle.am_lint.specs.declared.found.FoundRoute.{FoundRoute}
 use Rattle.am_lint.specs.declared.table.TableRoute.{TableRoute}
 use Rattle.am_lint.specs.FoundView.{IsFoundIn}
-use Rattle.am_lint.specs.Standing.{IsStanding}
+use Rattle.am_lint.specs.Arrival.{IsArrival}
 use Rattle.am_lint.specs.Table.{IsTabled, IsTableOf, table_space, table_config}
 use Rattle.am_lint.proofs.TableLemmas.{its_route}
 use Rattle.am_lint.proofs.finding.found_routes.Goals as goal
@@ -30,12 +30,12 @@ next c =
     ∙ item_here c.deref-route-items.result.now c.loop-route.route-index c.route-item.result
     c.loop-route-test.true c.route-item.is
 
-pub standing_of-requires-clause-there : goal.standing_of-requires-clause-there
-standing_of-requires-clause-there c =
+pub arrival_of-requires-clause-there : goal.arrival_of-requires-clause-there
+arrival_of-requires-clause-there c =
     let table = c.in_ok-table.table in
     let own = its_route (table_space table).labels (table_config table) table.routes.items
     c.in_ok-table.ensures.knows c.loop-route.route-index c.route-item.result
-    (next (goal.at.standing_of-requires-clause-there c).After-route-item) in
+    (next (goal.at.arrival_of-requires-clause-there c).After-route-item) in
     (own.0.1, ap (route_at (table_config table).root) own.2.0 ∙ own.1)
 
 pub loop-route-preserved : goal.loop-route-preserved
@@ -54,16 +54,16 @@ loop-route-preserved c =
     let found : FoundRoute = record {
       path = route.path;
       receiver = route.receiver;
-      ordinary = c.in_ok-standing_of.field-0;
+      ordinary = c.in_ok-arrival_of.field-0;
       every = None;
     } in
     let is : IsFoundIn s config own.0 found = (
       own.2.0,
       own.2.3,
-      subst (λ (q : List ℕ). IsStanding s.labels (IsSetOf s) config q c.in_ok-standing_of.field-0)
+      subst (λ (q : List ℕ). IsArrival s.labels (IsSetOf s) config q c.in_ok-arrival_of.field-0)
           own.2.0
           (rw (c.in_ok-table.ensures.space, c.in_ok-table.ensures.config)
-          at c.in_ok-standing_of.ensures.standing),
+          at c.in_ok-arrival_of.ensures.arrival),
     ) in
     record {
       found = subst (AllZip (IsFoundIn s config) (take (i + 1) all))

@@ -1,10 +1,10 @@
 use Rattle.std.proofs.Common.{[], sym, ap, ◌∙◌, arith}
 use Rattle.std.proofs.lemmas.List.{take_all}
 use Rattle.am_universe.specs.LabelSet.{label_set_of}
-use Rattle.am_outcomes.specs.FatesView.{configs_view}
-use Rattle.am_outcomes.specs.Outcomes.{fate}
+use Rattle.am_outcomes.specs.ReceiversView.{configs_view}
+use Rattle.am_outcomes.specs.Outcomes.{receivers_under}
 use Rattle.am_outcomes.proofs.Gathered.{one_outcome_more, outcomes_after, outcomes_are}
-use Rattle.am_outcomes.proofs.Gathered.{there_already, same_fates_kept}
+use Rattle.am_outcomes.proofs.Gathered.{there_already, same_receivers_kept}
 use Rattle.am_outcomes.proofs.FirstSteps.{added, looked_up}
 use Rattle.am_outcomes.proofs.found.outcomes_in.Goals as goal
 use Rattle.am_outcomes.proofs.found.outcomes_in.Goals.{then-not-contains_key+in_ok-insert}
@@ -16,21 +16,21 @@ loop-choice-preserved c =
     let cs = configs_view c.args.configs.now in
     let choice = c.choice-item.result in
     one_outcome_more s cs c.args.choices.now c.loop-choice.choice-index choice
-    c.loop-choice.firsts.entries c.if-not-contains_key.firsts.entries c.in_ok-fate.fate
+    c.loop-choice.firsts.entries c.if-not-contains_key.firsts.entries c.in_ok-receivers.receivers
     c.loop-choice-test.true c.choice-item.is c.loop-choice.invariant
-    (c.in_ok-fate.ensures ∙ ap (fate cs) (c.in_ok-set.ensures.set
+    (c.in_ok-receivers.ensures ∙ ap (receivers_under cs) (c.in_ok-set.ensures.set
     ∙ ap (λ u. label_set_of u choice) c.universe.ensures.labels))
     (elim c.if-not-contains_key.branch [
       | then-not-contains_key+in_ok-insert w ↦
           ap (λ m. m.entries) w.firsts-is ∙ w.in_ok-insert.ensures.entries
-          ∙ added same_fates_kept c.loop-choice.firsts c.in_ok-fate.fate choice
-          (sym (c.contains_key.ensures ∙ looked_up same_fates_kept c.loop-choice.firsts.entries
-          c.in_ok-fate.fate) ∙ w.if-not-contains_key.true)
+          ∙ added same_receivers_kept c.loop-choice.firsts c.in_ok-receivers.receivers choice
+          (sym (c.contains_key.ensures ∙ looked_up same_receivers_kept c.loop-choice.firsts.entries
+          c.in_ok-receivers.receivers) ∙ w.if-not-contains_key.true)
       | else-not-contains_key w ↦
           ap (λ m. m.entries) w.firsts-is
-          ∙ there_already c.loop-choice.firsts.entries (c.in_ok-fate.fate, choice)
-          (sym (c.contains_key.ensures ∙ looked_up same_fates_kept c.loop-choice.firsts.entries
-          c.in_ok-fate.fate) ∙ w.if-not-contains_key.false)
+          ∙ there_already c.loop-choice.firsts.entries (c.in_ok-receivers.receivers, choice)
+          (sym (c.contains_key.ensures ∙ looked_up same_receivers_kept c.loop-choice.firsts.entries
+          c.in_ok-receivers.receivers) ∙ w.if-not-contains_key.false)
     ])
 
 pub returns : goal.returns

@@ -1,5 +1,5 @@
 use Rattle.std.proofs.Common.{◌≡◌, [], map, take}
-use Rattle.am_outcomes.specs.FatesView.{configs_view, entry_view}
+use Rattle.am_outcomes.specs.ReceiversView.{configs_view, entry_view}
 use Rattle.am_outcomes.proofs.Gathered.{outcomes_after}
 use Rattle.am_outcomes.proofs.found.outcomes_in.Given as goal
 

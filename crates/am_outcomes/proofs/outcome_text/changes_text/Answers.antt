@@ -6,7 +6,7 @@ use Rattle.std.proofs.lemmas.List.{take_all}
 use Rattle.am_universe.specs.Universe.{Label, sizes}
 use Rattle.am_universe.specs.Choice.{IsWhole}
 use Rattle.am_config.specs.ConfigView.{config_view}
-use Rattle.am_outcomes.specs.FatesView.{fates_view}
+use Rattle.am_outcomes.specs.ReceiversView.{receivers_view}
 use Rattle.am_outcomes.specs.OutcomeText.{change_line, change_text, changes_of, names_of}
 use Rattle.am_outcomes.specs.OutcomeText.{same_names, first_text, count_text}
 use Rattle.am_outcomes.specs.OutcomeText.{is_change}
@@ -20,7 +20,7 @@ pub push_first-requires : goal.push_first-requires
 push_first-requires c =
     subst (λ (u : List Label). IsWhole (sizes u) c.get.result.1.now) c.requires.1
     (whole_at c.requires.0 (config_view c.args.old.now ∷ config_view c.args.new.now ∷ [])
-    c.args.outcomes.now c.loop-i.i (fates_view c.get.result.0.now, c.get.result.1.now)
+    c.args.outcomes.now c.loop-i.i (receivers_view c.get.result.0.now, c.get.result.1.now)
     c.requires.2 c.get.ensures.outcome)
 
 pub loop-i-preserved : goal.loop-i-preserved
@@ -29,11 +29,11 @@ loop-i-preserved c =
     let new = config_view c.args.new.now in
     let u = c.args.universe.now in
     let outcomes = c.args.outcomes.now in
-    let outcome : List (List ℕ) × List ℕ = (fates_view c.get.result.0.now, c.get.result.1.now) in
+    let outcome : List (List ℕ) × List ℕ = (receivers_view c.get.result.0.now, c.get.result.1.now) in
     let start = string_bytes c.loop-i.text in
     let i = c.loop-i.i in
-    let before = c.receivers_under-before.ensures in
-    let after = c.receivers_under-after.ensures in
+    let before = c.under-before.ensures in
+    let after = c.under-after.ensures in
     -- the comparison of the names says whether it is a change
     let tells : is_change old new outcome ≡ not c.have_same_names.result =
     (λ i. not (same_names (names_of old (sym before i)) (names_of new (sym after i))))
@@ -43,8 +43,8 @@ loop-i-preserved c =
           let line : string_bytes w.push_first.new.text ≡ start ++ change_line u old new outcome =
           w.in_ok-push_first.ensures
           ∙ ap (λ l. l ++ first_text u outcome.1) w.in_ok-push_change.ensures
-          ∙ append_assoc start (change_text (names_of old c.receivers_under-before.result.now)
-          (names_of new c.receivers_under-after.result.now)) (first_text u outcome.1)
+          ∙ append_assoc start (change_text (names_of old c.under-before.result.now)
+          (names_of new c.under-after.result.now)) (first_text u outcome.1)
           ∙ (λ j. start ++ (change_text (names_of old (before j)) (names_of new (after j))
           ++ first_text u outcome.1)) in
           let more = change_more u old new outcomes i outcome start

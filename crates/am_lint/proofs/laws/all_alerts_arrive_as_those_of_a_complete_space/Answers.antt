@@ -1,11 +1,11 @@
-use Rattle.am_lint.proofs.Transfer.{standing_over, reason_over, handed_over}
-use Rattle.am_lint.proofs.laws.a_route_stands_over_all_alerts_as_over_a_complete_space.Goals as goal
+use Rattle.am_lint.proofs.Transfer.{arrival_over, reason_over, handed_over}
+use Rattle.am_lint.proofs.laws.all_alerts_arrive_as_those_of_a_complete_space.Goals as goal
 
 pub returns : goal.returns
 returns c = record {
-  standing = λ a s config path standing u texts complete.
-      standing_over a s config (record { universe = u; complete = complete; over = texts }) path
-      standing;
+  arrival = λ a s config path arrival u texts complete.
+      arrival_over a s config (record { universe = u; complete = complete; over = texts }) path
+      arrival;
   reason = λ a s config path cause routes u texts complete.
       reason_over a s config (record { universe = u; complete = complete; over = texts }) path cause
       routes;

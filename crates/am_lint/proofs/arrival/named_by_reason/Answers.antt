@@ -9,7 +9,7 @@ use Rattle.am_first_sets.proofs.ReasonLemmas.{reason_alike}
 use Rattle.am_first_sets.specs.declared.candidate.Candidate.{Candidate}
 use Rattle.am_lint.specs.Literals.{named_paths}
 use Rattle.am_lint.specs.Table.{table_space}
-use Rattle.am_lint.proofs.standing.named_by_reason.Goals as goal
+use Rattle.am_lint.proofs.arrival.named_by_reason.Goals as goal
 
 left : (n : ℕ) (ks : List Candidate) → take (length ks - n) (drop n ks) ≡ drop n ks
 left n ks = take_all (length ks - n) (drop n ks) (omega (arith, length-drop n ks))

@@ -5,8 +5,8 @@ use Rattle.std.proofs.lemmas.Option.{slice_get_read}
 use Rattle.am_first_sets.specs.declared.candidate.Candidate.{Candidate}
 use Rattle.am_lint.specs.Literals.{path_of}
 use Rattle.am_lint.proofs.LiteralLemmas.{kept_more}
-use Rattle.am_lint.proofs.standing.named_routes.Goals as goal
-use Rattle.am_lint.proofs.standing.named_routes.Goals.{then-literal+in_ok-push, else-literal}
+use Rattle.am_lint.proofs.arrival.named_routes.Goals as goal
+use Rattle.am_lint.proofs.arrival.named_routes.Goals.{then-literal+in_ok-push, else-literal}
 
 pub loop-literal-preserved : goal.loop-literal-preserved
 loop-literal-preserved c =

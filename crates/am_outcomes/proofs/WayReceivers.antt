@@ -1,4 +1,4 @@
--- Alerts that go the same way have the same fate.
+-- Alerts that go the same way have the same receivers.
 use Rattle.std.proofs.Common.{◌≡◌, ℕ, ◌+◌, Bool, true, false, cond, List, [], ◌∷◌, ◌++◌, map}
 use Rattle.std.proofs.Common.{append_assoc, refl, ap, sym, ◌∙◌}
 use Rattle.std.specs.Prelude.{not, ◌&&◌}
@@ -9,7 +9,7 @@ use Rattle.am_config.specs.ConfigFile.{Configuration, RouteTree, Routes, route, 
 use Rattle.am_config.specs.ConfigFile.{next_route, matchers_of, continues_of}
 use Rattle.am_eval.specs.Routing.{Child, ends_at, children_seen, ends_tried, tried, or_own_path}
 use Rattle.am_eval.specs.Routing.{is_last, receiver_at}
-use Rattle.am_outcomes.specs.Outcomes.{fate}
+use Rattle.am_outcomes.specs.Outcomes.{receivers_under}
 use Rattle.am_outcomes.specs.Ways.{way_at, child_way, way}
 
 -- the ends at the children behind one, which may be the last that is tried
@@ -72,8 +72,8 @@ module _ (s z : LabelMap) where
         (continues_of t) x y one.0 (λ v w same. same_below ts v w same) one.1 in
         (later.0, λ i j. map (λ path. i ∷ path) (one.2 j) ++ later.1 (i + 1) j)
 
-  pub same_fates : (cs : List Configuration) → way s cs ≡ way z cs → fate cs s ≡ fate cs z
-  same_fates [] e = refl
-  same_fates (c ∷ cs) e =
+  pub same_lists : (cs : List Configuration) → way s cs ≡ way z cs → receivers_under cs s ≡ receivers_under cs z
+  same_lists [] e = refl
+  same_lists (c ∷ cs) e =
       let one = same_at c.root (way s cs) (way z cs) e in
-      let later = same_fates cs one.1 in λ j. filter_map (receiver_at c) (one.2 j) ∷ later j
+      let later = same_lists cs one.1 in λ j. filter_map (receiver_at c) (one.2 j) ∷ later j

@@ -2,9 +2,9 @@
 use Rattle.am_universe.specs.LabelSet.{label_set_of}
 use Rattle.am_lint.specs.Table.{table_space, table_config}
 use Rattle.am_lint.proofs.LiteralTruth.{seen, none_seen, none_met, all_named}
-use Rattle.am_lint.proofs.StandingSteps.{AreKnown, known_of}
-use Rattle.am_lint.proofs.standing.standing_of.Goals as goal
-use Rattle.am_lint.proofs.standing.standing_of.Goals.{After-as_mut_slice-all}
+use Rattle.am_lint.proofs.ArrivalSteps.{AreKnown, known_of}
+use Rattle.am_lint.proofs.arrival.arrival_of.Goals as goal
+use Rattle.am_lint.proofs.arrival.arrival_of.Goals.{After-as_mut_slice-all}
 
 -- what the literals say, and what the first of them say
 known : (c : After-as_mut_slice-all) → AreKnown (table_space c.args.table.now)
@@ -18,7 +18,7 @@ known c =
 
 pub returns-in-Some : goal.returns-in-Some
 returns-in-Some c = record {
-  standing = seen _ _ _ (known (goal.at.returns-in-Some c).After-as_mut_slice-all).ending _
+  arrival = seen _ _ _ (known (goal.at.returns-in-Some c).After-as_mut_slice-all).ending _
       c.in_ok-choice.ensures.first c.in-Some.choice c.in-Some.is;
 }
 
@@ -35,7 +35,7 @@ pub returns-in-Some-2 : goal.returns-in-Some-2
 returns-in-Some-2 c =
     let are = known (goal.at.returns-in-Some-2 c).After-as_mut_slice-all in
     record {
-      standing = (
+      arrival = (
         seen _ _ _ are.entering _ c.in_ok-entry.ensures.first c.in-Some-2.entry c.in-Some-2.is,
         none_seen _ _ _ are.ending _ c.in_ok-choice.ensures.first c.in_default.is,
         are.handed _ c.in_ok-children.ensures.reason,
@@ -57,7 +57,7 @@ returns-in-Some-3 c =
     let way = seen _ _ _ are.matching _ c.in_ok-first_meeting.ensures.first c.in-Some-3.field-0
     c.in-Some-3.is in
     record {
-      standing = (
+      arrival = (
         none_seen _ _ _ are.entering _ c.in_ok-entry.ensures.first c.in_default-2.is,
         are.taken _ c.in_ok-named_by_reason-in-Some-3.ensures.reason
             (label_set_of (table_space c.args.table.now).labels c.in-Some-3.field-0, way.1, way.2),
@@ -77,7 +77,7 @@ pub returns : goal.returns
 returns c =
     let are = known (goal.at.returns c).After-as_mut_slice-all in
     record {
-      standing = (
+      arrival = (
         none_seen _ _ _ are.entering _ c.in_ok-entry.ensures.first c.in_default-2.is,
         are.excluded _ c.in_ok-named_by_reason-in-None.ensures.reason,
       );

@@ -1,13 +1,13 @@
--- How a route stands, if only the label sets that occur count.
+-- How label sets arrive at a route, if only those that occur count.
 use Rattle.std.specs.Prelude.{ℕ, List}
 use Rattle.am_universe.specs.Universe.{Label, sizes}
 use Rattle.am_universe.specs.Choice.{IsWhole}
 use Rattle.am_universe.specs.LabelSet.{LabelMap, label_set_of}
 use Rattle.am_config.specs.ConfigFile.{Configuration}
-use Rattle.am_lint.specs.declared.standing.Cause.{Cause}
-use Rattle.am_lint.specs.declared.standing.Cause.TheVariants as cause_is
-use Rattle.am_lint.specs.declared.standing.Standing.{Standing}
-use Rattle.am_lint.specs.declared.standing.Standing.TheVariants as standing_is
+use Rattle.am_lint.specs.declared.arrival.Cause.{Cause}
+use Rattle.am_lint.specs.declared.arrival.Cause.TheVariants as cause_is
+use Rattle.am_lint.specs.declared.arrival.Arrival.{Arrival}
+use Rattle.am_lint.specs.declared.arrival.Arrival.TheVariants as arrival_is
 use Rattle.am_eval.specs.Reaching.{EndsAt, Enters, IsDead, IsNeverEntered}
 use Rattle.am_lint.specs.Reasons.{IsExcludedBy, IsTakenBy, IsHandedTo}
 
@@ -23,16 +23,16 @@ abbrev pub IsReasonFor :
 IsReasonFor Occurs c path cause_is.Excluded routes = IsExcludedBy Occurs c path routes
 IsReasonFor Occurs c path cause_is.Taken routes = IsTakenBy Occurs c path routes
 
--- How the route at a path stands. The label set of this choice ends there. Or that of the choice
--- `entry` enters the route, none ends there, and these children take all. Or none enters it, and
--- these routes are to blame.
+-- How label sets arrive at the route at a path. The label set of this choice ends there. Or that of
+-- the choice `entry` enters the route, none ends there, and these children take all. Or none enters
+-- it, and these routes are to blame.
 -- Source: own choice.
 -- Example: a route whose one child has no matchers hands on to that child.
-abbrev pub IsStanding :
-    List Label → (LabelMap → Type 0) → Configuration → List ℕ → Standing → Type 0
-IsStanding u Occurs c path (standing_is.Ends choice) = IsSeenBy u Occurs (EndsAt c path) choice
-IsStanding u Occurs c path (standing_is.HandsOn entry children) =
+abbrev pub IsArrival :
+    List Label → (LabelMap → Type 0) → Configuration → List ℕ → Arrival → Type 0
+IsArrival u Occurs c path (arrival_is.Ends choice) = IsSeenBy u Occurs (EndsAt c path) choice
+IsArrival u Occurs c path (arrival_is.HandsOn entry children) =
     IsSeenBy u Occurs (Enters c path) entry
     × IsDead Occurs c path × IsHandedTo Occurs c path children.items
-IsStanding u Occurs c path (standing_is.NeverEntered reason) =
+IsArrival u Occurs c path (arrival_is.NeverEntered reason) =
     IsNeverEntered Occurs c path × IsReasonFor Occurs c path reason.cause reason.routes.items

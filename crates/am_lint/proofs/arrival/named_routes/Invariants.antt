@@ -1,6 +1,6 @@
 use Rattle.std.proofs.Common.{◌≡◌, take}
 use Rattle.am_lint.specs.Literals.{named_paths}
-use Rattle.am_lint.proofs.standing.named_routes.Given as goal
+use Rattle.am_lint.proofs.arrival.named_routes.Given as goal
 
 -- the paths so far
 abbrev pub invariant-loop-literal : goal.invariant-loop-literal

@@ -1,4 +1,4 @@
--- Label sets that meet the same of the matchers that decide have the same fate.
+-- Label sets that meet the same of the matchers that decide are treated alike.
 use Rattle.std.proofs.Common.{◌≡◌, ℕ, ◌+◌, List, [], ◌∷◌, ◌++◌, map, Bool, cond, not, refl}
 use Rattle.std.proofs.Common.{sym, ap, ◌∙◌, inl, inr, arith}
 use Rattle.std.specs.Prelude.{◌&&◌, ◌||◌, ◌==◌}
@@ -25,7 +25,7 @@ use Rattle.am_eval.specs.Question.{holds_of, satisfies}
 use Rattle.am_asked.specs.Asked.{simple_matchers, question_matchers}
 use Rattle.am_eval.proofs.ConditionLaws.{same_property}
 use Rattle.am_eval.proofs.HidingConditions.{same_values}
-use Rattle.am_every_alert.specs.EveryAlert.{MeetsTheSame, HaveTheSameFate}
+use Rattle.am_every_alert.specs.EveryAlert.{MeetsTheSame, AreTreatedAlike}
 use Rattle.am_complete.specs.Complete.{AreAmong, impossible_matchers}
 use Rattle.am_asked.specs.Asked.{route_matchers, routes_matchers, rule_matchers}
 use Rattle.am_asked.specs.Asked.{equal_to_alert, equal_matchers, silence_matchers}
@@ -175,8 +175,8 @@ module _ (s t : LabelMap) where
 
   -- ---- A world.
 
-  pub same_fate : (w : World) → MeetsTheSame (world_matchers w) s t → HaveTheSameFate w s t
-  same_fate w h =
+  pub treated_alike : (w : World) → MeetsTheSame (world_matchers w) s t → AreTreatedAlike w s t
+  treated_alike w h =
       let routes = route_matchers w.config.root in
       let sides = rule_matchers w.config.rules in
       let equal = equal_matchers w.config.rules w.alerts in
@@ -194,22 +194,22 @@ module _ (s t : LabelMap) where
 
   -- ---- Questions.
 
-  part_alike : (w : World) (simple : Simple) → HaveTheSameFate w s t
+  part_alike : (w : World) (simple : Simple) → AreTreatedAlike w s t
       → MeetsTheSame (simple_matchers simple) s t → holds_of w simple s ≡ holds_of w simple t
-  part_alike w (Is property) fate h =
-      same_property w w s t property fate.same_silenced fate.same_inhibited
-  part_alike w (Receiver receiver) fate h =
-      ap (list_any (λ other. other == receiver)) fate.same_receivers
-  part_alike w (Route reach path) fate h = ap (list_any (reaches reach path)) fate.same_ends
-  part_alike w (Braces matchers) fate h = all_alike matchers h
+  part_alike w (Is property) treated h =
+      same_property w w s t property treated.same_silenced treated.same_inhibited
+  part_alike w (Receiver receiver) treated h =
+      ap (list_any (λ other. other == receiver)) treated.same_receivers
+  part_alike w (Route reach path) treated h = ap (list_any (reaches reach path)) treated.same_ends
+  part_alike w (Braces matchers) treated h = all_alike matchers h
 
-  pub same_truth : (w : World) (q : Question) → HaveTheSameFate w s t
+  pub same_truth : (w : World) (q : Question) → AreTreatedAlike w s t
       → MeetsTheSame (question_matchers q) s t → satisfies w q s ≡ satisfies w q t
-  same_truth w (Part simple) fate h = part_alike w simple fate h
-  same_truth w (Not q) fate h = ap not (same_truth w q fate h)
-  same_truth w (And q r) fate h =
+  same_truth w (Part simple) treated h = part_alike w simple treated h
+  same_truth w (Not q) treated h = ap not (same_truth w q treated h)
+  same_truth w (And q r) treated h =
       grind (arith, common_steps, same_truth w q, same_truth w r, front_met, rest_met)
-  same_truth w (Or q r) fate h =
+  same_truth w (Or q r) treated h =
       grind (arith, common_steps, same_truth w q, same_truth w r, front_met, rest_met)
 
 -- ---- All of it.
@@ -221,5 +221,5 @@ pub ruleset alike = (
   same_silenced,
   same_inhibited,
   same_possible,
-  same_fate,
+  treated_alike,
 )

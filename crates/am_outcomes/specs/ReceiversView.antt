@@ -1,4 +1,4 @@
--- How fates and configurations are kept in memory.
+-- How receivers and configurations are kept in memory.
 use Rattle.std.specs.Prelude.{ℕ, List, map}
 use Rattle.std.specs.Borrow.{Bor}
 use Rattle.std.specs.Global.{Vec}
@@ -11,9 +11,9 @@ abbrev pub configs_view : List (Bor Config) → List Configuration
 configs_view configs = map (λ c. config_view c.now) configs
 
 -- The receivers under each configuration.
-abbrev pub fates_view : List (Vec ℕ) → List (List ℕ)
-fates_view fates = map (λ receivers. receivers.items) fates
+abbrev pub receivers_view : List (Vec ℕ) → List (List ℕ)
+receivers_view lists = map (λ receivers. receivers.items) lists
 
--- A fate, and a choice.
+-- The receivers under each configuration, and a choice.
 abbrev pub entry_view : Vec (Vec ℕ) × List ℕ → List (List ℕ) × List ℕ
-entry_view entry = (fates_view entry.0.items, entry.1)
+entry_view entry = (receivers_view entry.0.items, entry.1)

@@ -1,4 +1,5 @@
-//! How a route stands over a space: whether label sets end there or enter it, and why none do.
+//! How the label sets of a space arrive at a route: whether some end there or enter it, and why
+//! none do.
 //!
 //! What an alert has to meet to enter a route, or to end there, is a list of *literals*. A literal
 //! is a route that the alert must match, or must not match. There are three parts of them (`Part`):
@@ -19,7 +20,7 @@ ghost use Rattle.am_first_sets.specs.Reason.{AreSameLiterals, AreNamedBefore, Is
 ghost use Rattle.am_lint.specs.Table.{KnowsRoutes, table_space, table_config, IsRoute};
 ghost use Rattle.am_lint.specs.Literals.{named_paths};
 ghost use Rattle.am_eval.specs.Reaching.{IsSetOf};
-ghost use Rattle.am_lint.specs.Standing.{IsStanding};
+ghost use Rattle.am_lint.specs.Arrival.{IsArrival};
 
 use crate::literals::literals_of;
 use crate::table::Table;
@@ -47,9 +48,9 @@ pub struct Reason {
     pub routes: Vec<Path>,
 }
 
-/// How a route stands over a space.
+/// How the label sets of a space arrive at a route.
 #[derive(Drop)]
-pub enum Standing {
+pub enum Arrival {
     /// The label set of this choice ends at the route.
     Ends(Choice),
     /// The label set of the choice `entry` enters the route, but none ends there: these children
@@ -59,33 +60,33 @@ pub enum Standing {
     NeverEntered(Reason),
 }
 
-/// Finds how the route at a path stands. Fails only if memory runs out.
-pub(crate) fn standing_of(
+/// Finds how label sets arrive at the route at a path. Fails only if memory runs out.
+pub(crate) fn arrival_of(
     alloc: Global,
     table: &Table<'_>,
     path: &Path,
-) -> Result<Standing, AllocError>
+) -> Result<Arrival, AllocError>
     requires knows { KnowsRoutes table.now }
     requires there { IsRoute (table_config table.now) path.now }
-    ensures standing { IfOk result (IsStanding (table_space table.now).labels
+    ensures arrival { IfOk result (IsArrival (table_space table.now).labels
         (IsSetOf (table_space table.now)) (table_config table.now) path.now) }
 {
     let mut literals = literals_of(alloc, table, path)?;
     let (on_way, to_enter) = (literals.on_way, literals.to_enter);
     let all = literals.all.as_mut_slice();
     if let Some(choice) = first_meeting(alloc, &table.possible, all)? {
-        return Ok(Standing::Ends(choice));
+        return Ok(Arrival::Ends(choice));
     }
     if let Some(entry) = first_meeting(alloc, &table.possible, &all[..to_enter])? {
         let children = named_by_reason(alloc, table, all, to_enter)?;
-        return Ok(Standing::HandsOn { entry, children });
+        return Ok(Arrival::HandsOn { entry, children });
     }
     match first_meeting(alloc, &table.possible, &all[..on_way])? {
-        Some(_) => Ok(Standing::NeverEntered(Reason {
+        Some(_) => Ok(Arrival::NeverEntered(Reason {
             cause: Cause::Taken,
             routes: named_by_reason(alloc, table, &mut all[..to_enter], on_way)?,
         })),
-        None => Ok(Standing::NeverEntered(Reason {
+        None => Ok(Arrival::NeverEntered(Reason {
             cause: Cause::Excluded,
             routes: named_by_reason(alloc, table, &mut all[..on_way], 0)?,
         })),
