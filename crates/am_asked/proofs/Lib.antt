@@ -3,3 +3,4 @@ pub mod PlacedMatchers
 pub mod AskedLemmas
 pub mod EqualMatchers
 pub mod Undeclared
+pub mod MatcherPlaces

@@ -1,5 +1,5 @@
 -- Where the first matcher on a label stands: in which file, and the pointer to it.
-use Rattle.std.specs.Prelude.{ℕ, List, ◌++◌, codes, decimal}
+use Rattle.std.specs.Prelude.{ℕ, List, [], ◌∷◌, ◌++◌, codes, decimal}
 use Rattle.std.specs.List.{flat_map}
 use Rattle.am_universe.specs.declared.place.Place.{Place}
 use Rattle.am_universe.specs.declared.place.Place.TheVariants as places
@@ -28,3 +28,9 @@ origin_place (origin_is.Rule position) = places.Config
 origin_place (origin_is.Silence position) = places.Silences
 origin_place (origin_is.Question position) = places.Question
 origin_place (origin_is.Impossible position) = places.Universe
+
+-- The inputs in which a matcher may stand.
+abbrev pub matcher_places : List Place
+matcher_places =
+    places.Universe ∷ places.Config ∷ places.Old ∷ places.New ∷ places.Silences ∷ places.Question
+    ∷ []

@@ -7,10 +7,11 @@ use Rattle.am_universe.specs.declared.fault.Fault.{Fault}
 use Rattle.am_universe.specs.declared.place.Place.{Place}
 use Rattle.am_json.specs.Pointer.{Refusal}
 use Rattle.am_universe.specs.LabelSet.{LabelMap}
+use Rattle.am_universe.proofs.ListLemmas.{IsIn}
 use Rattle.am_list_files.specs.SilencesFile.{Silence}
 use Rattle.am_config.specs.ConfigFile.{Configuration, FileSaysConfig}
 use Rattle.am_eval.specs.World.{World}
-use Rattle.am_files.specs.Faults.{Stage, IsFirstFaultOfCall, SaysFewPairs}
+use Rattle.am_files.specs.Faults.{Stage, IsFirstFaultOfCall, SaysFewPairs, later_stages}
 use Rattle.am_files.specs.Files.{Files, config_of, SaysSilencesIfAny, SaysAlertsIfAny}
 use Rattle.am_files.specs.AcceptedWorld.{AcceptsFiles, AcceptsWorld, file_stages, pair_stages, timeless_stages, world_stages}
 
@@ -67,3 +68,13 @@ pub if_failed : {T : Type 0} (P Q : Fault → Type 0) (result : Result T Fault)
     → ((fault : Fault) → P fault → Q fault) → IfErr result P → IfErr result Q
 if_failed P Q (Ok x) f h = tt
 if_failed P Q (Err fault) f h = f fault h
+
+-- what the inputs say is refused at one of the places
+module _ (Refuses : Place → Refusal → Type 0) (place : Place) (r : Refusal)
+    (refused : Refuses place r) where
+  pub refused_later : (at_places : List Place) → IsIn at_places place
+      → IsFirstFaultOfCall (later_stages at_places Refuses) place r
+  refused_later [] there = absurd there
+  refused_later (p ∷ at_places) (inl same) =
+      inl (sym same, subst (λ (q : Place). Refuses q r) (sym same) refused)
+  refused_later (p ∷ at_places) (inr there) = inr (tt, refused_later at_places there)

@@ -1,5 +1,6 @@
 -- Which fault of a call comes first. (This project's own.)
-use Rattle.std.specs.Prelude.{◌≡◌, ◌≢◌, ◌⊎◌, ◌<◌, ◌≤◌, ℕ, List, [], ◌∷◌, length, Option, Some, None}
+use Rattle.std.specs.Prelude.{◌≡◌, ◌≢◌, ◌⊎◌, ◌<◌, ◌≤◌, ℕ, List, [], ◌∷◌, length, map, ⊤}
+use Rattle.std.specs.Prelude.{Option, Some, None}
 use Rattle.am_universe.specs.declared.kind.Kind.TheVariants as kinds
 use Rattle.am_universe.specs.declared.place.Place.{Place}
 use Rattle.am_universe.specs.declared.place.Place.TheVariants as places
@@ -18,7 +19,7 @@ use Rattle.am_list_files.specs.SilencesForm.{SilencesFileRefusedFor}
 use Rattle.am_list_files.specs.AlertsForm.{IsFirstFaultOfAlertsFile}
 use Rattle.am_eval.specs.declared.limits.TheConstants.{MAX_PAIRS}
 use Rattle.am_eval.specs.Pairs.{pairs_of}
-use Rattle.am_files.specs.Files.{SaysSilencesIfAny, SaysAlertsIfAny}
+use Rattle.am_files.specs.Files.{SaysSilencesIfAny, SaysAlertsIfAny, SaysUniverseIfAny}
 use Rattle.am_files.specs.AskedInstant.{instant_fault}
 
 -- A stage of a call, which reads one of its inputs. It has the place of its faults, what it means
@@ -97,6 +98,18 @@ universe_stage bytes = record {
   refuses = UniverseFileRefusedFor bytes;
 }
 
+-- Why the bytes of a universe file are refused, if there is one; and its stage.
+abbrev pub UniverseRefusedFor : Option (List ℕ) → Refusal → Type 0
+UniverseRefusedFor None r = ⊥
+UniverseRefusedFor (Some bytes) r = UniverseFileRefusedFor bytes r
+
+abbrev pub universe_stage_if_any : Option (List ℕ) → Stage
+universe_stage_if_any file = record {
+  place = places.Universe;
+  accepts = (s : Space) × SaysUniverseIfAny file s;
+  refuses = UniverseRefusedFor file;
+}
+
 -- The stage of the configuration file.
 abbrev pub config_stage : List ℕ → Stage
 config_stage bytes = record {
@@ -146,3 +159,9 @@ set_stage words = record {
   accepts = (set : LabelMap) × WordsSpellSet words set;
   refuses = SetStageRefusedFor words;
 }
+
+-- The stages after those of the inputs, for what the inputs say. It may be refused at each of these
+-- places.
+abbrev pub later_stages : List Place → (Place → Refusal → Type 0) → List Stage
+later_stages at_places Refuses =
+    map (λ place. record { place = place; accepts = ⊤; refuses = Refuses place }) at_places

@@ -4,6 +4,8 @@ use Rattle.am_config.specs.SmallestConfig.{smallest_config_file}
 use Rattle.am_universe.specs.LabelSet.{LabelMap}
 use Rattle.am_list_files.specs.SilencesFile.{Silence, FileSaysSilences}
 use Rattle.am_list_files.specs.AlertsFile.{FileSaysAlerts}
+use Rattle.am_list_files.specs.UniverseFile.{FileSaysUniverse}
+use Rattle.am_labels.specs.Space.{Space}
 
 -- The input files other than the universe file, each as its bytes, and the text of the instant that
 -- is asked about. All are optional.
@@ -31,3 +33,9 @@ SaysSilencesIfAny (Some bytes) silences = FileSaysSilences bytes silences
 abbrev pub SaysAlertsIfAny : Option (List ℕ) → List LabelMap → Type 0
 SaysAlertsIfAny None alerts = alerts ≡ []
 SaysAlertsIfAny (Some bytes) alerts = FileSaysAlerts bytes alerts
+
+-- The space is that of the universe file. Without a file it has no labels, and nothing is
+-- impossible in it.
+abbrev pub SaysUniverseIfAny : Option (List ℕ) → Space → Type 0
+SaysUniverseIfAny None s = s ≡ record { labels = []; impossible = [] }
+SaysUniverseIfAny (Some bytes) s = FileSaysUniverse bytes s

@@ -19,7 +19,7 @@ mod files;
 mod world_inputs;
 
 pub use files::Files;
-pub use world_inputs::{read_set, read_timeless_world, read_world};
+pub use world_inputs::{read_set, read_timeless_world, read_universe_if_any, read_world};
 
 // Facts about the definitions alone.
 pub mod laws;

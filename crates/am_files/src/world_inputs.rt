@@ -7,16 +7,19 @@ ghost use Rattle.am_config.specs.ConfigFile.{FileSaysConfig};
 ghost use Rattle.am_files.specs.AcceptedWorld.{AcceptsFiles, AcceptsWorld, file_stages};
 ghost use Rattle.am_files.specs.AcceptedWorld.{timeless_stages, world_stages};
 ghost use Rattle.am_files.specs.Faults.{IsFirstFault, SilencesRefusedFor, AlertsRefusedFor};
-ghost use Rattle.am_files.specs.Faults.{InstantRefusedFor, SetStageRefusedFor};
+ghost use Rattle.am_files.specs.Faults.{InstantRefusedFor, SetStageRefusedFor, UniverseRefusedFor};
 ghost use Rattle.am_files.specs.Files.{SaysSilencesIfAny, config_of, SaysAlertsIfAny};
+ghost use Rattle.am_files.specs.Files.{SaysUniverseIfAny};
 ghost use Rattle.am_files.specs.AskedInstant.{asked_instant, instant_fault};
 
 use crate::files::Files;
 use am_config::{Config, read_config};
 use am_eval::World;
-use am_labels::parse_set_words;
-use am_list_files::{Alerts, Silences, Timestamp, parse_instant, read_alerts, read_silences};
-use am_universe::{Fault, Kind, LabelSet, Place};
+use am_labels::{Space, parse_set_words};
+use am_list_files::{
+    Alerts, Silences, Timestamp, parse_instant, read_alerts, read_silences, read_universe,
+};
+use am_universe::{Fault, Kind, LabelSet, Place, Universe};
 use std::alloc::Global;
 
 /// Reads a world from its files.
@@ -42,6 +45,19 @@ pub fn read_timeless_world(alloc: Global, files: &Files<'_>) -> Result<World, Fa
 {
     let read = read_files(alloc, files)?;
     World::new(alloc, read.config, read.silences, read.alerts, None)
+}
+
+/// Reads the space of a universe file. Without a file the space has no label, and nothing is
+/// impossible in it. Fails as `read_universe` does.
+pub fn read_universe_if_any(alloc: Global, file: Option<&[u8]>) -> Result<Space, Fault>
+    ensures says { IfOk result (SaysUniverseIfAny (option_copied file.entry)) }
+    ensures first { IfErr result (IsRefusalAt places.Universe
+        (UniverseRefusedFor (option_copied file.entry))) }
+{
+    match file {
+        Some(bytes) => read_universe(alloc, bytes),
+        None => Ok(Space::of(alloc, Universe::empty(alloc))),
+    }
 }
 
 /// What the files of a world say.

@@ -9,14 +9,15 @@ use Rattle.am_labels.specs.Space.{Space}
 use Rattle.am_json.specs.Pointer.{Refusal}
 use Rattle.am_config.specs.ConfigFile.{Configuration}
 use Rattle.am_eval.specs.World.{World}
-use Rattle.am_files.specs.Faults.{IsFirstFaultOfCall}
+use Rattle.am_files.specs.Faults.{IsFirstFaultOfCall, later_stages}
 use Rattle.am_files.proofs.FirstFaults.{first_behind_world}
 use Rattle.am_classes.specs.declared.alphabet.Alphabet.{Alphabet}
 use Rattle.am_classes.specs.declared.alphabet.Alphabet.TheVariants.{Ascii}
 use Rattle.am_complete.specs.declared.origin.Origin.{Origin}
 use Rattle.am_complete.specs.declared.origin.Origin.TheVariants as origin_is
-use Rattle.am_universe_command.specs.Universes.{matcher_places, later_stages}
-use Rattle.am_universe_command.proofs.UniverseStages.{origin_in, refused_later}
+use Rattle.am_asked.specs.OriginPointer.{matcher_places}
+use Rattle.am_files.proofs.FirstFaults.{refused_later}
+use Rattle.am_asked.proofs.MatcherPlaces.{origin_in}
 use Rattle.am_reports.specs.Configurations.{Configurations, One, Pair, asks_of, first_place}
 use Rattle.am_reports.specs.ReportInputs.{ReportInputs, AcceptsReportInputs}
 use Rattle.am_reports.specs.CompareInputs.{CompareInputs, AcceptsCompareInputs}
@@ -89,7 +90,7 @@ outcomes_refused inputs s c place r accepts refused =
       (s, accepts.says_universe),
       inr (
         (c, accepts.says_config),
-        refused_later (RefusesOutcomes inputs) place r (s, c, accepts, refused)
+        refused_later (RefusesOutcomes inputs) place r (s, c, accepts, refused) matcher_places
             (outcomes_in inputs.alphabet s (One c) place r refused),
       ),
     )
@@ -99,7 +100,7 @@ pub comparison_refused : (inputs : CompareInputs) (s : Space) (old new : Configu
     → IsOutcomesRefusal inputs.alphabet s (Pair old new) place r
     → IsFirstFaultOfCall (compare_promise inputs).stages place r
 comparison_refused inputs s old new place r accepts refused =
-    let later = refused_later (RefusesComparison inputs) place r (s, old, new, accepts, refused)
+    let later = refused_later (RefusesComparison inputs) place r (s, old, new, accepts, refused) matcher_places
     (outcomes_in inputs.alphabet s (Pair old new) place r refused) in
     inr (
       (s, accepts.says_universe),
@@ -112,8 +113,8 @@ pub lint_refused : (inputs : LintInputs) (s : Space) (w : World) (place : Place)
 lint_refused inputs s w place r accepts refused =
     inr (
       (s, accepts.says_universe),
-      first_behind_world inputs.files w (later_stages (RefusesLint inputs)) place r
+      first_behind_world inputs.files w (later_stages matcher_places (RefusesLint inputs)) place r
           accepts.accepts_world
-          (refused_later (RefusesLint inputs) place r (s, w, accepts, refused)
+          (refused_later (RefusesLint inputs) place r (s, w, accepts, refused) matcher_places
           (lint_in inputs.alphabet s w place r refused)),
     )

@@ -14,7 +14,8 @@ use Rattle.am_every_alert.specs.EveryAlert.{IsAlertOf}
 use Rattle.am_outcomes.specs.Outcomes.{receivers_under, have_same_receivers}
 use Rattle.am_outcomes.specs.OutcomeText.{names_of, changes_of, changes_text}
 use Rattle.am_reports.specs.Configurations.{Pair}
-use Rattle.am_universe_command.specs.Universes.{later_stages}
+use Rattle.am_files.specs.Faults.{later_stages}
+use Rattle.am_asked.specs.OriginPointer.{matcher_places}
 use Rattle.am_reports.specs.CompareInputs.{CompareInputs, AcceptsCompareInputs}
 use Rattle.am_reports.specs.CompareInputs.{compare_input_stages}
 use Rattle.am_reports.specs.LaterStages.{IsOutcomesRefusal}
@@ -90,6 +91,6 @@ RefusesComparison inputs place r =
 -- Example: if neither configuration is JSON, the first fault is the `not-json` of the old one.
 abbrev pub compare_promise : CompareInputs → Promise ℕ
 compare_promise inputs = record {
-  stages = compare_input_stages inputs ++ later_stages (RefusesComparison inputs);
+  stages = compare_input_stages inputs ++ later_stages matcher_places (RefusesComparison inputs);
   May = ComparesFiles inputs;
 }

@@ -7,7 +7,8 @@ use Rattle.am_eval.specs.World.{World}
 use Rattle.am_files.specs.AcceptedWorld.{AcceptsWorld, world_stages}
 use Rattle.am_files.specs.Faults.{Stage}
 use Rattle.am_classes.specs.declared.alphabet.Alphabet.{Alphabet}
-use Rattle.am_universe_command.specs.UniverseInputs.{SaysUniverseIfAny, universe_stage_if_any}
+use Rattle.am_files.specs.Files.{SaysUniverseIfAny}
+use Rattle.am_files.specs.Faults.{universe_stage_if_any}
 
 -- The bytes of a universe file, if there is one; the other files, with the instant; and which texts
 -- the labels of alerts may have.

@@ -10,7 +10,8 @@ use Rattle.am_asked.specs.Made.{undeclared}
 use Rattle.am_lint.specs.Report.{SaysOfRoutes}
 use Rattle.am_reports.specs.Configurations.{One}
 use Rattle.am_reports.specs.LintInputs.{LintInputs, AcceptsLintInputs, lint_input_stages}
-use Rattle.am_universe_command.specs.Universes.{later_stages}
+use Rattle.am_files.specs.Faults.{later_stages}
+use Rattle.am_asked.specs.OriginPointer.{matcher_places}
 use Rattle.am_reports.specs.Made.{AreDeclaredWhole, IsDeclaredRefusal, IsRoutesRefusal}
 use Rattle.am_reports.specs.Sections.{Section, report_text, all_findings}
 use Rattle.am_reports.specs.LintSections.{SaysOfRules, SaysOfSilences, values_section}
@@ -80,6 +81,6 @@ pub record LintsFiles (inputs : LintInputs) (found : Bool) (report : List ℕ) :
 -- Example: if the configuration is not JSON, the first fault is its `not-json`.
 abbrev pub lint_promise : LintInputs → Promise Bool
 lint_promise inputs = record {
-  stages = lint_input_stages inputs ++ later_stages (RefusesLint inputs);
+  stages = lint_input_stages inputs ++ later_stages matcher_places (RefusesLint inputs);
   May = LintsFiles inputs;
 }

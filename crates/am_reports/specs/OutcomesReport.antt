@@ -9,7 +9,8 @@ use Rattle.am_files.specs.Promise.{Promise}
 use Rattle.am_classes.specs.declared.alphabet.Alphabet.{Alphabet}
 use Rattle.am_outcomes.specs.OutcomeText.{outcomes_text}
 use Rattle.am_reports.specs.Configurations.{One}
-use Rattle.am_universe_command.specs.Universes.{later_stages}
+use Rattle.am_files.specs.Faults.{later_stages}
+use Rattle.am_asked.specs.OriginPointer.{matcher_places}
 use Rattle.am_reports.specs.ReportInputs.{ReportInputs, AcceptsReportInputs, report_input_stages}
 use Rattle.am_reports.specs.LaterStages.{IsOutcomesRefusal}
 use Rattle.am_reports.specs.Made.{AreDeclaredWhole}
@@ -50,6 +51,6 @@ RefusesOutcomes inputs place r =
 -- Example: if the configuration is not JSON, the first fault is its `not-json`.
 abbrev pub outcomes_promise : ReportInputs → Promise ⊤
 outcomes_promise inputs = record {
-  stages = report_input_stages inputs ++ later_stages (RefusesOutcomes inputs);
+  stages = report_input_stages inputs ++ later_stages matcher_places (RefusesOutcomes inputs);
   May = λ _. ReportsOutcomes inputs;
 }

@@ -5,7 +5,8 @@ use Rattle.am_labels.specs.Space.{Space}
 use Rattle.am_config.specs.ConfigFile.{Configuration, FileSaysConfig}
 use Rattle.am_files.specs.Faults.{Stage, config_stage}
 use Rattle.am_classes.specs.declared.alphabet.Alphabet.{Alphabet}
-use Rattle.am_universe_command.specs.UniverseInputs.{SaysUniverseIfAny, universe_stage_if_any}
+use Rattle.am_files.specs.Files.{SaysUniverseIfAny}
+use Rattle.am_files.specs.Faults.{universe_stage_if_any}
 
 -- The bytes of a universe file, if there is one, and those of the configuration file; and which
 -- texts the labels of alerts may have.

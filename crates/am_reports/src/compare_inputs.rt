@@ -10,9 +10,9 @@ ghost use Rattle.am_reports.specs.CompareInputs.{AcceptsCompareInputs, compare_i
 
 use am_classes::Alphabet;
 use am_config::{Config, read_config};
+use am_files::read_universe_if_any;
 use am_labels::Space;
 use am_universe::{Fault, Place};
-use am_universe_command::read_universe_if_any;
 use std::alloc::Global;
 use std::marker::Model;
 
@@ -59,7 +59,7 @@ pub(crate) fn read_compared(alloc: Global, inputs: &CompareInputs<'_>) -> Result
         (config_view read.old) (config_view read.new)) }
     ensures first { IfErr result (IsFirstFault (compare_input_stages inputs.now)) }
 {
-    let (space, _texts) = read_universe_if_any(alloc, inputs.universe)?;
+    let space = read_universe_if_any(alloc, inputs.universe)?;
     let old = read_config_at(alloc, Place::Old, inputs.old)?;
     let new = read_config_at(alloc, Place::New, inputs.new)?;
     Ok(Compared { space, old, new })

@@ -6,10 +6,9 @@ ghost use Rattle.am_reports.specs.LintInputs.{AcceptsLintInputs, lint_input_stag
 
 use am_classes::Alphabet;
 use am_eval::World;
-use am_files::{Files, read_world};
+use am_files::{Files, read_universe_if_any, read_world};
 use am_labels::Space;
 use am_universe::Fault;
-use am_universe_command::read_universe_if_any;
 use std::alloc::Global;
 use std::marker::Model;
 
@@ -62,7 +61,7 @@ pub(crate) fn read_lint_inputs(alloc: Global, inputs: &LintInputs<'_>) -> Result
     ensures accepts { IfOk result (λ read. AcceptsLintInputs inputs.now read.space read.world) }
     ensures first { IfErr result (IsFirstFault (lint_input_stages inputs.now)) }
 {
-    let (space, _texts) = read_universe_if_any(alloc, inputs.universe)?;
+    let space = read_universe_if_any(alloc, inputs.universe)?;
     let world = read_world(alloc, inputs.files)?;
     Ok(ReadWorld { space, world })
 }

@@ -7,9 +7,9 @@ ghost use Rattle.am_reports.specs.ReportInputs.{AcceptsReportInputs, report_inpu
 
 use am_classes::Alphabet;
 use am_config::{Config, read_config};
+use am_files::read_universe_if_any;
 use am_labels::Space;
 use am_universe::Fault;
-use am_universe_command::read_universe_if_any;
 use std::alloc::Global;
 use std::marker::Model;
 
@@ -52,7 +52,7 @@ pub(crate) fn read_inputs(alloc: Global, inputs: &ReportInputs<'_>) -> Result<Re
         AcceptsReportInputs inputs.now read.space (config_view read.config)) }
     ensures first { IfErr result (IsFirstFault (report_input_stages inputs.now)) }
 {
-    let (space, _texts) = read_universe_if_any(alloc, inputs.universe)?;
+    let space = read_universe_if_any(alloc, inputs.universe)?;
     let config = read_config(alloc, inputs.config)?;
     Ok(ReadInputs { space, config })
 }

@@ -6,14 +6,13 @@ use Rattle.std.specs.List.{AllByRecursion, AllZip}
 use Rattle.am_universe.specs.declared.place.Place.TheVariants as places
 use Rattle.am_labels.specs.Space.{Space}
 use Rattle.am_json.specs.Pointer.{Refusal}
-use Rattle.am_list_files.specs.UniverseFile.{FileSaysUniverse, FileHasImpossibleTexts}
-use Rattle.am_list_files.specs.UniverseForm.{UniverseFileRefusedFor}
+use Rattle.am_list_files.specs.UniverseFile.{FileHasImpossibleTexts}
 use Rattle.am_config.specs.ConfigFile.{Configuration, FileSaysConfig}
-use Rattle.am_files.specs.Files.{Files, config_of}
+use Rattle.am_files.specs.Files.{Files, config_of, SaysUniverseIfAny}
 use Rattle.am_eval.specs.World.{World}
 use Rattle.am_eval.specs.Question.{Question}
 use Rattle.am_files.specs.AcceptedWorld.{AcceptsFiles, timeless_stages}
-use Rattle.am_files.specs.Faults.{Stage}
+use Rattle.am_files.specs.Faults.{Stage, universe_stage_if_any}
 use Rattle.am_questions.specs.QuestionText.{ReadsQuestion, QuestionRefusedFor}
 
 -- The bytes of a universe file, if there is one; the other files; and the texts of questions.
@@ -21,12 +20,6 @@ pub record UniverseInputs : Type 0 where
   pub universe : Option (List ℕ)
   pub files : Files
   pub questions : List (List ℕ)
-
--- The bytes of a universe file, if there is one, say a space. Without a file the space has no
--- labels, and nothing is impossible in it.
-abbrev pub SaysUniverseIfAny : Option (List ℕ) → Space → Type 0
-SaysUniverseIfAny None s = s ≡ record { labels = []; impossible = [] }
-SaysUniverseIfAny (Some bytes) s = FileSaysUniverse bytes s
 
 -- The texts of the impossible lists of a universe file, if there is one, are these, word for word.
 -- Without a file there are none.
@@ -47,21 +40,6 @@ pub record AcceptsUniverseInputs (inputs : UniverseInputs) (s : Space) (w : Worl
   pub reads : ReadsQuestions w.config inputs.questions questions
 
 -- ---- The order of faults.
-
-abbrev pub SaysSomeUniverseIfAny : Option (List ℕ) → Type 0
-SaysSomeUniverseIfAny file = (s : Space) × SaysUniverseIfAny file s
-
--- Why the bytes of a universe file are refused, if there is one.
-abbrev pub UniverseRefusedFor : Option (List ℕ) → Refusal → Type 0
-UniverseRefusedFor None r = ⊥
-UniverseRefusedFor (Some bytes) r = UniverseFileRefusedFor bytes r
-
-abbrev pub universe_stage_if_any : Option (List ℕ) → Stage
-universe_stage_if_any file = record {
-  place = places.Universe;
-  accepts = SaysSomeUniverseIfAny file;
-  refuses = UniverseRefusedFor file;
-}
 
 -- The texts are questions about the configuration that the bytes of a file say.
 abbrev pub ReadsSomeQuestions : List ℕ → List (List ℕ) → Type 0

@@ -16,7 +16,7 @@ use Rattle.am_list_files.specs.UniverseFile.{FileSaysUniverse, AreTextsOfLists}
 use Rattle.am_list_files.specs.UniverseFile.{FileHasImpossibleTexts}
 use Rattle.am_eval.specs.World.{World}
 use Rattle.am_eval.specs.Question.{Question}
-use Rattle.am_files.specs.Faults.{Stage}
+use Rattle.am_files.specs.Faults.{later_stages}
 use Rattle.am_files.specs.Promise.{Promise}
 use Rattle.am_classes.specs.declared.alphabet.Alphabet.{Alphabet}
 use Rattle.am_complete.specs.declared.label_state.LabelState.{LabelState}
@@ -25,7 +25,7 @@ use Rattle.am_complete.specs.AskedLabel.{AskedLabel, asked_labels}
 use Rattle.am_asked.specs.Asked.{route_matchers, world_matchers, questions_matchers}
 use Rattle.am_asked.specs.Placed.{placed_in_routes, placed_in_world, placed_in_questions}
 use Rattle.am_asked.specs.Placed.{placed_in_lists}
-use Rattle.am_asked.specs.OriginPointer.{origin_place}
+use Rattle.am_asked.specs.OriginPointer.{origin_place, matcher_places}
 use Rattle.am_asked.specs.Made.{IsMadeBeside, NoRoomFor, UnprovedFor}
 use Rattle.am_complete.specs.LabelState.{IsSoIfNamed, is_settled, reported_names}
 use Rattle.am_complete.specs.FoundState.{is_unseen}
@@ -128,25 +128,13 @@ RefusesMaking inputs form place r =
     (s : Space) × (w : World) × (questions : List Question)
     × AcceptsUniverseInputs inputs s w questions × IsMakingRefusal form s w questions place r
 
--- The inputs in which a matcher may stand.
-abbrev pub matcher_places : List Place
-matcher_places =
-    places.Universe ∷ places.Config ∷ places.Old ∷ places.New ∷ places.Silences ∷ places.Question
-    ∷ []
-
--- The stages after those of the inputs, for what the inputs say. It may be refused at each of these
--- places.
-abbrev pub later_stages : (Place → Refusal → Type 0) → List Stage
-later_stages Refuses =
-    map (λ place. record { place = place; accepts = ⊤; refuses = Refuses place }) matcher_places
-
 -- What `universe` owes.
 -- Source: own choice.
 -- Example: if the file of alerts is `{}` and a label is unproved, the first fault is the `shape` of
 -- the alerts.
 abbrev pub universe_promise : UniverseInputs → UniverseForm → Promise ⊤
 universe_promise inputs form = record {
-  stages = universe_input_stages inputs ++ later_stages (RefusesMaking inputs form);
+  stages = universe_input_stages inputs ++ later_stages matcher_places (RefusesMaking inputs form);
   May = λ _. MakesUniverse inputs form;
 }
 

@@ -10,7 +10,6 @@ mod read_inputs;
 mod universe_form;
 mod universe_inputs;
 
-pub use read_inputs::read_universe_if_any;
 pub use universe_form::UniverseForm;
 pub use universe_inputs::UniverseInputs;
 

@@ -8,9 +8,9 @@ ghost use Rattle.am_json.specs.Reading.{IsRefusalAt};
 ghost use Rattle.am_list_files.specs.UniverseFile.{AreTextsOfLists};
 ghost use Rattle.am_config.specs.ConfigView.{config_view};
 ghost use Rattle.am_eval.specs.QuestionView.{question_view};
-ghost use Rattle.am_files.specs.Faults.{IsFirstFault};
+ghost use Rattle.am_files.specs.Faults.{IsFirstFault, UniverseRefusedFor};
+ghost use Rattle.am_files.specs.Files.{SaysUniverseIfAny};
 ghost use Rattle.am_questions.specs.QuestionText.{ReadsQuestion, QuestionRefusedFor};
-ghost use Rattle.am_universe_command.specs.UniverseInputs.{SaysUniverseIfAny, UniverseRefusedFor};
 ghost use Rattle.am_universe_command.specs.UniverseInputs.{HasListsIfAny, ReadsQuestions};
 ghost use Rattle.am_universe_command.specs.UniverseInputs.{QuestionsRefusedFor};
 ghost use Rattle.am_universe_command.specs.UniverseInputs.{AcceptsUniverseInputs};
@@ -47,7 +47,7 @@ pub(crate) fn read_inputs(alloc: Global, inputs: &UniverseInputs<'_>) -> Result<
         HasListsIfAny inputs.now.universe (map string_bytes read.texts.items)) }
     ensures first { IfErr result (IsFirstFault (universe_input_stages inputs.now)) }
 {
-    let (space, texts) = read_universe_if_any(alloc, inputs.universe)?;
+    let (space, texts) = read_universe_and_texts(alloc, inputs.universe)?;
     let world = read_timeless_world(alloc, inputs.files)?;
     let questions = read_questions(alloc, inputs.questions, world.config())?;
     Ok(ReadInputs {
@@ -60,7 +60,7 @@ pub(crate) fn read_inputs(alloc: Global, inputs: &UniverseInputs<'_>) -> Result<
 
 /// Reads the space of a universe file, with the texts of its impossible lists. Without a file the
 /// space has no label, and nothing is impossible. Fails as `read_universe` does.
-pub fn read_universe_if_any(
+fn read_universe_and_texts(
     alloc: Global,
     file: Option<&[u8]>,
 ) -> Result<(Space, Vec<String>), Fault>

@@ -6,7 +6,8 @@ use Rattle.am_config.specs.ConfigView.{config_view}
 use Rattle.am_files.proofs.FirstFaults.{first_of_more}
 use Rattle.am_files.proofs.Promises.{refused, written}
 use Rattle.am_every_alert.specs.Deciding.{space_of}
-use Rattle.am_universe_command.specs.Universes.{later_stages}
+use Rattle.am_files.specs.Faults.{later_stages}
+use Rattle.am_asked.specs.OriginPointer.{matcher_places}
 use Rattle.am_reports.specs.CompareInputs.{CompareInputs, compare_input_stages}
 use Rattle.am_reports.specs.Comparing.{compare_promise, RefusesComparison}
 use Rattle.am_reports.proofs.ChangeLemmas.{compared}
@@ -22,7 +23,7 @@ returns-in_err-read g c =
       kept = refused (compare_promise inputs) fault c.from_residual.result refl
           c.from_residual.ensures.1
           (λ remembered. first_of_more (compare_input_stages inputs)
-          (later_stages (RefusesComparison inputs)) fault.place (refusal_of fault)
+          (later_stages matcher_places (RefusesComparison inputs)) fault.place (refusal_of fault)
           (c.in_err-read.ensures.first remembered));
     }
 

@@ -6,7 +6,8 @@ use Rattle.am_json.specs.Reading.{refusal_of}
 use Rattle.am_files.proofs.FirstFaults.{first_of_more}
 use Rattle.am_files.proofs.Promises.{refused, written}
 use Rattle.am_reports.specs.LintInputs.{LintInputs, lint_input_stages}
-use Rattle.am_universe_command.specs.Universes.{later_stages}
+use Rattle.am_files.specs.Faults.{later_stages}
+use Rattle.am_asked.specs.OriginPointer.{matcher_places}
 use Rattle.am_reports.specs.Linting.{lint_promise, RefusesLint}
 use Rattle.am_reports.proofs.LaterFaults.{lint_refused}
 use Rattle.am_reports.proofs.WrittenBeside.{told_beside, writes_beside}
@@ -20,7 +21,7 @@ returns-in_err-read g c =
       kept = refused (lint_promise inputs) fault c.from_residual.result refl
           c.from_residual.ensures.1
           (λ remembered. first_of_more (lint_input_stages inputs)
-          (later_stages (RefusesLint inputs)) fault.place (refusal_of fault) (c.in_err-read.ensures.first remembered));
+          (later_stages matcher_places (RefusesLint inputs)) fault.place (refusal_of fault) (c.in_err-read.ensures.first remembered));
     }
 
 pub returns-in_err-lint : goal.returns-in_err-lint

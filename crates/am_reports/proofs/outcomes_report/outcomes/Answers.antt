@@ -5,7 +5,8 @@ use Rattle.am_config.specs.ConfigView.{config_view}
 use Rattle.am_files.proofs.FirstFaults.{first_of_more}
 use Rattle.am_files.proofs.Promises.{refused, written, nothing_told}
 use Rattle.am_every_alert.specs.Deciding.{space_of}
-use Rattle.am_universe_command.specs.Universes.{later_stages}
+use Rattle.am_files.specs.Faults.{later_stages}
+use Rattle.am_asked.specs.OriginPointer.{matcher_places}
 use Rattle.am_reports.specs.ReportInputs.{ReportInputs, report_input_stages}
 use Rattle.am_reports.specs.OutcomesReport.{outcomes_promise, RefusesOutcomes}
 use Rattle.am_reports.proofs.LaterFaults.{outcomes_refused}
@@ -19,7 +20,7 @@ returns-in_err-read g c =
       kept = refused (outcomes_promise inputs) fault c.from_residual.result refl
           c.from_residual.ensures.1
           (λ remembered. first_of_more (report_input_stages inputs)
-          (later_stages (RefusesOutcomes inputs)) fault.place (refusal_of fault)
+          (later_stages matcher_places (RefusesOutcomes inputs)) fault.place (refusal_of fault)
           (c.in_err-read.ensures.first remembered));
     }
 

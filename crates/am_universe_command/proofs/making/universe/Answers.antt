@@ -5,7 +5,9 @@ use Rattle.am_eval.specs.QuestionView.{question_view}
 use Rattle.am_files.proofs.FirstFaults.{first_of_more}
 use Rattle.am_files.proofs.Promises.{refused, written, nothing_told}
 use Rattle.am_universe_command.specs.UniverseInputs.{universe_input_stages}
-use Rattle.am_universe_command.specs.Universes.{universe_promise, later_stages, RefusesMaking}
+use Rattle.am_files.specs.Faults.{later_stages}
+use Rattle.am_asked.specs.OriginPointer.{matcher_places}
+use Rattle.am_universe_command.specs.Universes.{universe_promise, RefusesMaking}
 use Rattle.am_universe_command.proofs.UniverseStages.{making_refused}
 use Rattle.am_universe_command.proofs.making.universe.Goals as goal
 
@@ -17,7 +19,7 @@ returns-in_err-read g c =
       kept = refused (universe_promise inputs c.args.form) fault c.from_residual.result refl
           c.from_residual.ensures.1
           (λ remembered. first_of_more (universe_input_stages inputs)
-          (later_stages (RefusesMaking inputs c.args.form)) fault.place (refusal_of fault)
+          (later_stages matcher_places (RefusesMaking inputs c.args.form)) fault.place (refusal_of fault)
           (c.in_err-read.ensures.first remembered));
     }
 

@@ -3,9 +3,9 @@ use Rattle.std.proofs.Common.{inl, inr, ◌∷◌, [], subst}
 use Rattle.am_json.specs.Reading.{refusal_of}
 use Rattle.am_files.specs.Faults.{IsFirstFault, IsFirstFaultOfCall}
 use Rattle.am_files.specs.AcceptedWorld.{AcceptsFiles, timeless_stages}
-use Rattle.am_files.specs.Files.{config_of}
+use Rattle.am_files.specs.Files.{config_of, SaysUniverseIfAny}
 use Rattle.am_files.proofs.FirstFaults.{first_of_more, first_behind_timeless, handed_on}
-use Rattle.am_universe_command.specs.UniverseInputs.{UniverseInputs, SaysUniverseIfAny}
+use Rattle.am_universe_command.specs.UniverseInputs.{UniverseInputs}
 use Rattle.am_universe_command.specs.UniverseInputs.{QuestionsRefusedFor, questions_stage}
 use Rattle.am_universe_command.specs.UniverseInputs.{universe_input_stages}
 use Rattle.am_universe_command.proofs.read_inputs.read_inputs.Goals as goal
