@@ -3,6 +3,7 @@ use Rattle.std.specs.Prelude.{◌≡◌, ◌⊎◌, ℕ, List, [], ◌∷◌, Bo
 use Rattle.std.specs.Prelude.{IsTrue, IsFalse, slice_get, take, count_by, true, false}
 use Rattle.std.specs.List.{list_any, AllByRecursion}
 use Rattle.am_universe.specs.declared.kind.Kind.{Kind}
+use Rattle.am_universe.specs.LabelSet.{LabelMap}
 use Rattle.am_universe.specs.Universe.{Label}
 use Rattle.am_labels.specs.Space.{Space}
 use Rattle.am_list_files.specs.SilencesFile.{Silence}
@@ -15,35 +16,37 @@ use Rattle.am_idle.specs.declared.silences.SilenceFinding.TheVariants as finding
 use Rattle.am_idle.specs.Lists.{StandsForLists, IsRefusalForLists}
 use Rattle.am_idle.specs.Extent.{MatchesNone, MatchesEach, MatchesOne, MissesOne}
 
--- A silence is unused in a world: it is active, and hides none of the alerts that fire.
+-- A silence is unused in a world: it is active, and hides none of the alerts that fire. None is
+-- unused if these alerts are not known.
 -- Source: own choice.
 -- Example: an active silence with `team="ops"` is unused if only `{team="db"}` fires. One that has
 -- not begun is not.
-abbrev pub is_unused : World → Silence → Bool
-is_unused w silence =
-    is_active w.instant silence && not (list_any (λ alert. hides w alert silence) w.alerts)
+abbrev pub is_unused : World → Option (List LabelMap) → Silence → Bool
+is_unused w None silence = false
+is_unused w (Some alerts) silence =
+    is_active w.instant silence && not (list_any (λ alert. hides w alert silence) alerts)
 
 -- What is said of a silence is true. Nothing is said if it is over. Otherwise it is idle if no
 -- alert that occurs meets all its matchers, and all if each alert does. If some alert does and
--- another does not, nothing is said, unless a file of alerts is given and the silence is unused:
--- then that is said. A parameter says whether a file of alerts is given.
+-- another does not, nothing is said, unless the silence is unused: then that is said. The
+-- alerts are those of a file, if one is given.
 -- Source: Alertmanager documentation 0.25, "Silences". Own choice: what is said of a silence that
 -- has not begun is what will be true; if no alert is possible at all, a silence is idle.
 -- Example: a silence with `team="db"` and `team="web"` is idle; one with `team=~"(?s).*"` is all.
 abbrev pub IsSilenceFinding :
-    Alphabet → Space → World → Bool → Silence → Option SilenceFinding → Type 0
-IsSilenceFinding a s w given silence None =
+    Alphabet → Space → World → Option (List LabelMap) → Silence → Option SilenceFinding → Type 0
+IsSilenceFinding a s w alerts silence None =
     IsTrue (is_over w.instant silence)
     ⊎ (MatchesOne (IsAlertOf a s) silence.matchers × MissesOne (IsAlertOf a s) silence.matchers
-    × IsFalse (given && is_unused w silence))
-IsSilenceFinding a s w given silence (Some finding_is.Idle) =
+    × IsFalse (is_unused w alerts silence))
+IsSilenceFinding a s w alerts silence (Some finding_is.Idle) =
     IsFalse (is_over w.instant silence) × MatchesNone (IsAlertOf a s) silence.matchers
-IsSilenceFinding a s w given silence (Some finding_is.All) =
+IsSilenceFinding a s w alerts silence (Some finding_is.All) =
     IsFalse (is_over w.instant silence) × MatchesOne (IsAlertOf a s) silence.matchers
     × MatchesEach (IsAlertOf a s) silence.matchers
-IsSilenceFinding a s w given silence (Some finding_is.Unused) =
+IsSilenceFinding a s w alerts silence (Some finding_is.Unused) =
     IsFalse (is_over w.instant silence) × MatchesOne (IsAlertOf a s) silence.matchers
-    × MissesOne (IsAlertOf a s) silence.matchers × IsTrue given × IsTrue (is_unused w silence)
+    × MissesOne (IsAlertOf a s) silence.matchers × IsTrue (is_unused w alerts silence)
 
 -- ---- Why none is said.
 

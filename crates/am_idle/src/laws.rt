@@ -1,5 +1,5 @@
 //! Facts about the definitions alone: each is the contract of a function with an empty body.
-ghost use Rattle.std.specs.Prelude.{◌≡◌, ℕ, ℤ, List, [], ◌∷◌, Bool, Some, IsTrue, IsFalse};
+ghost use Rattle.std.specs.Prelude.{◌≡◌, ℕ, ℤ, List, [], ◌∷◌, Option, Some, IsTrue, IsFalse};
 ghost use Rattle.am_universe.specs.Universe.{Label};
 ghost use Rattle.am_universe.specs.LabelSet.{LabelMap, label_set_of};
 ghost use Rattle.am_labels.specs.Matcher.{Matcher};
@@ -33,13 +33,13 @@ pub fn a_universe_for_lists_stands_for_every_alert()
 /// An idle silence hides no alert of the space over the alphabet, at any instant. A silence that is
 /// found to be `All` hides each of these alerts at each instant at which it is active.
 pub fn an_idle_silence_hides_no_alert()
-    ensures idle { (a : Alphabet) (s : Space) (w : World) (given : Bool) (silence : Silence)
-        (instant : ℤ) (alert : LabelMap)
-        → IsSilenceFinding a s w given silence (Some finding_is.Idle) → IsAlertOf a s alert
+    ensures idle { (a : Alphabet) (s : Space) (w : World) (alerts : Option (List LabelMap))
+        (silence : Silence) (instant : ℤ) (alert : LabelMap)
+        → IsSilenceFinding a s w alerts silence (Some finding_is.Idle) → IsAlertOf a s alert
         → IsFalse (hides (at_instant w instant) alert silence) }
-    ensures all { (a : Alphabet) (s : Space) (w : World) (given : Bool) (silence : Silence)
-        (instant : ℤ) (alert : LabelMap)
-        → IsSilenceFinding a s w given silence (Some finding_is.All) → IsAlertOf a s alert
+    ensures all { (a : Alphabet) (s : Space) (w : World) (alerts : Option (List LabelMap))
+        (silence : Silence) (instant : ℤ) (alert : LabelMap)
+        → IsSilenceFinding a s w alerts silence (Some finding_is.All) → IsAlertOf a s alert
         → IsTrue (is_active (Some instant) silence)
         → IsTrue (hides (at_instant w instant) alert silence) }
 {}

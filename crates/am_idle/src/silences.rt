@@ -1,7 +1,7 @@
 //! Which silences do nothing, or hide everything.
 
 ghost use Rattle.std.specs.Prelude.{◌≡◌, ◌≢◌, [], slice_get, Some, IfOk};
-ghost use Rattle.std.specs.Prelude.{IfErr, OnOk};
+ghost use Rattle.std.specs.Prelude.{IfErr, OnOk, option_map};
 ghost use Rattle.std.specs.List.{AllZip, list_any};
 ghost use Rattle.am_universe.specs.declared.kind.Kind.TheVariants as kinds;
 ghost use Rattle.am_labels.specs.Matcher.{all_hold};
@@ -32,8 +32,8 @@ pub enum SilenceFinding {
 
 /// Finds what is wrong with each silence of a world, in their order, for every alert over an
 /// alphabet that no impossible list of a space matches. It is `None` for a silence that is over at
-/// the world's instant, or with which nothing is wrong. `Unused` is found only if `alerts_given`.
-/// The space declares no label, before and after.
+/// the world's instant, or with which nothing is wrong. `Unused` is found only with `alerts`, which
+/// are those that fire. The space declares no label, before and after.
 ///
 /// Fails for the first silence that is refused: with `Limit` if there is no room for the labels
 /// that its matchers and the impossible lists ask about; with `Unproved` if it could not be
@@ -44,11 +44,11 @@ pub fn find_silences(
     alphabet: Alphabet,
     space: &mut Space,
     world: &World,
-    alerts_given: bool,
+    alerts: Option<&Alerts>,
 ) -> Result<Vec<Option<SilenceFinding>>, FindingFault>
     requires { space.old.labels ≡ [] }
-    ensures found { IfOk result (λ found.
-        AllZip (IsSilenceFinding alphabet space.old world.now alerts_given)
+    ensures found { IfOk result (λ found. AllZip
+        (IsSilenceFinding alphabet space.old world.now (option_map (λ a. a.now) alerts.entry))
         world.now.silences found.items) }
     ensures refused { IfErr result (λ fault. fault.kind ≢ kinds.Memory
         → IsFirstRefused alphabet space.old world.now fault.position fault.kind) }
@@ -58,7 +58,7 @@ pub fn find_silences(
     let mut found = Vec::new(alloc);
     for i in 0..world.silences().len() {
         let silence = world.silences().get(i);
-        match find_silence(alloc, alphabet, space, world, i, silence, alerts_given) {
+        match find_silence(alloc, alphabet, space, world, i, silence, alerts) {
             Ok(finding) => push_finding(&mut found, i, finding)?,
             Err(kind) => return Err(FindingFault { position: i, kind }),
         }
@@ -74,12 +74,12 @@ fn find_silence(
     world: &World,
     position: usize,
     silence: &Silence,
-    alerts_given: bool,
+    alerts: Option<&Alerts>,
 ) -> Result<Option<SilenceFinding>, Kind>
     requires none { space.old.labels ≡ [] }
     requires silence { slice_get world.now.silences position ≡ Some silence.now }
-    ensures found { IfOk result
-        (IsSilenceFinding alphabet space.old world.now alerts_given silence.now) }
+    ensures found { IfOk result (IsSilenceFinding alphabet space.old world.now
+        (option_map (λ a. a.now) alerts.entry) silence.now) }
     ensures accepted { OnOk result (IsAccepted alphabet space.old world.now silence.now) }
     ensures refused { IfErr result (λ kind. kind ≢ kinds.Memory
         → IsSilenceRefused alphabet space.old world.now silence.now kind) }
@@ -93,7 +93,7 @@ fn find_silence(
         Extent::NoAlert => Ok(Some(SilenceFinding::Idle)),
         Extent::EachAlert => Ok(Some(SilenceFinding::All)),
         Extent::SomeAlerts => {
-            if alerts_given && is_unused(alloc, world, position, silence)? {
+            if is_unused(alloc, world, position, silence, alerts)? {
                 return Ok(Some(SilenceFinding::Unused));
             }
             Ok(None)
@@ -101,22 +101,25 @@ fn find_silence(
     }
 }
 
-/// Whether the silence at a position is active, and hides none of the alerts that fire. Fails only
-/// if memory runs out.
+/// Whether the silence at a position is active, and hides none of the alerts that fire. It is false
+/// if these are not known. Fails only if memory runs out.
 fn is_unused(
     alloc: Global,
     world: &World,
     position: usize,
     silence: &Silence,
+    alerts: Option<&Alerts>,
 ) -> Result<bool, AllocError>
     requires { slice_get world.now.silences position ≡ Some silence.now }
-    ensures { IfOk result (λ unused. unused ≡ is_unused world.now silence.now) }
+    ensures { IfOk result (λ unused. unused
+        ≡ is_unused world.now (option_map (λ a. a.now) alerts.entry) silence.now) }
 {
-    if !world.active(position) {
-        return Ok(false);
+    match alerts {
+        Some(alerts) if world.active(position) => {
+            Ok(!matches_any(alloc, silence.matchers(), alerts)?)
+        }
+        _ => Ok(false),
     }
-    let found = matches_any(alloc, silence.matchers(), world.alerts())?;
-    Ok(!found)
 }
 
 /// Whether a list of matchers matches one of some alerts. Fails only if memory runs out.

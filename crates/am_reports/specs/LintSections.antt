@@ -1,9 +1,10 @@
 -- What the sections of a report say about the rules, the silences and the values of a world, for
 -- every alert. (This project's own.)
-use Rattle.std.specs.Prelude.{◌≡◌, ◌+◌, ℕ, List, [], ◌∷◌, ◌++◌, Bool, Option, length, if◌then◌else◌}
+use Rattle.std.specs.Prelude.{◌≡◌, ◌+◌, ℕ, List, [], ◌∷◌, ◌++◌, Option, length}
 use Rattle.std.specs.List.{AllZip}
 use Rattle.am_universe.specs.declared.place.Place.{Place}
 use Rattle.am_universe.specs.declared.place.Place.TheVariants as places
+use Rattle.am_universe.specs.LabelSet.{LabelMap}
 use Rattle.am_labels.specs.Space.{Space}
 use Rattle.am_json.specs.Pointer.{Refusal}
 use Rattle.am_config.specs.ConfigFile.{Rule}
@@ -43,25 +44,25 @@ pub record SaysOfRules (a : Alphabet) (s : Space) (rules : List Rule) (section :
   pub findings : section.findings ≡ count_idle_rules found
   pub notes : section.notes ≡ 0
 
--- What the section says about each silence is true.
+-- What the section says about each silence is true. The alerts are those that fire, if known.
 -- Source: own choice.
 -- Example: it says nothing about a silence that is over.
-pub record SaysOfSilences (a : Alphabet) (s : Space) (w : World) (given : Bool)
-    (section : Section) : Type 0 where
+pub record SaysOfSilences (a : Alphabet) (s : Space) (w : World)
+    (alerts : Option (List LabelMap)) (section : Section) : Type 0 where
   pub found : List (Option SilenceFinding)
-  pub each : AllZip (IsSilenceFinding a s w given) w.silences found
+  pub each : AllZip (IsSilenceFinding a s w alerts) w.silences found
   pub lines : section.lines ≡ each_line silence_line 0 w.silences found
   pub findings : section.findings ≡ count_silence_findings found
   pub notes : section.notes ≡ count_silence_notes found
 
--- The section on the values that matchers name and that no alert has, if a file of alerts is given.
+-- The section on the values that matchers name and that no alert has.
 -- Source: own choice.
--- Example: without a file of alerts it has no line.
-abbrev pub values_section : Bool → World → Section
-values_section given w = record {
-  lines = if given then unseen_lines (unseen_values w) else [];
+-- Example: without a file of alerts the world has none, and the section has no line.
+abbrev pub values_section : World → Section
+values_section w = record {
+  lines = unseen_lines (unseen_values w);
   findings = 0;
-  notes = if given then length (unseen_values w) else 0;
+  notes = length (unseen_values w);
 }
 
 -- ---- Why there is no such section.

@@ -1,6 +1,8 @@
 -- What `lint` owes. (This project's own.)
-use Rattle.std.specs.Prelude.{◌≡◌, ◌⊎◌, ℕ, List, [], ◌∷◌, ◌++◌, Bool, nat_lt, is_some}
+use Rattle.std.specs.Prelude.{◌≡◌, ◌⊎◌, ℕ, List, [], ◌∷◌, ◌++◌, Bool, nat_lt}
+use Rattle.std.specs.Prelude.{Option, option_map}
 use Rattle.am_universe.specs.declared.place.Place.{Place}
+use Rattle.am_universe.specs.LabelSet.{LabelMap}
 use Rattle.am_labels.specs.Space.{Space}
 use Rattle.am_json.specs.Pointer.{Refusal}
 use Rattle.am_eval.specs.World.{World}
@@ -36,29 +38,29 @@ RefusesLint inputs place r =
     × IsLintRefusal inputs.alphabet s w place r
 
 -- The text is a report on a world, for every alert that counts, with this number of findings. What
--- its sections say about routes and receivers, rules, silences and values is true. If `given`, a
--- file of alerts is given.
+-- its sections say about routes and receivers, rules, silences and values is true. The alerts are
+-- those that fire, if they are known.
 -- Source: own choice.
 -- Example: if some ordinary alert ends at each route, each receiver gets one, and there are no
 -- rules, silences and alerts, the report is `# 0 findings, 0 notes`.
-pub record IsLintReport (a : Alphabet) (given : Bool) (s : Space) (w : World) (findings : ℕ)
-    (report : List ℕ) : Type 0 where
+pub record IsLintReport (a : Alphabet) (s : Space) (w : World) (alerts : Option (List LabelMap))
+    (findings : ℕ) (report : List ℕ) : Type 0 where
   pub routes : Section
   pub says_of_routes :
       SaysOfRoutes a (undeclared s) w.config routes.findings routes.notes routes.lines
   pub rules : Section
   pub says_of_rules : SaysOfRules a (undeclared s) w.config.rules rules
   pub silences : Section
-  pub says_of_silences : SaysOfSilences a (undeclared s) w given silences
+  pub says_of_silences : SaysOfSilences a (undeclared s) w alerts silences
   pub counted : findings
-      ≡ all_findings (routes ∷ rules ∷ silences ∷ values_section given w ∷ [])
-  pub text : report ≡ report_text (routes ∷ rules ∷ silences ∷ values_section given w ∷ [])
+      ≡ all_findings (routes ∷ rules ∷ silences ∷ values_section w ∷ [])
+  pub text : report ≡ report_text (routes ∷ rules ∷ silences ∷ values_section w ∷ [])
 
 -- No label that the space declares lacks a value, and the text is such a report.
-pub record IsLinted (a : Alphabet) (given : Bool) (s : Space) (w : World) (findings : ℕ)
-    (report : List ℕ) : Type 0 where
+pub record IsLinted (a : Alphabet) (s : Space) (w : World) (alerts : Option (List LabelMap))
+    (findings : ℕ) (report : List ℕ) : Type 0 where
   pub whole : AreDeclaredWhole a s (One w.config) s.labels
-  pub reports : IsLintReport a given s w findings report
+  pub reports : IsLintReport a s w alerts findings report
 
 -- The inputs are accepted, no label that the universe file declares lacks a value, and the text is
 -- a report of what is wrong with the configuration, for every possible alert; with `--ascii`, for
@@ -73,8 +75,8 @@ pub record LintsFiles (inputs : LintInputs) (found : Bool) (report : List ℕ) :
   pub accepts : AcceptsLintInputs inputs space world
   pub findings : ℕ
   pub is_found : found ≡ nat_lt 0 findings
-  pub linted :
-      IsLinted inputs.alphabet (is_some inputs.files.alerts) space world findings report
+  pub linted : IsLinted inputs.alphabet space world
+      (option_map (λ file. world.alerts) inputs.files.alerts) findings report
 
 -- What `lint` owes. It returns whether there is a finding.
 -- Source: own choice.

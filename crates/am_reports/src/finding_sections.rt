@@ -4,6 +4,7 @@
 //! silence the difference matters only if it has such a pattern, and `lint --ascii` shows it.
 
 ghost use Rattle.std.specs.Prelude.{◌≡◌, ◌≢◌, [], length, string_bytes, IfOk, IfErr, OnOk};
+ghost use Rattle.std.specs.Prelude.{option_map};
 ghost use Rattle.std.specs.List.{AllZip};
 ghost use Rattle.am_universe.specs.declared.kind.Kind.TheVariants as kinds;
 ghost use Rattle.am_json.specs.Reading.{refusal_of};
@@ -24,7 +25,7 @@ use am_idle::{
     find_rules, find_silences, push_rule_line, push_silence_line,
 };
 use am_labels::Space;
-use am_list_files::Silences;
+use am_list_files::{Alerts, Silences};
 use am_universe::{Fault, Kind, Place};
 use am_unseen::{push_unseen, unseen_values};
 use std::alloc::{AllocError, Global};
@@ -84,8 +85,8 @@ fn rule_lines(
     Ok(lines)
 }
 
-/// Makes the section on the silences of a world, for the same alerts. If `given`, there is a file
-/// of firing alerts, and the section also says which active silences hide none of them.
+/// Makes the section on the silences of a world, for the same alerts. If it is known which alerts
+/// fire, the section also says which active silences hide none of them.
 ///
 /// Fails with `Limit` or `Unproved`, at `Silences` and with the pointer of the first silence for
 /// whose matchers no universe can be made, and with `Memory`.
@@ -94,14 +95,15 @@ pub(crate) fn silence_section(
     alphabet: Alphabet,
     space: &mut Space,
     world: &World,
-    given: bool,
+    alerts: Option<&Alerts>,
 ) -> Result<Section, Fault>
     requires { space.old.labels ≡ [] }
-    ensures says { IfOk result (SaysOfSilences alphabet space.old world.now given) }
+    ensures says { IfOk result (SaysOfSilences alphabet space.old world.now
+        (option_map (λ a. a.now) alerts.entry)) }
     ensures refused { IfErr result (λ fault. fault.kind ≢ kinds.Memory
         → IsSilencesRefusal alphabet space.old world.now fault.place (refusal_of fault)) }
 {
-    let found = match find_silences(alloc, alphabet, space, world, given) {
+    let found = match find_silences(alloc, alphabet, space, world, alerts) {
         Ok(found) => found,
         Err(fault) => return Err(fault_at(
             alloc,
@@ -138,22 +140,11 @@ fn silence_lines(
 }
 
 /// Makes the section on values that matchers of a world name and that none of its alerts has. It
-/// has no line unless a file of alerts is `given`. Fails only if memory runs out.
-pub(crate) fn value_section(
-    alloc: Global,
-    world: &World,
-    given: bool,
-) -> Result<Section, AllocError>
-    ensures { IfOk result (λ section. section ≡ values_section given world.now) }
+/// has no line if there are no alerts. Fails only if memory runs out.
+pub(crate) fn value_section(alloc: Global, world: &World) -> Result<Section, AllocError>
+    ensures { IfOk result (λ section. section ≡ values_section world.now) }
 {
     let mut lines = String::new(alloc);
-    if !given {
-        return Ok(Section {
-            lines,
-            findings: 0,
-            notes: 0,
-        });
-    }
     let found = unseen_values(alloc, world)?;
     push_unseen(alloc, &mut lines, found.as_slice())?;
     Ok(Section {

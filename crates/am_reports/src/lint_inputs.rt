@@ -1,6 +1,6 @@
 //! The inputs of `lint`.
 
-ghost use Rattle.std.specs.Prelude.{◌≡◌, is_some, IfOk, IfErr};
+ghost use Rattle.std.specs.Prelude.{◌≡◌, option_map, IfOk, IfErr};
 ghost use Rattle.am_files.specs.Faults.{IsFirstFault};
 ghost use Rattle.am_reports.specs.LintInputs.{AcceptsLintInputs, lint_input_stages};
 
@@ -8,6 +8,7 @@ use am_classes::Alphabet;
 use am_eval::World;
 use am_files::{Files, read_universe_if_any, read_world};
 use am_labels::Space;
+use am_list_files::Alerts;
 use am_universe::Fault;
 use std::alloc::Global;
 use std::marker::Model;
@@ -39,12 +40,13 @@ impl<'a> Model for LintInputs<'a> {
 }
 
 impl<'a> LintInputs<'a> {
-    /// Whether there is a file of alerts.
-    pub(crate) fn has_alerts(&self) -> bool
-        ensures { result ≡ is_some self.now.files.alerts }
+    /// The alerts of a world, if there is a file of alerts.
+    pub(crate) fn alerts_if_any<'w>(&self, world: &'w World) -> Option<&'w Alerts>
+        ensures { option_map (λ a. a.now) result
+            ≡ option_map (λ file. world.now.alerts) self.now.files.alerts }
     {
         let files = self.files;
-        files.alerts.is_some()
+        files.alerts.and(Some(world.alerts()))
     }
 }
 

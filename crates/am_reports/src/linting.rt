@@ -1,6 +1,6 @@
 //! The command `lint`.
 
-ghost use Rattle.std.specs.Prelude.{◌≢◌, IfOk, IfErr, string_bytes};
+ghost use Rattle.std.specs.Prelude.{◌≢◌, IfOk, IfErr, option_map, string_bytes};
 ghost use Rattle.am_universe.specs.declared.kind.Kind.TheVariants as kinds;
 ghost use Rattle.am_json.specs.Reading.{refusal_of};
 ghost use Rattle.am_files.specs.Promise.{IsKept};
@@ -16,6 +16,7 @@ use crate::section::{LintReport, report_of};
 use am_classes::Alphabet;
 use am_eval::World;
 use am_labels::Space;
+use am_list_files::Alerts;
 use am_universe::{Fault, Sink, Universe, answer_of_write, put_str};
 use std::alloc::Global;
 
@@ -51,25 +52,25 @@ pub fn lint<W: Sink>(alloc: Global, inputs: &LintInputs<'_>, out: &mut W) -> Res
     ensures kept { IsKept (lint_promise inputs.now) W.taken W.failures out.old out.new result }
 {
     let mut read = read_lint_inputs(alloc, inputs)?;
-    let given = inputs.has_alerts();
-    let lint = lint_report(alloc, inputs.alphabet, given, &mut read.space, &read.world)?;
+    let alerts = inputs.alerts_if_any(&read.world);
+    let lint = lint_report(alloc, inputs.alphabet, &mut read.space, &read.world, alerts)?;
     answer_of_write(
         alloc,
         put_str(out, lint.text.as_str()).and(Ok(lint.findings > 0)),
     )
 }
 
-/// Makes the report on what was read. If `given`, there is a file of firing alerts. At the end the
-/// space has no labels.
+/// Makes the report on what was read. The alerts are those that fire, if they are known. At the end
+/// the space has no labels.
 fn lint_report(
     alloc: Global,
     alphabet: Alphabet,
-    given: bool,
     space: &mut Space,
     world: &World,
+    alerts: Option<&Alerts>,
 ) -> Result<LintReport, Fault>
-    ensures reports { IfOk result (λ report. IsLinted alphabet given space.old world.now
-        report.findings (string_bytes report.text)) }
+    ensures reports { IfOk result (λ report. IsLinted alphabet space.old world.now
+        (option_map (λ a. a.now) alerts.entry) report.findings (string_bytes report.text)) }
     ensures refused { IfErr result (λ fault. fault.kind ≢ kinds.Memory
         → IsLintRefusal alphabet space.old world.now fault.place (refusal_of fault)) }
 {
@@ -77,8 +78,8 @@ fn lint_report(
     space.declare(Universe::empty(alloc));
     let routes = route_section(alloc, alphabet, space, world.config())?;
     let rules = rule_section(alloc, alphabet, space, world.config().rules())?;
-    let silences = silence_section(alloc, alphabet, space, world, given)?;
-    let Ok(values) = value_section(alloc, world, given) else {
+    let silences = silence_section(alloc, alphabet, space, world, alerts)?;
+    let Ok(values) = value_section(alloc, world) else {
         return Err(Fault::memory(alloc));
     };
     match report_of(alloc, &routes, &rules, &silences, &values) {

@@ -6,10 +6,10 @@ use Rattle.am_idle.proofs.laws.an_idle_silence_hides_no_alert.Goals as goal
 
 pub returns : goal.returns
 returns c = record {
-  idle = λ a s w given silence instant alert said is.
+  idle = λ a s w alerts silence instant alert said is.
       and_right (is_active (Some instant) silence) (all_hold alert silence.matchers)
       (said.1 alert is);
-  all = λ a s w given silence instant alert said is active.
+  all = λ a s w alerts silence instant alert said is active.
       and_from (is_active (Some instant) silence) (all_hold alert silence.matchers) active
       (said.2 alert is);
 }

@@ -1,13 +1,10 @@
 -- What is said of a silence, by how far its matchers reach.
-use Rattle.std.proofs.Common.{◌≡◌, false, sym, ap, ◌∙◌, inr}
-use Rattle.std.specs.Prelude.{◌&&◌}
+use Rattle.std.proofs.Common.{◌≡◌, false, sym, ◌∙◌, inr}
 use Rattle.am_eval.specs.Silencing.{is_over}
 use Rattle.am_every_alert.specs.EveryAlert.{IsAlertOf}
 use Rattle.am_idle.specs.Extent.{IsExtent}
-use Rattle.am_idle.specs.Silences.{is_unused}
 use Rattle.am_idle.proofs.silences.find_silence.Goals as goal
 use Rattle.am_idle.proofs.silences.find_silence.Goals.{In_ok-extent_of}
-use Rattle.am_idle.proofs.silences.find_silence.Goals.{else-alerts_given-via-then-alerts_given+in_ok-is_unused-in-SomeAlerts+else-branch, else-alerts_given-via-else-alerts_given}
 
 reaches : (c : In_ok-extent_of) → IsExtent (IsAlertOf c.args.alphabet c.args.space.now)
     c.args.silence.now.matchers c.in_ok-extent_of.field-0
@@ -28,21 +25,11 @@ returns-then-branch-clause-found c =
       lasts at,
       e.0,
       e.1,
-      c.if-alerts_given.true,
       sym c.in_ok-is_unused-in-SomeAlerts.ensures ∙ c.if-branch.true,
     )
 
-pub returns-else-alerts_given-clause-found : goal.returns-else-alerts_given-clause-found
-returns-else-alerts_given-clause-found c =
-    let at = (goal.at.returns-else-alerts_given-clause-found c).In_ok-extent_of in
+pub returns-else-branch-clause-found : goal.returns-else-branch-clause-found
+returns-else-branch-clause-found c =
+    let at = (goal.at.returns-else-branch-clause-found c).In_ok-extent_of in
     let e = rw c.in-SomeAlerts.is at (reaches at) in
-    let unused = is_unused c.args.world.now c.args.silence.now in
-    let quiet : (c.args.alerts_given && unused) ≡ false =
-    elim c.else-alerts_given.branch [
-      | else-alerts_given-via-then-alerts_given+in_ok-is_unused-in-SomeAlerts+else-branch w ↦
-          ap (λ b. b && unused) w.if-alerts_given.true
-          ∙ sym w.in_ok-is_unused-in-SomeAlerts.ensures ∙ w.if-branch.false
-      | else-alerts_given-via-else-alerts_given w ↦
-          ap (λ b. b && unused) w.if-alerts_given.false
-    ] in
-    inr (e.0, e.1, quiet)
+    inr (e.0, e.1, sym c.in_ok-is_unused-in-SomeAlerts.ensures ∙ c.if-branch.false)

@@ -1,5 +1,5 @@
 -- One more silence, or the first that is refused.
-use Rattle.std.proofs.Common.{◌∙◌, subst}
+use Rattle.std.proofs.Common.{◌∙◌, option_map, subst}
 use Rattle.am_labels.specs.Space.{Space}
 use Rattle.am_complete.proofs.Pushed.{one_more_passes}
 use Rattle.am_idle.specs.Silences.{IsSilenceFinding, IsAccepted, IsSilenceRefused}
@@ -25,20 +25,20 @@ loop-i-preserved c =
     let w = c.args.world.now in
     let s = c.args.space.now in
     let a = c.args.alphabet in
-    let given = c.args.alerts_given in
+    let alerts = option_map (λ a. a.now) c.args.alerts in
     let i = c.loop-i.i in
     let silence = c.get-silence.result.now in
     let finding = c.in-Ok.finding in
     let kept = c.loop-i.invariant in
     let at = rw c.silences-in-loop-i.ensures.silences at c.get-silence.ensures.silence in
     let same = same_space c.loop-i.space s kept.labels c.requires kept.impossible in
-    let is : IsSilenceFinding a s w given silence finding =
-    subst (λ (t : Space). IsSilenceFinding a t w given silence finding) same
+    let is : IsSilenceFinding a s w alerts silence finding =
+    subst (λ (t : Space). IsSilenceFinding a t w alerts silence finding) same
     c.in-Ok.ensures.found in
     let accepted : IsAccepted a s w silence =
     subst (λ (t : Space). IsAccepted a t w silence) same c.in-Ok.ensures.accepted in
     record {
-      found = zip_more (IsSilenceFinding a s w given) w.silences i silence finding
+      found = zip_more (IsSilenceFinding a s w alerts) w.silences i silence finding
           c.loop-i.found.items _ at c.in_ok-push_finding-in-Ok.ensures.added kept.found is;
       accepted = one_more_passes (IsAccepted a s w) w.silences i silence at kept.accepted accepted;
       labels = c.find_silence.ensures.labels;

@@ -53,7 +53,7 @@ returns g c =
             accepts = c.in_ok-read.ensures.accepts;
             findings = lint.findings;
             is_found = refl;
-            linted = rw (over, c.has_alerts-given.ensures) at c.in_ok-lint.ensures.reports;
+            linted = rw (over, c.alerts_if_any-alerts.ensures) at c.in_ok-lint.ensures.reports;
           })
           (told_beside c.put_str.result found)
           (writes_beside c.put_str.result found
