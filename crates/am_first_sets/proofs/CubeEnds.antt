@@ -28,6 +28,7 @@ use Rattle.am_eval.specs.Conditions.{Literal, literal_holds, some_way_holds, mat
 use Rattle.am_eval.specs.Conditions.{no_child_of, stopped_by_none, ways_into, ways_below}
 use Rattle.am_eval.proofs.ConditionLaws as conditions
 use Rattle.am_eval.proofs.SomeWay.{some_way-literal, some_way-front}
+use Rattle.am_first_sets.specs.declared.route_cubes.Kin.TheVariants.{EarlierSiblings, Children}
 use Rattle.am_first_sets.specs.declared.route_cubes.RouteCubes.{RouteCubes}
 use Rattle.am_first_sets.specs.declared.route_cubes.RouteCubes.TheViews.{out-RouteCubes}
 use Rattle.am_first_sets.specs.ChoiceEnds.{is_end_at}
@@ -222,18 +223,18 @@ module _ (choice : List ℕ) where
         (λ child. ends_by choice child rest) o
 
     down : (p : ℕ) (rest : List ℕ) (o : Option RouteCubes) → left ≡ p ∷ rest → slice_get rs p ≡ o
-        → ((first && others) && (none_stops false choice (take p rs) && into rest o)) ≡ end
+        → ((first && others) && (none_stops EarlierSiblings choice (take p rs) && into rest o)) ≡ end
     down p rest o goes there =
         ap (λ b. (first && others) && b)
         (sym (ap (ends_by choice r) goes
-        ∙ (λ i. none_stops false choice (take p (sym same i))
+        ∙ (λ i. none_stops EarlierSiblings choice (take p (sym same i))
         && into rest ((ap (λ xs. slice_get xs p) (sym same) ∙ there) i))))
         ∙ on
 
     pub one_step : (longer more : List (Bor MaskedLabels)) (ref : Bor MaskedLabels) (p : ℕ)
         (rest : List ℕ) (child : RouteCubes) → left ≡ p ∷ rest → slice_get rs p ≡ Some child
         → ref.now ≡ (out-RouteCubes child).cube → longer ≡ wanted ++ ref ∷ []
-        → avoids more choice ≡ (others && none_stops false choice (take p rs))
+        → avoids more choice ≡ (others && none_stops EarlierSiblings choice (take p rs))
         → on_way longer more child rest ≡ end
     one_step longer more ref p rest child goes there is adds also_none =
         let matched = matches (out-RouteCubes child).cube choice in
@@ -243,22 +244,22 @@ module _ (choice : List ℕ) where
         ∙ ap (λ b. first && b) (and_true (matches ref.now choice)
         ∙ ap (λ (cube : MaskedLabels). matches cube choice) is) in
         (λ i. (also i && also_none i) && ends_by choice child rest)
-        ∙ in_order first others (none_stops false choice (take p rs)) matched
+        ∙ in_order first others (none_stops EarlierSiblings choice (take p rs)) matched
         (ends_by choice child rest)
         ∙ down p rest (Some child) goes there
 
     pub last_step : (more : List (Bor MaskedLabels)) → left ≡ []
-        → avoids more choice ≡ (others && none_stops true choice rs)
+        → avoids more choice ≡ (others && none_stops Children choice rs)
         → meets_cubes wanted more choice ≡ end
     last_step more ends also_none =
-        ap (λ b. first && b) also_none ∙ and_in first others (none_stops true choice rs)
+        ap (λ b. first && b) also_none ∙ and_in first others (none_stops Children choice rs)
         ∙ ap (λ b. (first && others) && b)
-        (ap (none_stops true choice) same ∙ sym (ap (ends_by choice r) ends))
+        (ap (none_stops Children choice) same ∙ sym (ap (ends_by choice r) ends))
         ∙ on
 
     pub no_step : (p : ℕ) (rest : List ℕ) → left ≡ p ∷ rest → length rs ≤ p → false ≡ end
     no_step p rest goes past =
         sym (ap (λ b. (first && others) && b)
-        (and_right (none_stops false choice (take p rs)) false refl)
+        (and_right (none_stops EarlierSiblings choice (take p rs)) false refl)
         ∙ and_right (first && others) false refl)
         ∙ down p rest None goes (slice_get_past rs p past)

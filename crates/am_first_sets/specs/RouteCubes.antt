@@ -11,6 +11,8 @@ use Rattle.am_judged_lists.specs.Cube.{MaskedLabels, verdict_at, matches}
 use Rattle.am_judged_lists.specs.Verdicts.{verdict_of_list}
 use Rattle.am_eval.specs.declared.reach.Reach.{Reach}
 use Rattle.am_eval.specs.declared.reach.Reach.TheVariants.{Ends, Enters}
+use Rattle.am_first_sets.specs.declared.route_cubes.Kin.{Kin}
+use Rattle.am_first_sets.specs.declared.route_cubes.Kin.TheVariants.{EarlierSiblings, Children}
 use Rattle.am_first_sets.specs.declared.route_cubes.RouteCubes.{RouteCubes}
 use Rattle.am_first_sets.specs.declared.route_cubes.RouteCubes.TheViews.{out-RouteCubes}
 use Rattle.am_first_sets.specs.declared.route_cubes.RouteWay.{RouteWay}
@@ -81,11 +83,12 @@ abbrev pub ends_by : List ℕ → RouteCubes → List ℕ → Bool
 ends_by choice r path =
     reaches_by (λ cube. matches cube choice) (λ cube. not (matches cube choice)) Ends r path
 
--- None of some siblings matches a choice; those with `continue` are ignored unless all count.
-abbrev pub none_stops : Bool → List ℕ → List RouteCubes → Bool
-none_stops all choice siblings =
-    list_all (λ r. (not all && (out-RouteCubes r).continues)
-    || not (matches (out-RouteCubes r).cube choice)) siblings
+-- None of some routes matches a choice; earlier siblings with `continue` are ignored.
+abbrev pub none_stops : Kin → List ℕ → List RouteCubes → Bool
+none_stops EarlierSiblings choice rs =
+    list_all (λ r. (out-RouteCubes r).continues || not (matches (out-RouteCubes r).cube choice)) rs
+none_stops Children choice rs =
+    list_all (λ r. not (matches (out-RouteCubes r).cube choice)) rs
 
 -- There is a way, and a choice goes it: it matches each route that must match, and none of those
 -- that must not.

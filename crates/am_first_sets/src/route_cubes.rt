@@ -29,6 +29,13 @@ pub struct RouteCubes {
     pub routes: Vec<RouteCubes>,
 }
 
+/// How some routes stand to a route that an alert gets to.
+#[derive(Clone, Copy)]
+pub(crate) enum Kin {
+    EarlierSiblings,
+    Children,
+}
+
 /// The way to end at a route. It has the cubes of the routes that must match, and of those that
 /// must not: the earlier siblings of these that lack `continue`, and the children of the last.
 #[derive(Drop)]
@@ -74,11 +81,11 @@ impl RouteCubes {
             if position >= children.len() {
                 return Ok(None);
             }
-            push_stops(&mut unwanted, &children[..position], false)?;
+            push_stops(&mut unwanted, &children[..position], Kin::EarlierSiblings)?;
             route = &children[position];
             wanted.push(&route.cube)?;
         }
-        push_stops(&mut unwanted, route.routes.as_slice(), true)?;
+        push_stops(&mut unwanted, route.routes.as_slice(), Kin::Children)?;
         Ok(Some(RouteWay { wanted, unwanted }))
     }
 }
@@ -101,19 +108,20 @@ fn cubes_of_routes(
     Ok(cubes)
 }
 
-/// Adds the cubes of some siblings. Those with `continue` are added only if `all` is true. Fails
-/// only if memory runs out.
+/// Adds the cubes of some routes, but not those of earlier siblings with `continue`. Fails only if
+/// memory runs out.
 fn push_stops<'a>(
     cubes: &mut Vec<&'a Cube>,
-    siblings: &'a [RouteCubes],
-    all: bool,
+    routes: &'a [RouteCubes],
+    kin: Kin,
 ) -> Result<(), AllocError>
     ensures { OnOk result ((choice : List ℕ) → avoids cubes.new.items choice
-        ≡ (avoids cubes.old.items choice && none_stops all choice siblings.now)) }
+        ≡ (avoids cubes.old.items choice && none_stops kin choice routes.now)) }
 {
-    for sibling in siblings {
-        if all || !sibling.continues {
-            cubes.push(&sibling.cube)?;
+    for route in routes {
+        match kin {
+            Kin::EarlierSiblings if route.continues => {}
+            _ => cubes.push(&route.cube)?,
         }
     }
     Ok(())
