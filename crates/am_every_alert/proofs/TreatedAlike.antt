@@ -98,11 +98,11 @@ module _ (s t : LabelMap) where
   -- ---- Silences and impossible lists.
 
   -- what is met alike of the matchers of all items is met alike of those of each
-  each_met : {X : Type 0} (conditions : X → List Matcher) (xs : List X) (x : X) → IsIn xs x
-      → MeetsTheSame (flat_map conditions xs) s t → MeetsTheSame (conditions x) s t
-  each_met conditions xs x there h =
-      AllByRecursion-each IsMetAlike (conditions x) (λ m i.
-      AllByRecursion-at IsMetAlike (flat_map conditions xs) m h (joined_in conditions xs x m there i))
+  each_met : {X : Type 0} (asked : X → List Matcher) (xs : List X) (x : X) → IsIn xs x
+      → MeetsTheSame (flat_map asked xs) s t → MeetsTheSame (asked x) s t
+  each_met asked xs x there h =
+      AllByRecursion-each IsMetAlike (asked x) (λ m i.
+      AllByRecursion-at IsMetAlike (flat_map asked xs) m h (joined_in asked xs x m there i))
 
   any_alike : {X : Type 0} (f g : X → Bool) (xs : List X)
       → ((x : X) → IsIn xs x → f x ≡ g x) → list_any f xs ≡ list_any g xs

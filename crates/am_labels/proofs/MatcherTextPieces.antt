@@ -9,7 +9,7 @@ use Rattle.am_labels.specs.Matcher.{Matcher}
 use Rattle.am_labels.specs.MatcherText.{is_blank, is_separator, separators, pieces_from, without_blank_last, matcher_pieces, pieces_of_words, without_opening, without_closing}
 use Rattle.am_labels.specs.MatcherReading.{IsReadFailure, ◌>>=◌, read_piece, read_each_piece}
 
--- What is read, after the conditions that were read before.
+-- What is read, after the matchers that were read before.
 abbrev pub after : List Matcher → Option (List Matcher) → Option (List Matcher)
 after front None = None
 after front (Some ms) = Some (front ++ ms)
@@ -64,7 +64,7 @@ pub told_at_end : (text : List ℕ) (start i : ℕ) (last : List ℕ) (done all 
     → done ++ cond (is_blank last) [] (last ∷ []) ≡ all
 told_at_end text start i last done all l e told = rw (e, ← left_at_end text start i l) told
 
--- ---- the conditions that were read so far, and the pieces that are left
+-- ---- the matchers that were read so far, and the pieces that are left
 
 pub after_one : (front : List Matcher) (m : Matcher) (o : Option (List Matcher)) → after front (o >>= λ ms. Some (m ∷ ms)) ≡ after (front ++ m ∷ []) o
 after_one front m None = refl

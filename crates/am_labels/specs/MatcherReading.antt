@@ -69,7 +69,7 @@ read_name text =
     Some (take (prefix_len continues_name text) text, drop (prefix_len continues_name text) text)
     else None
 
--- The condition that a piece spells.
+-- The matcher that a piece spells.
 unfoldable pub read_piece : List ℕ → Option Matcher
 read_piece piece = do
   name ← read_name (without_leading_blanks piece)
@@ -77,7 +77,7 @@ read_piece piece = do
   body ← read_body (without_trailing_blanks (without_leading_blanks op.1))
   Some (record { name = name.0; op = op.0; value = unescaped_text body })
 
--- The conditions that pieces spell, one by one.
+-- The matchers that pieces spell, one by one.
 unfoldable pub read_each_piece : List (List ℕ) → Option (List Matcher)
 read_each_piece [] = Some []
 read_each_piece (piece ∷ more) = do

@@ -1,4 +1,4 @@
--- What a matcher text spells: a list of conditions, each with a name, an operator and a value. The
+-- What a matcher text spells: a list of matchers, each with a name, an operator and a value. The
 -- definitions use indices into the text, which is a list of bytes, and counts, but not the states
 -- of a reader. The syntax is the classic one. If the reference leaves something open, the reading
 -- is this project's own.
@@ -140,7 +140,7 @@ IsLongest op text =
     (other : Op) (rest : List ℕ) → text ≡ operator_text other ++ rest
     → length (operator_text other) ≤ length (operator_text op)
 
--- A piece spells a condition: whitespace, a name, whitespace, an operator, whitespace, a raw value,
+-- A piece spells a matcher: whitespace, a name, whitespace, an operator, whitespace, a raw value,
 -- whitespace. Each whitespace may be empty. The operator is the longest one there.
 -- Source: Alertmanager configuration reference 0.25, "<matcher>".
 -- Example: ` team = db ` spells the name `team`, the operator `=` and the value `db`.
@@ -158,10 +158,10 @@ pub record SpellsOne (piece : List ℕ) (m : Matcher) : Type 0 where
   pub trimmed : IsTrue (is_trimmed raw)
   pub value : HasValue raw m.value
 
--- A text spells a list of conditions: after its braces are removed, its pieces spell them one by
+-- A text spells a list of matchers: after its braces are removed, its pieces spell them one by
 -- one.
 -- Source: Alertmanager configuration reference 0.25, "<matcher>".
--- Example: `{team="db",severity=~"crit.*"}` spells two conditions; the empty text spells the empty
+-- Example: `{team="db",severity=~"crit.*"}` spells two matchers; the empty text spells the empty
 -- list.
 abbrev pub Spells : List ℕ → List Matcher → Type 0
 Spells text ms = AllZip SpellsOne (matcher_pieces (without_closing (without_opening text))) ms
@@ -175,10 +175,10 @@ pieces_of_words [] = []
 pieces_of_words (text ∷ []) = matcher_pieces (without_closing (without_opening text))
 pieces_of_words (word ∷ next ∷ more) = word ∷ next ∷ more
 
--- Words spell a list of conditions: their pieces spell them one by one. So one word spells what it
--- spells as a text, and each of several words spells one condition.
+-- Words spell a list of matchers: their pieces spell them one by one. So one word spells what it
+-- spells as a text, and each of several words spells one matcher.
 -- Source: amtool 0.25, "config routes test": each label is a word of its own; one word: own choice.
--- Example: `team=db` and `note=a,b` spell two conditions, the second with the value `a,b`;
+-- Example: `team=db` and `note=a,b` spell two matchers, the second with the value `a,b`;
 -- `{team=db` and `note=a}` spell none.
 abbrev pub WordsSpell : List (List ℕ) → List Matcher → Type 0
 WordsSpell words ms = AllZip SpellsOne (pieces_of_words words) ms

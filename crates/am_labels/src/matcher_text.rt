@@ -84,8 +84,8 @@ fn matchers_of(alloc: Global, list: Vec<SpelledMatcher>) -> Result<Matchers, Kin
         kind ≢ kinds.Memory → PatternsRefusedFor list.items kind) }
 {
     let mut matchers = Matchers::empty(alloc);
-    for condition in list {
-        matchers.push(Matcher::new(alloc, condition.name, condition.op, condition.value)?)?;
+    for spelled in list {
+        matchers.push(Matcher::new(alloc, spelled.name, spelled.op, spelled.value)?)?;
     }
     Ok(matchers)
 }
