@@ -142,13 +142,13 @@ impl Tally {
         }
     }
 
-    /// Ends the report with a line that counts the wrong cases. In a file of mistakes each case has
-    /// to be wrong, so the right ones are counted as wrong.
+    /// Ends the report with a line that counts the cases. In a file of mistakes each case must be
+    /// wrong, so the right ones are counted as wrong.
     pub fn end(&mut self, is_mistaken: bool) -> Result<(), AllocError> {
         if is_mistaken {
             self.wrong = self.cases.saturating_sub(self.wrong);
         }
-        let (name, wrong) = (self.name.as_str(), self.wrong);
-        write!(self.report, "{name}: {wrong} wrong")
+        let (name, cases, wrong) = (self.name.as_str(), self.cases, self.wrong);
+        write!(self.report, "{name}: {cases} cases, {wrong} wrong")
     }
 }

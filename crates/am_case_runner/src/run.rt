@@ -8,9 +8,8 @@ use std::rt::{Files, Runtime};
 use std::{env, fs};
 
 /// Runs the files that the arguments name, or the case of one line, such as `ask.cases:12`, or else
-/// all files of the folder. Standard output says which cases are wrong, and standard error how many
-/// cases there are, so that a new case leaves the output as it is. The exit status is 0 if every
-/// case is right; 1 if one is wrong, or if a file cannot be read; and else 3, if memory ran out.
+/// all files of the folder. The exit status is 0 if every case is right; 1 if one is wrong, or if a
+/// file cannot be read; and else 3, if memory ran out.
 pub fn run_cases<R: Runtime + AllocGlobal, P: Program>(rt: &R, program: &P) -> ExitCode {
     match run_all(rt, program) {
         Ok(all) if all.wrong > 0 => ExitCode::from(1),
@@ -31,8 +30,6 @@ fn run_all<R: Runtime + AllocGlobal, P: Program>(rt: &R, program: &P) -> Result<
     }
     all.end(false)?;
     say(rt, all.report.as_str())?;
-    let cases = all.cases;
-    let _ = eprintln!(rt; "{cases} cases");
     Ok(all)
 }
 
