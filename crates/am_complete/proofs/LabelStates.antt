@@ -29,7 +29,7 @@ use Rattle.am_complete.specs.declared.label_state.Completeness.{Completeness}
 use Rattle.am_complete.specs.declared.label_state.Completeness.TheVariants as state_is
 use Rattle.am_complete.specs.declared.label_state.LabelState.{LabelState}
 use Rattle.am_complete.specs.Complete.{about, label_texts, texts_of_label, IsSpaceComplete}
-use Rattle.am_complete.specs.Complete.{IsSpaceCompleteAt}
+use Rattle.am_complete.specs.Complete.{IsSpaceCompleteAt, AreAmong}
 use Rattle.am_complete.specs.AskedLabel.{AskedLabel, asked_names, IsAskedOf}
 use Rattle.am_complete.specs.Covering.{CoverPossible, standing_texts}
 use Rattle.am_complete.specs.LabelState.{IsSoAt, is_settled, is_declared, reported_names}
@@ -39,6 +39,7 @@ use Rattle.am_complete.proofs.CompleteUniverses.{space_complete_without_matchers
 use Rattle.am_complete.proofs.CompleteUniverses.{space_complete_where_asked}
 use Rattle.am_complete.proofs.LabelTexts.{has_name}
 use Rattle.am_complete.proofs.AskedLabels.{on_name}
+use Rattle.am_complete.proofs.AmongMatchers.{among_none}
 use Rattle.am_complete.proofs.SameMatchers.{has_alike_among, cover_among, pattern_among}
 use Rattle.am_complete.proofs.SameMatchers.{same_classes}
 use Rattle.am_complete.proofs.PossibleTexts.{all_pass}
@@ -75,15 +76,16 @@ covered alphabet impossible name ms have texts covers each text valid possible =
     grind (arith, common_steps, alike_joined)
 
 pub found_is_so : (alphabet : Alphabet) (s : Space) (asked : List AskedLabel) (ms : List Matcher) (l : AskedLabel)
-    (c : Completeness) → IsAskedOf asked ms → IsIn asked l → l.name ≢ [] → IsFoundAt alphabet s l c
-    → IsSoAt alphabet s ms asked l.name c
-found_is_so alphabet s asked ms l (state_is.Complete n) asks i some h =
+    (c : Completeness) → IsAskedOf asked ms → IsIn asked l → l.name ≢ [] → l.matchers ≢ []
+    → IsFoundAt alphabet s l c → IsSoAt alphabet s ms asked l.name c
+found_is_so alphabet s asked ms l (state_is.Complete n) asks i some on h =
     let same = on_name asked ms l asks i some in (
       cover_among alphabet s.impossible l.name (about l.name ms) l.matchers
           (label_texts s.labels l.name) same.back h.0,
       same_classes alphabet s.impossible l.name l.matchers (about l.name ms) n same h.1,
+      λ none. on (among_none l.matchers (subst (AreAmong l.matchers) none same.there)),
     )
-found_is_so alphabet s asked ms l (state_is.Lacks text) asks i some h =
+found_is_so alphabet s asked ms l (state_is.Lacks text) asks i some on h =
     let same = on_name asked ms l asks i some in (
       h.0,
       h.1,
@@ -92,15 +94,15 @@ found_is_so alphabet s asked ms l (state_is.Lacks text) asks i some h =
           h.3 (has_alike_among l.matchers (about l.name ms) (label_texts s.labels l.name)
           (string_bytes text) same.there alike),
     )
-found_is_so alphabet s asked ms l state_is.Unasked asks i some h = absurd h
-found_is_so alphabet s asked ms l state_is.Undeclarable asks i some h =
+found_is_so alphabet s asked ms l state_is.Unasked asks i some on h = absurd h
+found_is_so alphabet s asked ms l state_is.Undeclarable asks i some on h =
     let same = on_name asked ms l asks i some in (
       h.0,
       λ complete.
           h.1 (cover_among alphabet s.impossible l.name l.matchers (about l.name ms)
           (label_texts s.labels l.name) same.there complete),
     )
-found_is_so alphabet s asked ms l (state_is.Unproved origin) asks i some h = (
+found_is_so alphabet s asked ms l (state_is.Unproved origin) asks i some on h = (
   (l, Contains-from_IsIn asked l i, refl, h.0),
   pattern_among l.matchers (about l.name ms) (on_name asked ms l asks i some).there h.1,
 )
@@ -151,6 +153,17 @@ none_more test xs i x at before fails =
 pub empty_begins : (text : List ℕ) → not (length text == 0) ≡ begins text
 empty_begins [] = refl
 empty_begins (c ∷ cs) = grind (arith, nat_tests)
+
+-- items in memory are none if they are counted as none, and only then
+pub none_counted : {X Y : Type 0} (f : X → Y) (xs : List X) → (length xs == 0) ≡ true
+    → map f xs ≡ []
+none_counted f [] e = refl
+none_counted f (x ∷ xs) e = grind (arith, nat_tests)
+
+pub some_counted : {X Y : Type 0} (f : X → Y) (xs : List X) → (length xs == 0) ≡ false
+    → map f xs ≢ []
+some_counted f [] e = absurd (cc)
+some_counted f (x ∷ xs) e = λ h. cc
 
 -- ---- All labels.
 

@@ -36,12 +36,12 @@ HasClasses a impossible name ms n =
     (texts : List (List ℕ)) × StandForPossible a impossible name ms texts × (length texts ≡ n)
 
 -- What is said about a space at the label of a name is true. `Complete`: the space is complete
--- there, and the label may have texts of this number of classes. `Lacks`: the label, which has a
--- label name, may have this text, which is over the alphabet, and no text of the universe is alike
--- to it. `Unasked`: no matcher asks about the label. `Undeclarable`: the space is not complete
--- there, and no universe can declare the label, because its name is no label name. `Unproved`: some
--- matcher on the label takes a pattern, and the first matcher on the label has this origin; no more
--- is said.
+-- there, the label may have texts of this number of classes, and some matcher asks about it.
+-- `Lacks`: the label, which has a label name, may have this text, which is over the alphabet, and
+-- no text of the universe is alike to it. `Unasked`: no matcher asks about the label.
+-- `Undeclarable`: the space is not complete there, and no universe can declare the label, because
+-- its name is no label name. `Unproved`: some matcher on the label takes a pattern, and the first
+-- matcher on the label has this origin; no more is said.
 -- Source: own choice.
 -- Example: for `team="db"` alone, a universe with `db` and absence is complete at `team`, which has
 -- two classes. So is one with `db` and `web`. One with `web` alone lacks `db`. For `a:b="x"` alone
@@ -50,6 +50,7 @@ abbrev pub IsSoAt :
     Alphabet → Space → List Matcher → List AskedLabel → List ℕ → Completeness → Type 0
 IsSoAt a s ms asked name (state_is.Complete classes) =
     IsSpaceCompleteAt a s ms name × HasClasses a s.impossible name (about name ms) classes
+    × (about name ms ≢ [])
 IsSoAt a s ms asked name (state_is.Lacks text) =
     IsTrue (is_label_name name) × IsOver a (string_bytes text)
     × IsTrue (may_have s.impossible name (string_bytes text))

@@ -99,10 +99,13 @@ fn completeness_of(
     ensures { IfOk result (λ found. (ms : List Matcher) → IsAskedOf asked.now ms
         → IsSoIfNamed alphabet space.now ms asked.now name.now found) }
 {
-    match label_of(asked, name) {
-        Some(label) => completeness_at(alloc, alphabet, space, label, alerts),
-        None => Ok(Completeness::Unasked),
+    let Some(label) = label_of(asked, name) else {
+        return Ok(Completeness::Unasked);
+    };
+    if label.matchers().is_empty() {
+        return Ok(Completeness::Unasked);
     }
+    completeness_at(alloc, alphabet, space, label, alerts)
 }
 
 /// Returns the label of this name among those that are asked about, if it is one.
