@@ -11,7 +11,8 @@ use Rattle.am_json.specs.Pointer.{Refusal, refusal_here}
 use Rattle.am_classes.specs.declared.alphabet.Alphabet.{Alphabet}
 use Rattle.am_complete.specs.AskedLabel.{AskedLabel}
 use Rattle.am_complete.specs.Complete.{IsSpaceComplete}
-use Rattle.am_complete.specs.Covering.{CoversEachBut, KeepsLabels, AddsNeeded, HasTextsOver}
+use Rattle.am_complete.specs.Covering.{CoversEachBut, KeepsLabels, AddsNeeded, AddsInOrder}
+use Rattle.am_complete.specs.Covering.{HasTextsOver}
 use Rattle.am_complete.specs.Room.{HaveNoRoom, AreUnproved}
 use Rattle.am_asked.specs.OriginPointer.{origin_pointer}
 
@@ -19,19 +20,21 @@ use Rattle.am_asked.specs.OriginPointer.{origin_pointer}
 abbrev pub undeclared : Space → Space
 undeclared s = record { labels = []; impossible = s.impossible }
 
--- A universe is made for matchers, from the labels of a space. With the impossible lists of the
--- space it is complete for the matchers, unless it may lack values. It keeps the labels and values
--- of the space, and adds only what is needed. If the texts of the space are over the alphabet, so
--- are its own.
+-- A universe is made for matchers, and for the labels that they ask about, from the labels of a
+-- space. With the impossible lists of the space it is complete for the matchers, unless it may lack
+-- values. It keeps the labels and values of the space, and adds only what is needed. The labels
+-- that it adds are in the order in which they are asked about. If the texts of the space are over
+-- the alphabet, so are its own.
 -- Source: own choice.
 -- Example: from a space without labels, for `team="db"`, it has `team` with absence and `db`.
-pub record IsMadeBeside (a : Alphabet) (may_lack : Bool) (s : Space) (ms : List Matcher)
-    (u : List Label) : Type 0 where
+pub record IsMadeBeside (a : Alphabet) (may_lack : Bool) (s : Space) (asked : List AskedLabel)
+    (ms : List Matcher) (u : List Label) : Type 0 where
   pub universe : IsUniverse u
   pub complete : may_lack ≡ false
       → IsSpaceComplete a (record { labels = u; impossible = s.impossible }) ms
   pub keeps : KeepsLabels s.labels u
   pub adds : AddsNeeded a s ms u
+  pub order : AddsInOrder s.labels asked u
   pub over : HasTextsOver a s.labels → HasTextsOver a u
 
 -- ---- Why no universe is made.

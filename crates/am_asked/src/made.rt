@@ -35,7 +35,8 @@ pub fn universe_for<'a, 'm>(
     requires { (ms : List Matcher) × IsAskedOf asked.now ms
         × AreAmong (impossible_matchers space.now.impossible) ms }
     ensures made { IfOk result (λ found. IfOk found (λ universe. (ms : List Matcher)
-        → IsAskedOf asked.now ms → IsMadeBeside alphabet may_lack space.now ms universe)) }
+        → IsAskedOf asked.now ms
+        → IsMadeBeside alphabet may_lack space.now asked.now ms universe)) }
     ensures unproved { IfOk result (λ found. IfErr found (λ label. (may_lack ≡ false)
         × IsFirstUnproved alphabet space.now asked.now label.now)) }
     ensures refused { IfErr result (λ fault. fault.kind ≢ kinds.Memory

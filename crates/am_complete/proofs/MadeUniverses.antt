@@ -4,6 +4,7 @@ use Rattle.std.proofs.Common.{not, length, map, Option, Some, None, Contains, re
 use Rattle.std.proofs.Common.{subst, inl, inr, arith, slice_get, ◌||◌, ◌&&◌, ◌⊎◌}
 use Rattle.std.specs.Prelude.{unwrap_or, IfSome}
 use Rattle.std.specs.List.{find, filter, AllByRecursion, IsDistinct, enumerate_from}
+use Rattle.std.specs.Option.{option_map_or}
 use Rattle.std.specs.Cmp.Lexicographic.{bytes_decides}
 use Rattle.std.proofs.lemmas.Bool.{both_ways, cases_Bool, and_from, and_parts, false_from_ne_true}
 use Rattle.std.proofs.lemmas.Bool.{true_from_ne_false, not-true}
@@ -27,7 +28,7 @@ use Rattle.am_complete.specs.Complete.{IsSpaceComplete}
 use Rattle.am_complete.specs.AskedLabel.{AskedLabel, asked_names, IsAskedOf}
 use Rattle.am_complete.specs.Covering.{standing_texts, standing_in, AreNeeded, CoverPossible}
 use Rattle.am_complete.specs.Covering.{CoversEachBut, KeepsLabels, HasNeeded, AddsNeeded}
-use Rattle.am_complete.specs.Covering.{HasTextsOver}
+use Rattle.am_complete.specs.Covering.{HasTextsOver, AddsInOrder}
 use Rattle.am_complete.specs.Room.{AreUnproved, MayBeUnproved}
 use Rattle.am_complete.specs.LabelState.{is_declared}
 use Rattle.am_complete.specs.Missing.{MissingTexts, IsMissingAt, AreMissing, texts_of_missing}
@@ -61,6 +62,17 @@ distinct_joined (x ∷ xs) ys first last apart = (
       apart x (inl refl) (subst (IsIn ys) (sym ((bytes_decides x y).0 same)) i)))),
   distinct_joined xs ys first.1 last (λ y i j. apart y (inr i) j),
 )
+
+-- items are kept as what they are mapped to is
+kept_mapped : {X Y : Type 0} (f : X → Y) (of : Y → Bool) (test : X → Bool) (xs : List X)
+    → ((x : X) → IsIn xs x → of (f x) ≡ test x) → filter of (map f xs) ≡ map f (filter test xs)
+kept_mapped f of test [] same = refl
+kept_mapped f of test (x ∷ xs) same =
+    let later = kept_mapped f of test xs (λ y i. same y (inr i)) in
+    elim (cases_Bool (test x)) [
+      | inl kept ↦ rw (same x (inl refl), kept) (ap (λ ys. f x ∷ ys) later)
+      | inr left ↦ rw (same x (inl refl), left) later
+    ]
 
 -- ---- Which labels are open.
 
@@ -129,6 +141,23 @@ module _ (a : Alphabet) (s : Space) where
   finds_missing asked missing m zip distinct i =
       finds_in (λ k. k.name) missing m
       (subst (IsDistinct same_text) (sym (same_names asked missing zip)) distinct) i
+
+  -- the labels that are added are in the order of those that are asked about
+  pub in_order : (asked : List AskedLabel) (missing : List MissingTexts) (v : List Label)
+      → AreMissing a s asked missing → IsDistinct same_text (asked_names asked)
+      → names v ≡ names s.labels ++ names_to_declare s.labels missing
+      → AddsInOrder s.labels asked v
+  in_order asked missing v zip distinct are =
+      let added = λ (name : List ℕ).
+      option_map_or (is_to_declare s.labels) (missing_for missing name) false in (
+        added,
+        are
+            ∙ ap (λ ns. names s.labels ++ ns)
+            (sym (kept_mapped (λ m. m.name) added (is_to_declare s.labels) missing (λ m i.
+            ap (λ o. option_map_or (is_to_declare s.labels) o false)
+            (finds_missing asked missing m zip distinct i)))
+            ∙ ap (filter added) (same_names asked missing zip)),
+      )
 
   needed_by_name : (asked : List AskedLabel) (missing : List MissingTexts) (ms : List Matcher)
       (name : List ℕ) → AreMissing a s asked missing → IsAskedOf asked ms → name ≢ []

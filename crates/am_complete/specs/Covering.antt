@@ -13,7 +13,7 @@ use Rattle.am_classes.specs.declared.alphabet.Alphabet.{Alphabet}
 use Rattle.am_classes.specs.Alphabet.{IsOver, AreOver}
 use Rattle.am_classes.specs.Alike.{HasAlikeIn, Covers, AreApart}
 use Rattle.am_complete.specs.Complete.{about, label_texts, texts_of_label, may_have}
-use Rattle.am_complete.specs.AskedLabel.{AskedLabel}
+use Rattle.am_complete.specs.AskedLabel.{AskedLabel, asked_names}
 
 -- Some texts stand for classes of texts that matchers cannot tell apart: they are over an alphabet,
 -- and no two are alike. If `all`, they stand for all classes: each text over the alphabet is alike
@@ -104,6 +104,15 @@ HasNeeded a s ms l =
 
 abbrev pub AddsNeeded : Alphabet → Space → List Matcher → List Label → Type 0
 AddsNeeded a s ms u = AllByRecursion (HasNeeded a s ms) u
+
+-- The labels of a universe are those of another, followed by labels that are asked about, in the
+-- order in which they are asked about.
+-- Source: own choice.
+-- Example: if `env` is declared, and `team`, `env` and `host` are asked about, they may be `env`,
+-- `team` and `host`, or `env` and `host`. They are never `env`, `host` and `team`.
+abbrev pub AddsInOrder : List Label → List AskedLabel → List Label → Type 0
+AddsInOrder u asked v =
+    (is_added : List ℕ → Bool) × (names v ≡ names u ++ filter is_added (asked_names asked))
 
 -- The texts that the labels of a universe may have are over an alphabet.
 -- Source: RFC 8259, section 8.1: JSON text, in which they are written, is UTF-8.

@@ -21,7 +21,7 @@ ghost use Rattle.am_complete.specs.Complete.{AreAmong, impossible_matchers, IsSp
 ghost use Rattle.am_complete.specs.AskedLabel.{IsAskedOf};
 ghost use Rattle.am_complete.specs.LabelState.{is_declared};
 ghost use Rattle.am_complete.specs.Covering.{KeepsLabels, AddsNeeded, CoversEachBut, HasTextsOver};
-ghost use Rattle.am_complete.specs.Covering.{IsWithLabel, IsFullFor, IsLimitOrMemory};
+ghost use Rattle.am_complete.specs.Covering.{AddsInOrder, IsWithLabel, IsFullFor, IsLimitOrMemory};
 ghost use Rattle.am_complete.specs.Room.{AreUnproved, HaveNoRoom};
 ghost use Rattle.am_complete.specs.Missing.{AreMissing, missing_for, whole_texts, IsWhole};
 ghost use Rattle.am_complete.specs.Missing.{is_to_declare, names_to_declare, CanBeDeclared};
@@ -77,6 +77,8 @@ pub fn universe_beside(
     ensures keeps { IfOk result (λ made. KeepsLabels space.now.labels made.universe) }
     ensures adds { IfOk result (λ made. (ms : List Matcher) → IsAskedOf asked.now ms
         → AddsNeeded alphabet space.now ms made.universe) }
+    ensures order { IfOk result (λ made.
+        AddsInOrder space.now.labels asked.now made.universe) }
     ensures covers { IfOk result (λ made. CoversEachBut alphabet space.now.impossible
         made.universe asked.now made.unproved.items) }
     ensures within { IfOk result (λ made.

@@ -60,11 +60,11 @@ deciding_labels routes w questions impossible =
 
 -- ---- A universe that is made.
 
--- A universe is made from the labels of a space, for the matchers that decide, of the form that is
--- wanted.
+-- A universe is made from the labels of a space, for the matchers that decide and in the order in
+-- which they ask, of the form that is wanted.
 abbrev pub IsMadeFor : UniverseForm → Space → World → List Question → List Label → Type 0
 IsMadeFor form s w questions u =
-    IsMadeBeside form.alphabet form.open s
+    IsMadeBeside form.alphabet form.open s (deciding_labels form.routes w questions s.impossible)
     (deciding_matchers form.routes w questions s.impossible) u
 
 -- The text is that of a universe file made from a space, for a world and for questions. `lists` are

@@ -27,5 +27,6 @@ returns-clause-made c = λ ms asked.
           (sym c.as_slice.ensures.value ∙ c.in-None.ensures.none closed) ms asked;
       keeps = is.keeps;
       adds = is.adds ms asked;
+      order = is.order;
       over = is.over;
     }

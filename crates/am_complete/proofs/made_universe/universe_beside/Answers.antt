@@ -10,7 +10,7 @@ use Rattle.am_complete.specs.Room.{AreUnproved}
 use Rattle.am_complete.specs.Missing.{MissingTexts, IsWhole, open_positions, AreTooLarge}
 use Rattle.am_complete.specs.Missing.{names_to_declare}
 use Rattle.am_complete.proofs.MadeUniverses.{keeps, adds, covers_each, within_asked, are_unproved}
-use Rattle.am_complete.proofs.MadeUniverses.{complete, made_over}
+use Rattle.am_complete.proofs.MadeUniverses.{in_order, complete, made_over}
 use Rattle.am_complete.proofs.RoomBeside.{names_distinct, can_be_declared, no_room, named_before}
 use Rattle.am_complete.proofs.made_universe.universe_beside.Goals as goal
 use Rattle.am_complete.proofs.made_universe.universe_beside.Goals.{After-as_slice-3}
@@ -72,6 +72,7 @@ returns c =
       adds = λ ms asks. adds a s asked missing v ms zip is whole (λ name i.
           named_before a s asked missing (universe here) zip c.requires.1.distinct name
           (subst (λ (ns : List (List ℕ)). IsIn ns name) are i)) asks;
+      order = in_order a s asked missing v zip c.requires.1.distinct are;
       covers = covers;
       within = subst (AllByRecursion (λ i. i < length asked)) (sym opens)
           (within_asked a s asked missing zip);

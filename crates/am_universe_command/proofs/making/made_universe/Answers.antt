@@ -53,7 +53,7 @@ returns-clause-refused c = λ remembered.
 pub returns-in-Ok-found-clause-made : goal.returns-in-Ok-found-clause-made
 returns-in-Ok-found-clause-made c =
     let read = c.args.read.now in
-    (rw c.in-Ok-found.is at c.in_ok-found.ensures.made)
+    let at = (goal.at.returns-in-Ok-found-clause-made c).After-as_slice-labels in
+    rw (are_asked at) at ((rw c.in-Ok-found.is at c.in_ok-found.ensures.made)
     (deciding_matchers c.args.form.routes read.world (map question_view read.questions.items)
-    read.space.impossible)
-    (is_asked (goal.at.returns-in-Ok-found-clause-made c).After-as_slice-labels)
+    read.space.impossible) (is_asked at))
