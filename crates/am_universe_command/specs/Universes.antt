@@ -67,15 +67,16 @@ IsMadeFor form s w questions u =
     IsMadeBeside form.alphabet form.open s (deciding_labels form.routes w questions s.impossible)
     (deciding_matchers form.routes w questions s.impossible) u
 
--- The text is that of a universe file made from a space, for a world and for questions. `lists` are
--- the texts of the impossible lists of the space. The file says such a universe, with the same
--- impossible lists, and has their texts word for word.
+-- The text is the one that is written for a universe that is made from a space, for a world and for
+-- questions. `lists` are the texts of the impossible lists of the space. As a file the text says
+-- that universe, with the same impossible lists, and has their texts word for word.
 -- Source: own choice.
 -- Example: if `team="db"` is the only matcher of a world, and there are no questions, labels and
 -- impossible lists, the file says `team` with absence and `db`.
 pub record IsMadeUniverse (form : UniverseForm) (s : Space) (lists : List (List ℕ)) (w : World)
     (questions : List Question) (text : List ℕ) : Type 0 where
   pub labels : List Label
+  pub text_is : text ≡ universe_text labels lists
   pub says : FileSaysUniverse text (record { labels = labels; impossible = s.impossible })
   pub word_for_word : FileHasImpossibleTexts text lists
   pub made : IsMadeFor form s w questions labels

@@ -18,6 +18,7 @@ returns-clause-made c =
     c.if-as_str-gt-MAX_FILE_BYTES.false in
     record {
       labels = u;
+      text_is = is;
       says = rw is (universe_said u lists c.args.read.now.space.impossible
           c.in_ok-universe.ensures.made.universe c.requires utf8 short);
       word_for_word = rw is (texts_kept u lists utf8 short);
