@@ -15,5 +15,5 @@ mod visiting;
 pub use asked::{asked_by_both, asked_by_lists, asked_by_routes, asked_in_world};
 pub use equal_matchers::{EqualMatcher, equal_matchers_of};
 pub use made::{universe_for, unproved_fault};
-pub use origin_pointer::pointer_to;
+pub use origin_pointer::{place_of, pointer_to};
 pub use visiting::{Visitor, visit_lists, visit_matchers, visit_routes, visit_rules};

@@ -11,7 +11,7 @@ ghost use Rattle.am_complete.specs.Complete.{AreAmong, impossible_matchers};
 ghost use Rattle.am_asked.specs.Made.{IsMadeBeside, IsFirstUnproved, NoRoomFor};
 ghost use Rattle.am_asked.specs.OriginPointer.{origin_place, origin_pointer};
 
-use crate::origin_pointer::pointer_to;
+use crate::origin_pointer::{place_of, pointer_to};
 use am_classes::Alphabet;
 use am_complete::{AskedLabel, Origin, universe_beside};
 use am_labels::Space;
@@ -86,17 +86,5 @@ pub fn unproved_fault(alloc: Global, origin: &Origin) -> Fault
     match pointer_to(alloc, origin) {
         Ok(pointer) => Fault::within(Kind::Unproved, place_of(origin), pointer),
         Err(_) => Fault::memory(alloc),
-    }
-}
-
-/// The file in which a matcher stands, or `Question`.
-fn place_of(origin: &Origin) -> Place
-    ensures { result ≡ origin_place origin.now }
-{
-    match origin {
-        Origin::Route(_) | Origin::Rule(_) => Place::Config,
-        Origin::Silence(_) => Place::Silences,
-        Origin::Question(_) => Place::Question,
-        Origin::Impossible(_) => Place::Universe,
     }
 }

@@ -1,12 +1,25 @@
-//! The JSON Pointer (RFC 6901) to the part of an input in which a matcher stands.
+//! Where a matcher stands: in which input, and the JSON Pointer (RFC 6901) to the part of it.
 
 ghost use Rattle.std.specs.Prelude.{◌≡◌, ◌++◌, string_bytes, decimal, codes, IfOk, OnOk};
 ghost use Rattle.std.specs.List.{flat_map};
-ghost use Rattle.am_asked.specs.OriginPointer.{origin_pointer, child_pointer};
+ghost use Rattle.am_asked.specs.OriginPointer.{origin_place, origin_pointer, child_pointer};
 
 use am_complete::Origin;
 use am_config::Path;
+use am_universe::Place;
 use std::alloc::{AllocError, Global};
+
+/// Returns the file in which a matcher stands, or `Question`.
+pub fn place_of(origin: &Origin) -> Place
+    ensures place { result ≡ origin_place origin.now }
+{
+    match origin {
+        Origin::Route(_) | Origin::Rule(_) => Place::Config,
+        Origin::Silence(_) => Place::Silences,
+        Origin::Question(_) => Place::Question,
+        Origin::Impossible(_) => Place::Universe,
+    }
+}
 
 /// Returns the JSON Pointer (RFC 6901) to the route, rule, silence or impossible list in which a
 /// matcher stands, in its file, such as `/route/routes/0` or `/inhibit_rules/2`. For a question it

@@ -687,11 +687,11 @@ For example:
 
 After the name comes one of these:
 
-  complete N           each of the N classes has a value
-  lacks VALUE          no value is in the class of this one; absent is a missing label
-  unasked              no matcher asks about it. It multiplies the label sets, and does no harm
-  undeclarable         no universe can declare the name, and absence alone is not enough
-  unproved POINTER     amcover could not find which values the matchers tell apart
+  complete N              each of the N classes has a value
+  lacks VALUE             no value is in the class of this one; absent is a missing label
+  unasked                 nothing asks about it. It multiplies the label sets, and does no harm
+  undeclarable            no universe can declare the name, and absence alone is not enough
+  unproved PLACE POINTER  amcover could not find which values the matchers tell apart
 
 With --alerts, `unseen` follows if none of these alerts has the label. The matchers of the
 impossible lists of the universe count too. A label may lack a value that an impossible list

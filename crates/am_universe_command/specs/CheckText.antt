@@ -2,13 +2,14 @@
 use Rattle.std.specs.Prelude.{ℕ, ◌*◌, ◌^◌, List, [], ◌∷◌, ◌++◌, Bool, if◌then◌else◌, codes, decimal}
 use Rattle.std.specs.Prelude.{string_bytes, nat_lt}
 use Rattle.std.specs.List.{flat_map, list_all}
+use Rattle.am_universe.specs.Place.{place_text}
 use Rattle.am_universe.specs.Text.{quoted_text}
 use Rattle.am_universe.specs.Universe.{is_label_name}
 use Rattle.am_complete.specs.declared.label_state.Completeness.{Completeness}
 use Rattle.am_complete.specs.declared.label_state.Completeness.TheVariants as state_is
 use Rattle.am_complete.specs.declared.label_state.LabelState.{LabelState}
 use Rattle.am_complete.specs.LabelState.{is_settled}
-use Rattle.am_asked.specs.OriginPointer.{origin_pointer}
+use Rattle.am_asked.specs.OriginPointer.{origin_place, origin_pointer}
 
 -- The name of a label: as it is if it is a label name, and else in quotes. And a text that the
 -- label lacks: in quotes, or `absent` for the empty text.
@@ -25,15 +26,17 @@ state_text (state_is.Complete classes) = codes "complete " ++ decimal classes
 state_text (state_is.Lacks text) = codes "lacks " ++ lacking_text (string_bytes text)
 state_text state_is.Unasked = codes "unasked"
 state_text state_is.Undeclarable = codes "undeclarable"
-state_text (state_is.Unproved origin) = codes "unproved " ++ origin_pointer origin
+state_text (state_is.Unproved origin) =
+    codes "unproved " ++ (place_text (origin_place origin)
+    ++ (codes " " ++ origin_pointer origin))
 
 abbrev pub unseen_text : Bool → List ℕ
 unseen_text unseen = if unseen then codes " unseen" else []
 
 -- The line of a label.
 -- Source: own choice.
--- Example: `team complete 3`, `severity lacks absent unseen` and `"a/b" undeclarable` are three
--- such lines.
+-- Example: `team complete 3`, `severity lacks absent unseen`, `"a/b" undeclarable` and
+-- `env unproved config /route/routes/1` are four such lines.
 abbrev pub state_line : LabelState → List ℕ
 state_line state =
     name_text (string_bytes state.name)

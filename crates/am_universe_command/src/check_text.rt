@@ -10,7 +10,7 @@ ghost use Rattle.am_universe_command.specs.CheckText.{name_text, lacking_text, u
 ghost use Rattle.am_universe_command.specs.CheckText.{label_sets, count_text, label_sets_text};
 ghost use Rattle.am_universe_command.specs.CheckText.{all_impossible_text, verdict_text};
 
-use am_asked::pointer_to;
+use am_asked::{place_of, pointer_to};
 use am_complete::{Completeness, LabelState, is_label_name};
 use am_report_texts::push_quoted;
 use am_universe::Universe;
@@ -76,7 +76,7 @@ fn push_completeness(
         Completeness::Undeclarable => text.push_str("undeclarable"),
         Completeness::Unproved(origin) => {
             let pointer = pointer_to(alloc, origin)?;
-            push_unproved(text, pointer.as_str())
+            push_unproved(text, place_of(origin).text(), pointer.as_str())
         }
     }
 }
@@ -89,11 +89,13 @@ fn push_complete(alloc: Global, text: &mut String, classes: usize) -> Result<(),
     text.push_str(number.as_str())
 }
 
-fn push_unproved(text: &mut String, pointer: &str) -> Result<(), AllocError>
-    ensures { OnOk result (string_bytes text.new
-        ≡ string_bytes text.old ++ (codes "unproved " ++ pointer.now)) }
+fn push_unproved(text: &mut String, place: &str, pointer: &str) -> Result<(), AllocError>
+    ensures { OnOk result (string_bytes text.new ≡ string_bytes text.old
+        ++ (codes "unproved " ++ (place.now ++ (codes " " ++ pointer.now)))) }
 {
     text.push_str("unproved ")?;
+    text.push_str(place)?;
+    text.push_str(" ")?;
     text.push_str(pointer)
 }
 
