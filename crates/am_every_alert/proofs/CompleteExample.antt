@@ -1,25 +1,25 @@
--- Examples: universes that are complete for `team="db"` and for `team="é"`, and others that are not.
+-- Examples: universes that are complete for `team="db"` and for `team=~".*"`, and others that are
+-- not.
 use Rattle.std.proofs.Common.{◌≡◌, [], ◌∷◌, codes, true, false, not, ◌&&◌, ◌||◌, refl, sym, ap, ◌∙◌}
-use Rattle.std.proofs.Common.{None, inl, inr, subst}
-use Rattle.std.proofs.lemmas.Bool.{cases_Bool, false_from_ne_true, false≢true}
-use Rattle.std.proofs.lemmas.Str.{IsUtf8-encode}
-use Rattle.std.specs.Cmp.Lexicographic.{bytes_decides}
-use lib.Utf8.{encode}
+use Rattle.std.proofs.Common.{None, inl, inr, true≢false, arith}
+use Rattle.std.proofs.lemmas.Bool.{cases_Bool}
+use Rattle.std.proofs.lemmas.Str.{IsUtf8-nil}
 use Rattle.am_universe.specs.Text.{same_text}
 use Rattle.am_universe.specs.Universe.{Label, IsUniverse, label_fault}
 use Rattle.am_universe.proofs.LabelFaultLemmas.{added_is_universe}
 use Rattle.am_universe.proofs.UniverseLemmas.{IsUniverse-empty}
 use Rattle.am_universe.proofs.ListLemmas.{IsIn-from_Contains, Contains-from_IsIn}
+use Rattle.am_json.proofs.StringTexts.{ascii_then}
+use Rattle.am_labels.specs.Pattern.{finds}
 use Rattle.am_eval.specs.RoutingExamples.{team_db}
 use Rattle.am_classes.specs.declared.alphabet.Alphabet.{Alphabet}
 use Rattle.am_classes.specs.declared.alphabet.Alphabet.TheVariants.{Unicode, Ascii}
-use Rattle.am_classes.specs.Alphabet.{IsOrdinary}
 use Rattle.am_classes.proofs.OverLemmas.{nil_over}
 use Rattle.am_complete.specs.Complete.{HasAlike, IsCompleteAt, IsComplete, IsSpaceCompleteAt}
 use Rattle.am_complete.specs.Complete.{IsSpaceComplete}
 use Rattle.am_every_alert.specs.CompleteExample.{team_universe, db_or_absent, db_alone, team_not_db}
-use Rattle.am_every_alert.specs.CompleteExample.{db_alone_possible, accented, team_accented}
-use Rattle.am_every_alert.specs.CompleteExample.{absent_alone}
+use Rattle.am_every_alert.specs.CompleteExample.{db_alone_possible, any_line, absent_alone}
+use Rattle.am_every_alert.proofs.AnyLine.{finds_ordinary, finds_none, line_feed}
 use Rattle.am_every_alert.proofs.CompleteSpaces.{complete_by_names, space_complete_by_names}
 
 -- a single label without a fault is a universe
@@ -74,26 +74,26 @@ possible a =
     ((λ some. possible_at_team a), ((λ some. possible_at_team a), tt))
 
 -- if `team` is always absent
-accented_at_team : IsCompleteAt Ascii (team_universe absent_alone) (team_accented ∷ [])
-    (codes "team")
-unfolding encode
-accented_at_team text ordinary =
-    let other = false_from_ne_true (same_text text accented) (λ same.
-    false≢true (subst IsOrdinary ((bytes_decides text accented).0 same) ordinary)) in
-    ([], Contains-from_IsIn ([] ∷ []) [] (inl refl), (sym other, tt))
+any_line_at_team : IsCompleteAt Ascii (team_universe absent_alone) (any_line ∷ []) (codes "team")
+any_line_at_team text ordinary = (
+  [],
+  Contains-from_IsIn ([] ∷ []) [] (inl refl),
+  (finds_ordinary [] refl ∙ sym (finds_ordinary text ordinary), tt),
+)
 
-pub over_ascii : IsComplete Ascii (team_universe absent_alone) (team_accented ∷ [])
+pub over_ascii : IsComplete Ascii (team_universe absent_alone) (any_line ∷ [])
 over_ascii =
-    complete_by_names Ascii (team_universe absent_alone) (team_accented ∷ []) (lone _ refl)
-    ((λ named. accented_at_team), tt)
+    complete_by_names Ascii (team_universe absent_alone) (any_line ∷ []) (lone _ refl)
+    ((λ named. any_line_at_team), tt)
 
-pub not_over_unicode : IsComplete Unicode (team_universe absent_alone) (team_accented ∷ []) → ⊥
-unfolding encode
+pub not_over_unicode : IsComplete Unicode (team_universe absent_alone) (any_line ∷ []) → ⊥
 not_over_unicode all =
-    by (all (codes "team") (λ e. cc) accented (IsUtf8-encode 0xe9 refl))
+    by (all (codes "team") (λ e. cc) line_feed (ascii_then 10 [] (omega arith) IsUtf8-nil))
   where
-    by : HasAlike (team_universe absent_alone) (team_accented ∷ []) (codes "team") accented → ⊥
+    by : HasAlike (team_universe absent_alone) (any_line ∷ []) (codes "team") line_feed → ⊥
     by alike = elim (IsIn-from_Contains ([] ∷ []) alike.0 alike.1) [
-      | inl absent ↦ false≢true (ap (λ x. same_text x accented) absent ∙ alike.2.0)
+      | inl absent ↦
+          true≢false (sym (finds_ordinary [] refl) ∙ ap (finds (codes ".*")) absent ∙ alike.2.0
+          ∙ finds_none)
       | inr none ↦ none
     ]

@@ -4,6 +4,7 @@ pub mod UniverseAlerts
 pub mod TreatedAlike
 pub mod SpaceAlerts
 pub mod OverAscii
+pub mod AnyLine
 pub mod CompleteExample
 pub mod UniverseTexts
 pub mod RoomLemmas

@@ -1,8 +1,8 @@
 -- Examples of universes with one label: which of them are complete for `team="db"`, and over which
--- alphabet one is complete for `team="é"`.
-use Rattle.std.specs.Prelude.{ℕ, List, [], ◌∷◌, Some, None, codes, encode_utf8}
+-- alphabet one is complete for `team=~".*"`.
+use Rattle.std.specs.Prelude.{List, [], ◌∷◌, Some, None, codes}
 use Rattle.am_universe.specs.Universe.{Label, Values}
-use Rattle.am_labels.specs.declared.op.Op.TheVariants.{Equal, NotEqual}
+use Rattle.am_labels.specs.declared.op.Op.TheVariants.{NotEqual, Matches}
 use Rattle.am_labels.specs.Matcher.{Matcher}
 use Rattle.am_labels.specs.Space.{Space}
 
@@ -25,13 +25,10 @@ abbrev pub db_alone_possible : Space
 db_alone_possible =
     record { labels = team_universe db_alone; impossible = (team_not_db ∷ []) ∷ [] }
 
--- The text `é`, which is not ordinary, and a matcher on `team` that is true of it alone; and the
--- values of `team` in the example in which it is always absent.
-abbrev pub accented : List ℕ
-accented = encode_utf8 0xe9
-
-abbrev pub team_accented : Matcher
-team_accented = record { name = codes "team"; op = Equal; value = accented }
+-- A matcher on `team` that is true of every text without a line feed; and the values of `team` in
+-- the example in which it is always absent.
+abbrev pub any_line : Matcher
+any_line = record { name = codes "team"; op = Matches; value = codes ".*" }
 
 abbrev pub absent_alone : Values
 absent_alone = None ∷ []

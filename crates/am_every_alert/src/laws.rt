@@ -33,7 +33,7 @@ ghost use Rattle.am_every_alert.specs.EveryAlert.{AreTreatedAlike};
 ghost use Rattle.am_every_alert.specs.Deciding.{coverage_matchers, asked_matchers};
 ghost use Rattle.am_every_alert.specs.CompleteExample.{team_universe, db_or_absent, db_alone};
 ghost use Rattle.am_every_alert.specs.CompleteExample.{team_not_db, db_alone_possible};
-ghost use Rattle.am_every_alert.specs.CompleteExample.{absent_alone, team_accented};
+ghost use Rattle.am_every_alert.specs.CompleteExample.{absent_alone, any_line};
 
 /// Some choice of a universe meets the same of some matchers as a label set, if for each label of
 /// the matchers the universe has a text that is alike to that of the label set.
@@ -238,16 +238,16 @@ pub fn texts_of_universe_files_are_utf8()
 /// be `db` or absent, the universe is complete for `team="db"`, over each alphabet. If `team` is
 /// always `db`, it is not, since no choice stands for the alerts of another team; but the space in
 /// which no other team is possible is complete. If `team` is always absent, the universe is
-/// complete for `team="é"` over ASCII, but not over Unicode, since `é` is not ASCII.
+/// complete for `team=~".*"` over ASCII, but not over Unicode, since the pattern does not match a
+/// line feed.
 pub fn an_example_of_completeness()
     ensures complete { (a : Alphabet) → IsComplete a (team_universe db_or_absent) (team_db ∷ []) }
     ensures incomplete { (a : Alphabet)
         → ¬ IsComplete a (team_universe db_alone) (team_db ∷ []) }
     ensures possible { (a : Alphabet)
         → IsSpaceComplete a db_alone_possible (team_db ∷ team_not_db ∷ []) }
-    ensures over_ascii { IsComplete Ascii (team_universe absent_alone) (team_accented ∷ []) }
-    ensures not_over_unicode { ¬ IsComplete Unicode (team_universe absent_alone)
-        (team_accented ∷ []) }
+    ensures over_ascii { IsComplete Ascii (team_universe absent_alone) (any_line ∷ []) }
+    ensures not_over_unicode { ¬ IsComplete Unicode (team_universe absent_alone) (any_line ∷ []) }
 {}
 
 /// If there is no room beside a space for the labels that matchers ask about, no universe that
