@@ -26,7 +26,6 @@ use Rattle.am_complete.proofs.CompleteUniverses.{space_complete_without_matchers
 use Rattle.am_complete.proofs.LabelStates.{covered}
 use Rattle.am_complete.proofs.SameMatchers.{has_alike_among}
 use Rattle.am_every_alert.specs.Deciding.{deciding_matchers, coverage_matchers}
-use Rattle.am_every_alert.specs.Deciding.{asked_matchers}
 
 -- ---- By texts that cover all.
 
@@ -134,22 +133,21 @@ complete_for_routes_alone a s c questions =
     let routes = route_matchers c.root in
     complete_for a s routes routes (questions_matchers questions) (first_among routes _)
 
-pub complete_for_question : (a : Alphabet) (s : Space) (w : World) (questions : List Question)
-    (q : Question) → Contains questions q
+pub complete_for_question : (a : Alphabet) (s : Space) (ms : List Matcher)
+    (questions : List Question) (q : Question) → Contains questions q
     → IsSpaceComplete a s
-    (world_matchers w ++ (questions_matchers questions ++ impossible_matchers s.impossible))
-    → IsSpaceComplete a s (asked_matchers s w q)
-complete_for_question a s w questions q there =
-    let world = world_matchers w in
+    (ms ++ (questions_matchers questions ++ impossible_matchers s.impossible))
+    → IsSpaceComplete a s (deciding_matchers s (ms ++ question_matchers q))
+complete_for_question a s ms questions q there =
     let asked = questions_matchers questions in
     let others = asked ++ impossible_matchers s.impossible in
     let one = question_matchers q in
     let in_asked = λ (m : Matcher) (i : IsIn one m).
     joined_in question_matchers questions q m (IsIn-from_Contains questions q there) i in
-    complete_for a s (world ++ one) world asked
-    (both_among world one (world ++ others) (first_among world others)
-    (among_by one (world ++ others) (λ m i.
-    IsIn-right world others m (IsIn-left asked _ m (in_asked m i)))))
+    complete_for a s (ms ++ one) ms asked
+    (both_among ms one (ms ++ others) (first_among ms others)
+    (among_by one (ms ++ others) (λ m i.
+    IsIn-right ms others m (IsIn-left asked _ m (in_asked m i)))))
 
 -- if nothing is impossible
 pub complete_without_lists : (a : Alphabet) (u : List Label) (c : Configuration)

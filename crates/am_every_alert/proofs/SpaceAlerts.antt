@@ -32,7 +32,7 @@ use Rattle.am_complete.proofs.LabelTexts.{undeclared_texts}
 use Rattle.am_complete.proofs.CompleteUniverses.{alone_truth, takes_away}
 use Rattle.am_every_alert.specs.EveryAlert.{IsAlert, IsAlertOf, MeetsTheSame, AreTreatedAlike}
 use Rattle.am_every_alert.specs.Deciding.{coverage_matchers, asked_matchers, StandsFor}
-use Rattle.am_every_alert.specs.Deciding.{deciding_matchers}
+use Rattle.am_every_alert.specs.Deciding.{deciding_matchers, AsksWhatHides}
 use Rattle.am_every_alert.proofs.CompleteSpaces.{complete_space}
 use Rattle.am_every_alert.proofs.StandingChoice.{standing_choice}
 use Rattle.am_every_alert.proofs.UniverseAlerts.{universe_alert}
@@ -202,13 +202,43 @@ module _ (a : Alphabet) (s : Space) (alert : LabelMap) (h : IsUniverse s.labels)
       let asked = question_matchers q in
       let r = choice_of_alert a s (world ++ asked) alert h complete is in
       let set = set_of r.0 in
-      let treated = treated_alike set alert w (front_met set alert world asked r.2) in
-      let truth = same_truth set alert w q treated (rest_met set alert world asked r.2) in
+      let on_world = front_met set alert world asked r.2 in
+      let treated = treated_alike set alert w on_world in
+      let truth = same_truth set alert w (front_met set alert (route_matchers w.config.root) _ on_world)
+      q (λ asks. treated) (rest_met set alert world asked r.2) in
       (r.0, (answers_exact s w q r.0).1 (r.1, truth ∙ true_of_it), treated)
+
+  -- one of a question that does not ask what hides an alert
+  answer_by_routes : (w : World) (q : Question)
+      → IsSpaceComplete a s
+      (deciding_matchers s (route_matchers w.config.root ++ question_matchers q))
+      → ¬ AsksWhatHides q → IsTrue (satisfies w q alert)
+      → (choice : List ℕ) × Contains (answers s w q) choice
+  answer_by_routes w q complete none true_of_it =
+      let routes = route_matchers w.config.root in
+      let asked = question_matchers q in
+      let r = choice_of_alert a s (routes ++ asked) alert h complete is in
+      let set = set_of r.0 in
+      let truth = same_truth set alert w (front_met set alert routes asked r.2) q
+      (λ asks. absurd (none asks)) (rest_met set alert routes asked r.2) in
+      (r.0, (answers_exact s w q r.0).1 (r.1, truth ∙ true_of_it))
+
+  false_without : (w : World) (q : Question)
+      → (IsTrue (satisfies w q alert) → (choice : List ℕ) × Contains (answers s w q) choice)
+      → answers s w q ≡ [] → IsFalse (satisfies w q alert)
+  false_without w q some none =
+      false_from_ne_true (satisfies w q alert) (λ true_of_it.
+      let r = some true_of_it in
+      IsIn-from_Contains [] r.0 (subst (λ xs. Contains xs r.0) none r.1))
 
   pub no_alert : (w : World) (q : Question) → IsSpaceComplete a s (asked_matchers s w q)
       → answers s w q ≡ [] → IsFalse (satisfies w q alert)
-  no_alert w q complete none =
-      false_from_ne_true (satisfies w q alert) (λ true_of_it.
-      let r = answer_of_alert w q complete true_of_it in
-      IsIn-from_Contains [] r.0 (subst (λ xs. Contains xs r.0) none r.1))
+  no_alert w q complete =
+      false_without w q (λ true_of_it.
+      let r = answer_of_alert w q complete true_of_it in (r.0, r.1))
+
+  pub no_alert_by_routes : (w : World) (q : Question)
+      → IsSpaceComplete a s
+      (deciding_matchers s (route_matchers w.config.root ++ question_matchers q))
+      → ¬ AsksWhatHides q → answers s w q ≡ [] → IsFalse (satisfies w q alert)
+  no_alert_by_routes w q complete none = false_without w q (answer_by_routes w q complete none)

@@ -1,10 +1,9 @@
 -- Label sets that meet the same of the matchers that decide are treated alike.
 use Rattle.std.proofs.Common.{◌≡◌, ℕ, ◌+◌, List, [], ◌∷◌, ◌++◌, map, Bool, cond, not, refl}
-use Rattle.std.proofs.Common.{sym, ap, ◌∙◌, inl, inr, arith}
+use Rattle.std.proofs.Common.{sym, ap, ◌∙◌, inl, inr}
 use Rattle.std.specs.Prelude.{◌&&◌, ◌||◌, ◌==◌}
 use Rattle.std.specs.List.{flat_map, filter, filter_map, list_any}
 use Rattle.std.proofs.lemmas.Bool.{cases_Bool}
-use Rattle.std.proofs.lemmas.Grind.{common_steps}
 use Rattle.am_universe.specs.LabelSet.{LabelMap}
 use Rattle.am_universe.proofs.ListLemmas.{IsIn, AllByRecursion-each, AllByRecursion-at}
 use Rattle.am_universe.proofs.Members.{joined_in}
@@ -20,12 +19,13 @@ use Rattle.am_eval.specs.Routing.{receiver_at}
 use Rattle.am_eval.specs.Silencing.{is_active, hides, is_silenced}
 use Rattle.am_eval.specs.World.{World}
 use Rattle.am_eval.specs.Tree.{Part, Not, And, Or}
+use Rattle.am_eval.specs.declared.property.Property.TheVariants.{Any, Silenced, Inhibited}
 use Rattle.am_eval.specs.Question.{Question, Simple, Is, Receiver, Route, Braces, reaches}
 use Rattle.am_eval.specs.Question.{holds_of, satisfies}
 use Rattle.am_asked.specs.Asked.{simple_matchers, question_matchers}
-use Rattle.am_eval.proofs.ConditionLaws.{same_property}
 use Rattle.am_eval.proofs.HidingConditions.{same_values}
 use Rattle.am_every_alert.specs.EveryAlert.{MeetsTheSame, AreTreatedAlike}
+use Rattle.am_every_alert.specs.Deciding.{AsksWhatHides}
 use Rattle.am_complete.specs.Complete.{AreAmong, impossible_matchers}
 use Rattle.am_asked.specs.Asked.{route_matchers, routes_matchers, rule_matchers}
 use Rattle.am_asked.specs.Asked.{equal_to_alert, equal_matchers, silence_matchers}
@@ -194,23 +194,32 @@ module _ (s t : LabelMap) where
 
   -- ---- Questions.
 
-  part_alike : (w : World) (simple : Simple) → AreTreatedAlike w s t
-      → MeetsTheSame (simple_matchers simple) s t → holds_of w simple s ≡ holds_of w simple t
-  part_alike w (Is property) treated h =
-      same_property w w s t property treated.same_silenced treated.same_inhibited
-  part_alike w (Receiver receiver) treated h =
-      ap (list_any (λ other. other == receiver)) treated.same_receivers
-  part_alike w (Route reach path) treated h = ap (list_any (reaches reach path)) treated.same_ends
-  part_alike w (Braces matchers) treated h = all_alike matchers h
+  module _ (w : World) (routes : MeetsTheSame (route_matchers w.config.root) s t) where
+    part_alike : (simple : Simple) → (AsksWhatHides (Part simple) → AreTreatedAlike w s t)
+        → MeetsTheSame (simple_matchers simple) s t → holds_of w simple s ≡ holds_of w simple t
+    part_alike (Is Any) treated h = refl
+    part_alike (Is Silenced) treated h = (treated tt).same_silenced
+    part_alike (Is Inhibited) treated h = (treated tt).same_inhibited
+    part_alike (Receiver receiver) treated h =
+        ap (list_any (λ other. other == receiver)) (same_receivers w.config routes)
+    part_alike (Route reach path) treated h =
+        ap (list_any (reaches reach path)) (same_ends w.config routes)
+    part_alike (Braces matchers) treated h = all_alike matchers h
 
-  pub same_truth : (w : World) (q : Question) → AreTreatedAlike w s t
-      → MeetsTheSame (question_matchers q) s t → satisfies w q s ≡ satisfies w q t
-  same_truth w (Part simple) treated h = part_alike w simple treated h
-  same_truth w (Not q) treated h = ap not (same_truth w q treated h)
-  same_truth w (And q r) treated h =
-      grind (arith, common_steps, same_truth w q, same_truth w r, front_met, rest_met)
-  same_truth w (Or q r) treated h =
-      grind (arith, common_steps, same_truth w q, same_truth w r, front_met, rest_met)
+    pub same_truth : (q : Question) → (AsksWhatHides q → AreTreatedAlike w s t)
+        → MeetsTheSame (question_matchers q) s t → satisfies w q s ≡ satisfies w q t
+    same_truth (Part simple) treated h = part_alike simple treated h
+    same_truth (Not q) treated h = ap not (same_truth q treated h)
+    same_truth (And q r) treated h =
+        let first = front_met (question_matchers q) (question_matchers r) h in
+        let second = rest_met (question_matchers q) (question_matchers r) h in
+        λ i. same_truth q (λ asks. treated (inl asks)) first i
+        && same_truth r (λ asks. treated (inr asks)) second i
+    same_truth (Or q r) treated h =
+        let first = front_met (question_matchers q) (question_matchers r) h in
+        let second = rest_met (question_matchers q) (question_matchers r) h in
+        λ i. same_truth q (λ asks. treated (inl asks)) first i
+        || same_truth r (λ asks. treated (inr asks)) second i
 
 -- ---- All of it.
 

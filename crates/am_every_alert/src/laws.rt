@@ -27,10 +27,12 @@ ghost use Rattle.am_complete.specs.AskedLabel.{AskedLabel, IsAskedOf};
 ghost use Rattle.am_complete.specs.Room.{HaveNoRoom};
 ghost use Rattle.am_complete.specs.Covering.{HasTextsOver, KeepsLabels};
 ghost use Rattle.am_asked.specs.Asked.{route_matchers, rule_matchers, equal_matchers};
-ghost use Rattle.am_asked.specs.Asked.{silence_matchers, world_matchers, questions_matchers};
+ghost use Rattle.am_asked.specs.Asked.{silence_matchers, world_matchers, question_matchers};
+ghost use Rattle.am_asked.specs.Asked.{questions_matchers};
 ghost use Rattle.am_every_alert.specs.EveryAlert.{IsAlert, IsAlertOf, MeetsTheSame};
 ghost use Rattle.am_every_alert.specs.EveryAlert.{AreTreatedAlike};
 ghost use Rattle.am_every_alert.specs.Deciding.{coverage_matchers, asked_matchers};
+ghost use Rattle.am_every_alert.specs.Deciding.{deciding_matchers, AsksWhatHides};
 ghost use Rattle.am_every_alert.specs.CompleteExample.{team_universe, db_or_absent, db_alone};
 ghost use Rattle.am_every_alert.specs.CompleteExample.{team_not_db, db_alone_possible};
 ghost use Rattle.am_every_alert.specs.CompleteExample.{absent_alone, any_line};
@@ -112,7 +114,8 @@ pub fn every_alert_of_a_space_ends_as_a_choice_does()
 
 /// A question that is true of an alert of a complete space has an answer that is treated alike. So
 /// a question without answers is true of no such alert. The space is complete, over the alphabet of
-/// the alert, for all matchers that decide the question.
+/// the alert, for all matchers that decide the question. If the question asks neither `silenced`
+/// nor `inhibited`, those of the routes, of the question and of what is impossible are enough.
 pub fn a_question_without_answers_is_true_of_no_alert()
     ensures answered { (a : Alphabet) (s : Space) (w : World) (q : Question) (alert : LabelMap)
         → IsUniverse s.labels → IsSpaceComplete a s (asked_matchers s w q)
@@ -122,6 +125,11 @@ pub fn a_question_without_answers_is_true_of_no_alert()
     ensures unanswered { (a : Alphabet) (s : Space) (w : World) (q : Question) (alert : LabelMap)
         → IsUniverse s.labels → IsSpaceComplete a s (asked_matchers s w q)
         → IsAlertOf a s alert → answers s w q ≡ [] → IsFalse (satisfies w q alert) }
+    ensures by_routes { (a : Alphabet) (s : Space) (w : World) (q : Question) (alert : LabelMap)
+        → IsUniverse s.labels → IsSpaceComplete a s
+        (deciding_matchers s (route_matchers w.config.root ++ question_matchers q))
+        → ¬ AsksWhatHides q → IsAlertOf a s alert → answers s w q ≡ []
+        → IsFalse (satisfies w q alert) }
 {}
 
 /// Each label set of a universe, complete or not, is one that an alert may have. It is over each
@@ -191,9 +199,9 @@ pub fn parts_of_matchers_are_among_them()
 
 /// A space that is complete for a world, for questions and for the impossible lists is complete,
 /// over the same alphabet, for the routes and the impossible lists, and for each of the questions.
-/// For the routes it is enough if it is complete for the routes, the questions and the impossible
-/// lists. If nothing is impossible, it is enough if it is complete for matchers among which those
-/// of the routes are.
+/// For the routes, with or without one of the questions, it is enough if it is complete for the
+/// routes, the questions and the impossible lists. If nothing is impossible, it is enough if it is
+/// complete for matchers among which those of the routes are.
 pub fn what_is_complete_for_a_world_is_so_for_its_routes()
     ensures routes { (a : Alphabet) (s : Space) (w : World) (questions : List Question)
         → IsSpaceComplete a s (world_matchers w
@@ -207,6 +215,12 @@ pub fn what_is_complete_for_a_world_is_so_for_its_routes()
         (q : Question) → Contains questions q → IsSpaceComplete a s (world_matchers w
         ++ (questions_matchers questions ++ impossible_matchers s.impossible))
         → IsSpaceComplete a s (asked_matchers s w q) }
+    ensures question_by_routes { (a : Alphabet) (s : Space) (c : Configuration)
+        (questions : List Question) (q : Question) → Contains questions q
+        → IsSpaceComplete a s (route_matchers c.root
+        ++ (questions_matchers questions ++ impossible_matchers s.impossible))
+        → IsSpaceComplete a s
+        (deciding_matchers s (route_matchers c.root ++ question_matchers q)) }
     ensures all_possible { (a : Alphabet) (u : List Label) (c : Configuration) (ms : List Matcher)
         → AreAmong (route_matchers c.root) ms → IsComplete a u ms
         → IsComplete a u (coverage_matchers (record { labels = u; impossible = [] }) c) }
