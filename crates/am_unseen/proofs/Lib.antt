@@ -1,6 +1,6 @@
 pub mod Found
 pub mod Nearest
-pub mod Lengths
+pub mod Columns
 pub mod EachOnce
 pub mod SeenValues
 pub mod SeenSets

@@ -8,6 +8,7 @@ ghost use Rattle.am_labels.specs.declared.op.Op.TheVariants as operators;
 ghost use Rattle.am_complete.specs.FoundState.{has_label};
 ghost use Rattle.am_unseen.specs.declared.limits.TheConstants.{MOST_EDITS};
 ghost use Rattle.am_unseen.specs.Unseen.{names_unseen_value, most_similar, edits_between};
+ghost use Rattle.am_unseen.specs.Unseen.{Column, AreBeside, edits_in};
 
 /// A matcher with an unseen value matches no alert, though some alert has its label. Conversely, if
 /// both are true of a matcher with `=` and a value that is not empty, the matcher has an unseen
@@ -23,6 +24,16 @@ pub fn a_matcher_of_an_unseen_value_matches_no_alert()
         → m.value ≢ [] → IsTrue (list_any (has_label m.name) alerts)
         → list_any (λ a. condition_holds a m) alerts ≡ false
         → IsTrue (names_unseen_value alerts m) }
+{}
+
+/// Two texts can be set side by side with as many edits as are counted between them, and not with
+/// fewer.
+#[tactic(auto, using(crate::proofs::Columns::some_columns, crate::proofs::Columns::fewest))]
+pub fn edits_between_texts_are_the_fewest()
+    ensures reached { (from to : List ℕ) → (columns : List Column) × AreBeside from to columns
+        × (edits_in columns ≡ edits_between from to) }
+    ensures fewest { (from to : List ℕ) (columns : List Column) → AreBeside from to columns
+        → edits_between from to ≤ edits_in columns }
 {}
 
 /// The most similar of some values is at most `MOST_EDITS` edits away, and no other value is fewer
