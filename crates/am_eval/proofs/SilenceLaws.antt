@@ -14,7 +14,7 @@ use Rattle.am_universe.specs.LabelSet.{LabelMap, label_set_of}
 use Rattle.am_universe.proofs.ListLemmas.{IsIn, IsIn-from_Contains, Contains-from_IsIn, IsIn-map}
 use Rattle.am_universe.proofs.ListLemmas.{IsIn-unmap, IsStrictlySortedBy-map, AllByRecursion-each}
 use Rattle.am_universe.proofs.Members.{at_in, in_at, item_at, numbered_at}
-use Rattle.am_labels.specs.Matcher.{condition_holds}
+use Rattle.am_labels.specs.Matcher.{condition_holds, all_hold}
 use Rattle.am_labels.specs.Space.{Space, all_choices}
 use Rattle.am_labels.proofs.Passing.{any_in, in_any, passes_from_kept, kept_from_passes}
 use Rattle.am_list_files.specs.SilencesFile.{Silence}
@@ -105,6 +105,16 @@ pub no_instant : (w : World) (s : LabelMap) → w.instant ≡ None → IsFalse (
 no_instant w s e =
     inactive w s (AllByRecursion-each (λ silence. IsFalse (is_active w.instant silence)) w.silences
     (λ silence there. ap (λ instant. is_active instant silence) e))
+
+no_such_instant : (given : Option ℤ) (silence : Silence) → silence.ends ≤ℤ silence.starts
+    → IsFalse (is_active given silence)
+no_such_instant None silence ended = refl
+no_such_instant (Some instant) silence ended = grind (arith, common_steps, ints)
+
+pub never_active : (w : World) (s : LabelMap) (silence : Silence)
+    → silence.ends ≤ℤ silence.starts → IsFalse (hides w s silence)
+never_active w s silence ended =
+    ap (λ active. active && all_hold s silence.matchers) (no_such_instant w.instant silence ended)
 
 abbrev AreSame : World → World → Type 0
 AreSame w v =

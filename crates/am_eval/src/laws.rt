@@ -195,14 +195,17 @@ pub fn an_alert_is_silenced_while_a_silence_matches_it()
         × AllByRecursion (λ m. IsTrue (condition_holds s m)) silence.matchers)) }
 {}
 
-/// If no silence is active, no alert is silenced. This is so if no instant is given.
-#[tactic(auto, using(crate::proofs::SilenceLaws::inactive, crate::proofs::SilenceLaws::no_instant))]
+/// If no silence is active, no alert is silenced. This is so if no instant is given. A silence that
+/// ends before it begins, or when it begins, hides nothing.
+#[tactic(auto, using(crate::proofs::SilenceLaws::inactive, crate::proofs::SilenceLaws::no_instant, crate::proofs::SilenceLaws::never_active))]
 pub fn inactive_silences_hide_nothing()
     ensures inactive { (w : World) (s : LabelMap)
         → AllByRecursion (λ silence. IsFalse (is_active w.instant silence)) w.silences
         → IsFalse (is_silenced w s) }
     ensures no_instant { (w : World) (s : LabelMap) → w.instant ≡ None
         → IsFalse (is_silenced w s) }
+    ensures ended { (w : World) (s : LabelMap) (silence : Silence)
+        → silence.ends ≤ℤ silence.starts → IsFalse (hides w s silence) }
 {}
 
 /// Worlds with one configuration, the same firing alerts and the same active silences give the same
