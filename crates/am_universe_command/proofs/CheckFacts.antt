@@ -1,5 +1,5 @@
 -- What was found about a universe is what the text says.
-use Rattle.std.proofs.Common.{Option, Some, None, is_some, option_copied, refl, Bor, ◌≡◌, ◌↔◌, Bool}
+use Rattle.std.proofs.Common.{Option, Some, None, is_some, refl, ◌≡◌, ◌↔◌, Bool}
 use Rattle.std.proofs.Common.{true, false, not}
 
 -- nothing was found exactly if the answer says so
@@ -9,8 +9,3 @@ none_told None true e = (λ n. refl, λ n. refl)
 none_told None false e = cc
 none_told (Some x) true e = cc
 none_told (Some x) false e = (λ n. cc, λ n. cc)
-
--- a file is given exactly if its bytes are
-pub is_there : {A : Type 0} (o : Option (Bor A)) → is_some o ≡ is_some (option_copied o)
-is_there None = refl
-is_there (Some x) = refl

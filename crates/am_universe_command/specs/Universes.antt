@@ -1,7 +1,6 @@
 -- What `universe` makes, and what it says about a universe. (This project's own.)
-use Rattle.std.specs.Prelude.{◌≡◌, ◌⊎◌, ◌<◌, ℕ, List, [], ◌∷◌, ◌++◌, length, map, Bool, false, ⊤}
-use Rattle.std.specs.Prelude.{IsTrue, string_bytes, if◌then◌else◌, Option, Some, None, is_some}
-use Rattle.std.specs.Prelude.{◌↔◌}
+use Rattle.std.specs.Prelude.{◌≡◌, ◌⊎◌, ◌<◌, ℕ, List, [], ◌++◌, length, map, Bool, false, ⊤}
+use Rattle.std.specs.Prelude.{IsTrue, string_bytes, if◌then◌else◌, Option, option_map, ◌↔◌}
 use Rattle.std.specs.List.{AllByRecursion, list_all}
 use Rattle.am_universe.specs.declared.kind.Kind.TheVariants as kinds
 use Rattle.am_universe.specs.declared.place.Place.{Place}
@@ -141,20 +140,16 @@ universe_promise inputs form = record {
 
 -- ---- A universe that is checked.
 
--- The alerts of a world, if a file of alerts is given.
-abbrev pub alerts_if_any : Bool → World → Option (List LabelMap)
-alerts_if_any has_alerts w = if has_alerts then Some w.alerts else None
-
 -- The text says what a space lacks for a world and for questions, for alerts whose texts are over
 -- an alphabet. It has the state of each label that the space declares, and then of each other label
--- that is asked about; if a file of alerts is given, whether no alert has the label; and whether
+-- that is asked about; if the alerts that fire are known, whether none has the label; and whether
 -- all label sets are impossible. What it says is true. If nothing is missing, the space is
 -- complete.
 -- Source: own choice.
 -- Example: for a space with just `team`, whose values are `db` and `web`, and a world whose only
 -- matcher is `team="db"`, it says `team complete 2`, `2 label sets` and `# complete`.
 pub record IsCheckOf (a : Alphabet) (s : Space) (w : World) (questions : List Question)
-    (has_alerts routes : Bool) (report : List ℕ) : Type 0 where
+    (alerts : Option (List LabelMap)) (routes : Bool) (report : List ℕ) : Type 0 where
   pub states : List LabelState
   pub names : map (λ state. string_bytes state.name) states
       ≡ reported_names s.labels (deciding_labels routes w questions s.impossible)
@@ -163,8 +158,7 @@ pub record IsCheckOf (a : Alphabet) (s : Space) (w : World) (questions : List Qu
       (deciding_labels routes w questions s.impossible) (string_bytes state.name)
       state.completeness) states
   pub unseen : AllByRecursion
-      (λ state. state.unseen ≡ is_unseen (alerts_if_any has_alerts w) (string_bytes state.name))
-      states
+      (λ state. state.unseen ≡ is_unseen alerts (string_bytes state.name)) states
   pub complete : IsTrue (list_all (λ state. is_settled state.completeness) states)
       → IsSpaceComplete a s (deciding_matchers routes w questions s.impossible)
   pub all_impossible : Bool
@@ -183,7 +177,8 @@ pub record ChecksUniverse (a : Alphabet) (inputs : UniverseInputs) (routes : Boo
   pub world : World
   pub questions : List Question
   pub accepts : AcceptsUniverseInputs inputs space world questions
-  pub checked : IsCheckOf a space world questions (is_some inputs.files.alerts) routes report
+  pub checked : IsCheckOf a space world questions
+      (option_map (λ file. world.alerts) inputs.files.alerts) routes report
 
 -- What `check_universe` owes.
 -- Source: own choice.

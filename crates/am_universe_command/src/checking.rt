@@ -3,7 +3,7 @@
 ghost use Rattle.std.specs.Prelude.{◌≡◌, map, option_map, string_bytes, IfOk};
 ghost use Rattle.am_eval.specs.QuestionView.{question_view};
 ghost use Rattle.am_files.specs.Promise.{IsKept};
-ghost use Rattle.am_universe_command.specs.Universes.{IsCheckOf, alerts_if_any, check_promise};
+ghost use Rattle.am_universe_command.specs.Universes.{IsCheckOf, check_promise};
 
 use crate::UniverseInputs;
 use crate::asked_labels::labels_asked;
@@ -42,42 +42,40 @@ pub fn check_universe<W: Sink>(
         W.taken W.failures out.old out.new result }
 {
     let read = read_inputs(alloc, inputs)?;
-    let files = inputs.files;
-    let has_alerts = files.alerts.is_some();
-    let Ok(text) = checked_text(alloc, alphabet, &read, has_alerts, routes) else {
+    let alerts = alerts_if_any(inputs, &read.world);
+    let Ok(text) = checked_text(alloc, alphabet, &read, alerts, routes) else {
         return Err(Fault::memory(alloc));
     };
     answer_of_write(alloc, put_str(out, text.as_str()))
 }
 
-/// Makes the text that says what a space lacks for the inputs. Fails only if memory runs out.
+/// Makes the text that says what a space lacks for the inputs. The alerts are those that fire, if
+/// they are known. Fails only if memory runs out.
 fn checked_text(
     alloc: Global,
     alphabet: Alphabet,
     read: &ReadInputs,
-    has_alerts: bool,
+    alerts: Option<&Alerts>,
     routes: bool,
 ) -> Result<String, AllocError>
     ensures { IfOk result (λ text. IsCheckOf alphabet read.now.space read.now.world
-        (map question_view read.now.questions.items) has_alerts routes (string_bytes text)) }
+        (map question_view read.now.questions.items) (option_map (λ a. a.now) alerts.entry) routes
+        (string_bytes text)) }
 {
     let (space, world) = (&read.space, &read.world);
     let equal = equal_matchers_of(alloc, world)?;
     let asked = labels_asked(alloc, read, equal.as_slice(), routes)?;
-    let alerts = alerts_if_any(world, has_alerts);
     let states = label_states(alloc, alphabet, space, asked.as_slice(), alerts)?;
     let all_impossible = first_possible(alloc, space)?.is_none();
     let text = text_of_check(alloc, space.universe(), all_impossible, states.as_slice())?;
     Ok(text)
 }
 
-/// The alerts of a world, if a file of alerts is given.
-fn alerts_if_any(world: &World, has_alerts: bool) -> Option<&Alerts>
-    ensures { option_map (λ a. a.now) result ≡ alerts_if_any has_alerts world.now }
+/// The alerts of a world, if there is a file of alerts.
+fn alerts_if_any<'w>(inputs: &UniverseInputs<'_>, world: &'w World) -> Option<&'w Alerts>
+    ensures { option_map (λ a. a.now) result
+        ≡ option_map (λ file. world.now.alerts) inputs.now.files.alerts }
 {
-    if has_alerts {
-        Some(world.alerts())
-    } else {
-        None
-    }
+    let files = inputs.files;
+    files.alerts.and(Some(world.alerts()))
 }

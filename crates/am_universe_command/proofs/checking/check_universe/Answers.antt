@@ -1,11 +1,8 @@
 -- The faults of the inputs come first, and what was found is what is written.
-use Rattle.std.proofs.Common.{Bool, is_some, refl, string_bytes, subst, ap, map, ◌∙◌}
-use Rattle.am_files.specs.Files.{Files}
+use Rattle.std.proofs.Common.{refl, string_bytes, map}
 use Rattle.am_eval.specs.QuestionView.{question_view}
 use Rattle.am_files.proofs.Promises.{refused, written, nothing_told}
-use Rattle.am_universe_command.specs.UniverseInputs.{UniverseInputs}
-use Rattle.am_universe_command.specs.Universes.{IsCheckOf, check_promise}
-use Rattle.am_universe_command.proofs.CheckFacts.{is_there}
+use Rattle.am_universe_command.specs.Universes.{check_promise}
 use Rattle.am_universe_command.proofs.checking.check_universe.Goals as goal
 
 pub returns-in_err-read : goal.returns-in_err-read
@@ -28,13 +25,7 @@ returns g c =
             world = read.world;
             questions = questions;
             accepts = c.in_ok-read.ensures.accepts;
-            checked = subst
-                (λ (b : Bool). IsCheckOf c.args.alphabet read.space read.world questions b
-                c.args.routes (string_bytes c.in-Ok.text))
-                (c.is_some-has_alerts.ensures ∙ is_there c.files.inside.alerts
-                ∙ ap (λ (f : Files). is_some f.alerts) c.files.view_is
-                ∙ ap (λ (i : UniverseInputs). is_some i.files.alerts) c.inputs.view_is)
-                c.in-Ok.ensures;
+            checked = rw c.alerts_if_any-alerts.ensures at c.in-Ok.ensures;
           })
           (nothing_told c.put_str.result) (rw (← c.as_str.ensures.value) c.put_str.ensures.written)
           c.answer_of_write.ensures.answer;
