@@ -203,9 +203,10 @@ module _ (a : Alphabet) (s : Space) (alert : LabelMap) (h : IsUniverse s.labels)
       let r = choice_of_alert a s (world ++ asked) alert h complete is in
       let set = set_of r.0 in
       let on_world = front_met set alert world asked r.2 in
+      let on_routes = front_met set alert (route_matchers w.config.root) _ on_world in
       let treated = treated_alike set alert w on_world in
-      let truth = same_truth set alert w (front_met set alert (route_matchers w.config.root) _ on_world)
-      q (λ asks. treated) (rest_met set alert world asked r.2) in
+      let truth = same_truth set alert w on_routes q (λ asks. treated)
+      (rest_met set alert world asked r.2) in
       (r.0, (answers_exact s w q r.0).1 (r.1, truth ∙ true_of_it), treated)
 
   -- one of a question that does not ask what hides an alert

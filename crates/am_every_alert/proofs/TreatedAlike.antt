@@ -19,7 +19,7 @@ use Rattle.am_eval.specs.Routing.{receiver_at}
 use Rattle.am_eval.specs.Silencing.{is_active, hides, is_silenced}
 use Rattle.am_eval.specs.World.{World}
 use Rattle.am_eval.specs.Tree.{Part, Not, And, Or}
-use Rattle.am_eval.specs.declared.property.Property.TheVariants.{Any, Silenced, Inhibited}
+use Rattle.am_eval.specs.declared.property.Property.TheVariants.{Silenced, Inhibited}
 use Rattle.am_eval.specs.Question.{Question, Simple, Is, Receiver, Route, Braces, reaches}
 use Rattle.am_eval.specs.Question.{holds_of, satisfies}
 use Rattle.am_asked.specs.Asked.{simple_matchers, question_matchers}
@@ -197,9 +197,9 @@ module _ (s t : LabelMap) where
   module _ (w : World) (routes : MeetsTheSame (route_matchers w.config.root) s t) where
     part_alike : (simple : Simple) → (AsksWhatHides (Part simple) → AreTreatedAlike w s t)
         → MeetsTheSame (simple_matchers simple) s t → holds_of w simple s ≡ holds_of w simple t
-    part_alike (Is Any) treated h = refl
     part_alike (Is Silenced) treated h = (treated tt).same_silenced
     part_alike (Is Inhibited) treated h = (treated tt).same_inhibited
+    part_alike (Is _) treated h = refl
     part_alike (Receiver receiver) treated h =
         ap (list_any (λ other. other == receiver)) (same_receivers w.config routes)
     part_alike (Route reach path) treated h =
