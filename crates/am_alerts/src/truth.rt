@@ -2,15 +2,13 @@
 
 ghost use Rattle.std.specs.Prelude.{◌≡◌, ◌==◌, IfOk};
 ghost use Rattle.std.specs.List.{list_any};
-ghost use Rattle.am_universe.specs.LabelSet.{LabelMap};
 ghost use Rattle.am_eval.specs.QuestionView.{question_view};
-ghost use Rattle.am_eval.specs.Question.{has_property, reaches, satisfies};
-ghost use Rattle.am_eval.specs.World.{World};
+ghost use Rattle.am_eval.specs.Question.{reaches, satisfies};
 ghost use Rattle.am_alerts.specs.Outcome.{HasOutcome};
 
 use crate::outcome::{Outcome, outcome_of};
 use am_config::Path;
-use am_eval::{Property, Question, Reach, World};
+use am_eval::{Question, Reach, World};
 use am_universe::LabelSet;
 use std::alloc::{AllocError, Global};
 
@@ -44,9 +42,12 @@ pub(crate) fn satisfies(
         truth ≡ satisfies world.now (question_view question.now) set.now) }
 {
     match question {
-        Question::Is(property) => Ok(has_property(outcome, *property)),
+        Question::Any => Ok(true),
+        Question::Silenced => Ok(!outcome.silencers.is_empty()),
+        Question::Inhibited => Ok(!outcome.inhibitors.is_empty()),
         Question::Receiver(receiver) => Ok(has_receiver(outcome.receivers.as_slice(), *receiver)),
-        Question::Route(reach, path) => Ok(reaches(outcome.ends.as_slice(), *reach, path)),
+        Question::Ends(path) => Ok(reaches(outcome.ends.as_slice(), Reach::Ends, path)),
+        Question::Enters(path) => Ok(reaches(outcome.ends.as_slice(), Reach::Enters, path)),
         Question::Braces(matchers) => matchers.matches(alloc, set),
         Question::Not(question) => Ok(!satisfies(alloc, world, question, set, outcome)?),
         Question::And(left, right) => {
@@ -59,18 +60,6 @@ pub(crate) fn satisfies(
             let second = satisfies(alloc, world, right, set, outcome)?;
             Ok(first || second)
         }
-    }
-}
-
-/// Whether an alert with this outcome has a property.
-fn has_property(outcome: &Outcome, property: Property) -> bool
-    ensures { (w : World) (s : LabelMap) → HasOutcome w s outcome.now
-        → result ≡ has_property w property s }
-{
-    match property {
-        Property::Any => true,
-        Property::Silenced => !outcome.silencers.is_empty(),
-        Property::Inhibited => !outcome.inhibitors.is_empty(),
     }
 }
 

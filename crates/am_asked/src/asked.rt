@@ -185,12 +185,12 @@ fn add_question<'m>(
         (placed_at origin.now (question_matchers (question_view question.now)))) }
 {
     match question {
-        Question::Is(_) | Question::Receiver(_) | Question::Route(_, _) => Ok(()),
         Question::Braces(matchers) => visit_matchers(gathering, origin, matchers),
         Question::Not(question) => add_question(gathering, origin, question),
         Question::And(left, right) | Question::Or(left, right) => {
             add_question(gathering, origin, left)?;
             add_question(gathering, origin, right)
         }
+        _ => Ok(()),
     }
 }

@@ -11,7 +11,7 @@ use crate::search::given_from;
 use crate::texts::{Refusal, add_positions};
 use am_alerts::is_true_of;
 use am_case_runner::Problem;
-use am_eval::{Property, Question};
+use am_eval::Question;
 use am_plans::Plan;
 use am_questions::AcceptedInputs;
 use am_search::Start;
@@ -46,8 +46,7 @@ pub fn of_whole<R: Files + AllocGlobal>(files: &R, words: &[String]) -> Result<V
 
 /// All whole choices in declared order, each with the truth of the question on its label set.
 fn all_choices(alloc: Global, inputs: &AcceptedInputs) -> Result<Vec<(Choice, bool)>, Refusal> {
-    let any = Question::Is(Property::Any);
-    let plan = Plan::new(alloc, &inputs.space, &inputs.world, &any)?;
+    let plan = Plan::new(alloc, &inputs.space, &inputs.world, &Question::Any)?;
     let mut all = Vec::new(alloc);
     let (choices, _) = given_from(alloc, &plan, Start::At(Choice::empty()), None, MOST_CHOICES)?;
     for choice in &choices {

@@ -3,7 +3,7 @@
 use crate::matchers::add_question_matchers;
 use crate::notes::Notes;
 use am_command_line::Call;
-use am_eval::{Property, Question};
+use am_eval::Question;
 use am_universe::Universe;
 use std::alloc::{AllocError, Global};
 
@@ -22,8 +22,8 @@ pub(crate) fn add_question(
     question: &Question,
 ) -> Result<(), AllocError> {
     match question {
-        Question::Is(Property::Silenced) => add_unless(alloc, notes, &call.silences, NO_SILENCES),
-        Question::Is(Property::Inhibited) => add_unless(alloc, notes, &call.alerts, NO_ALERTS),
+        Question::Silenced => add_unless(alloc, notes, &call.silences, NO_SILENCES),
+        Question::Inhibited => add_unless(alloc, notes, &call.alerts, NO_ALERTS),
         Question::Braces(list) => add_question_matchers(alloc, notes, list, text, universe),
         Question::Not(question) => add_question(alloc, notes, call, text, universe, question),
         Question::And(left, right) | Question::Or(left, right) => {
@@ -50,7 +50,7 @@ fn add_unless(
 /// Whether a question asks about routes, and so about every label that routes ask about.
 pub(crate) fn asks_of_routes(question: &Question) -> bool {
     match question {
-        Question::Receiver(_) | Question::Route(_, _) => true,
+        Question::Receiver(_) | Question::Ends(_) | Question::Enters(_) => true,
         Question::Not(question) => asks_of_routes(question),
         Question::And(left, right) | Question::Or(left, right) => {
             asks_of_routes(left) || asks_of_routes(right)

@@ -7,14 +7,9 @@ use Rattle.am_universe.specs.Universe.{Label, sizes}
 use Rattle.am_universe.specs.Choice.{admits}
 use Rattle.am_eval.specs.declared.property.Property.{Property}
 use Rattle.am_eval.specs.declared.property.Property.TheVariants.{Silenced, Inhibited}
-use Rattle.am_eval.specs.declared.question.Question.{fold-roll-Question}
-use Rattle.am_eval.specs.declared.question.Question as kept
-use Rattle.am_eval.specs.declared.question.Question.TheOpen.{Question-F}
-use Rattle.am_eval.specs.declared.question.Question.TheVariants as variants
 use Rattle.am_eval.specs.declared.reach.Reach.{Reach}
 use Rattle.am_eval.specs.Tree.{Part, Not, And, Or}
 use Rattle.am_eval.specs.Question.{Question, Is, Receiver, Route}
-use Rattle.am_eval.specs.QuestionView.{question_view, view_step}
 use Rattle.am_eval.specs.World.{World}
 use Rattle.am_judged_lists.specs.declared.certainty.Certainty.{Certainty}
 use Rattle.am_judged_lists.specs.Certainty.{passes, other}
@@ -28,26 +23,6 @@ use Rattle.am_plans.specs.Verdicts.{verdict_of_simple, verdict_of_question}
 use Rattle.am_plans.specs.WorldByLists.{WorldSeen, has_seen, needs_of, IsServed, Serves}
 use Rattle.am_plans.specs.QuestionByLists.{question_step, question_by, AreListsOf}
 use Rattle.am_plans.proofs.Kleene.{passes_not, passes_and, passes_or, passes_simple}
-
--- ---- What a question of more parts is seen as.
-
-pub not_seen : (q : Box kept.Question Global)
-    → question_view (variants.Not q) ≡ Not (question_view q.value)
-not_seen q =
-    ap question_view (sym (variants.rolls-Not q))
-    ∙ fold-roll-Question Question view_step (Question-F.Not q)
-
-pub and_seen : (q r : Box kept.Question Global)
-    → question_view (variants.And q r) ≡ And (question_view q.value) (question_view r.value)
-and_seen q r =
-    ap question_view (sym (variants.rolls-And q r))
-    ∙ fold-roll-Question Question view_step (Question-F.And q r)
-
-pub or_seen : (q r : Box kept.Question Global)
-    → question_view (variants.Or q r) ≡ Or (question_view q.value) (question_view r.value)
-or_seen q r =
-    ap question_view (sym (variants.rolls-Or q r))
-    ∙ fold-roll-Question Question view_step (Question-F.Or q r)
 
 -- ---- Simple parts.
 

@@ -40,9 +40,12 @@ impl<'q> QuestionLists<'q> {
         ensures exact { IfOk result (AreListsOf universe.now (question_view question.now)) }
     {
         match question {
-            Question::Is(property) => Ok(QuestionLists::Is(*property)),
+            Question::Any => Ok(QuestionLists::Is(Property::Any)),
+            Question::Silenced => Ok(QuestionLists::Is(Property::Silenced)),
+            Question::Inhibited => Ok(QuestionLists::Is(Property::Inhibited)),
             Question::Receiver(receiver) => Ok(QuestionLists::Receiver(*receiver)),
-            Question::Route(reach, path) => Ok(QuestionLists::Route(*reach, path.steps())),
+            Question::Ends(path) => Ok(QuestionLists::Route(Reach::Ends, path.steps())),
+            Question::Enters(path) => Ok(QuestionLists::Route(Reach::Enters, path.steps())),
             Question::Braces(matchers) => {
                 Ok(QuestionLists::Braces(Cube::of(alloc, matchers, universe)?))
             }

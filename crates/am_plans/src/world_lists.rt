@@ -40,10 +40,12 @@ fn needs(question: &Question, need: Need) -> bool
     ensures { result ≡ needs_of need (question_view question.now) }
 {
     match question {
-        Question::Is(Property::Any) | Question::Braces(_) => false,
-        Question::Is(Property::Silenced) => matches!(need, Need::Silences),
-        Question::Is(Property::Inhibited) => matches!(need, Need::Pairs),
-        Question::Receiver(_) | Question::Route(_, _) => matches!(need, Need::Routes),
+        Question::Any | Question::Braces(_) => false,
+        Question::Silenced => matches!(need, Need::Silences),
+        Question::Inhibited => matches!(need, Need::Pairs),
+        Question::Receiver(_) | Question::Ends(_) | Question::Enters(_) => {
+            matches!(need, Need::Routes)
+        }
         Question::Not(question) => needs(question, need),
         Question::And(left, right) | Question::Or(left, right) => {
             needs(left, need) || needs(right, need)

@@ -73,12 +73,12 @@ fn part_of(alloc: Global, config: &Config, written: &Written<'_>) -> Result<Ques
         → PartRefusedFor (config_view config.now) (written_view written.now) kind) }
 {
     match written {
-        Written::Is(property) => Ok(Question::Is(*property)),
+        Written::Is(property) => Ok(Question::property(*property)),
         Written::Receiver(name) => match config.receiver_position(name) {
-            Some(receiver) => Ok(Question::Receiver(receiver)),
+            Some(receiver) => Ok(Question::receiver(receiver)),
             None => Err(Kind::UnknownReceiver),
         },
-        Written::Route(reach, text) => Ok(Question::Route(*reach, path_of_route(config, text)?)),
+        Written::Route(reach, text) => Ok(Question::route(*reach, path_of_route(config, text)?)),
         Written::Braces(text) => Ok(Question::Braces(parse_matchers(alloc, text)?)),
     }
 }
