@@ -9,8 +9,10 @@
 mod command_line;
 mod commands;
 mod options;
+mod requests;
 mod steps;
 mod table;
 
-pub use command_line::{Call, CommandLine, Request, parse_command_line};
+pub use command_line::{Call, CommandLine, parse_command_line};
 pub use steps::{MIN_STEPS, Steps};
+pub use table::Request;

@@ -1,10 +1,94 @@
-//! The commands of `amcover`, with their help texts. The man page and the completions are made from
-//! them too.
+//! The commands of `amcover`: what each asks for, and their help texts. The man page and the
+//! completions are made from the texts too.
 
 use crate::options::{
     AFTER, ALERTS, ASCII, ASKED, ASKED_OF_ALERTS, AT, CHECK, CONFIG, COUNTED, CommandRow, FROM,
     IMPOSSIBLE, LIMIT, NEW, Need, OLD, OPEN, ROUTES, SET, SILENCES, STEPS, UNIVERSE,
 };
+use crate::requests::{ask_request, universe_request, words_of};
+use crate::steps::Steps;
+use clap::ArgMatches;
+use std::alloc::{AllocError, Global};
+use std::num::NonZeroU64;
+
+/// What a command line asks for. In a request about every alert, the impossible lists of the
+/// universe file count, if there is one, and `ascii` says whether only alerts of printable ASCII
+/// count.
+#[derive(Drop)]
+pub enum Request<'a> {
+    /// What is wrong with a configuration and with silences, for every alert.
+    Lint {
+        ascii: bool,
+    },
+    /// Which alerts go to other receivers under a new configuration than under an old one.
+    Compare {
+        ascii: bool,
+    },
+    /// Each list of receivers to which some alert goes.
+    Outcomes {
+        ascii: bool,
+    },
+    /// The label sets of a universe that satisfy a question.
+    Ask {
+        question: &'a str,
+        after: Option<&'a str>,
+        limit: Option<NonZeroU64>,
+        steps: Option<Steps>,
+    },
+    /// At which routes no label set of a universe ends.
+    Dead,
+    /// To which receivers no label set of a universe goes.
+    Receivers,
+    /// Why a label set goes where it goes. One word is its text; each of several words is one
+    /// matcher.
+    Explain {
+        set: Vec<&'a str>,
+    },
+    /// The alerts of an export of which a question is true, or all of them.
+    Alerts {
+        question: Option<&'a str>,
+    },
+    /// A universe that stands for every alert, and keeps the labels of the universe file, if there
+    /// is one. If `routes`, only the matchers of routes, questions and impossible lists count; if
+    /// `open`, it is made even if some label is unproved.
+    Universe {
+        routes: bool,
+        ascii: bool,
+        open: bool,
+        questions: Vec<&'a str>,
+    },
+    /// What a universe lacks to stand for every alert, for the same matchers.
+    CheckUniverse {
+        routes: bool,
+        ascii: bool,
+        questions: Vec<&'a str>,
+    },
+}
+
+/// What the command of this name asks for. A flag that the command does not have is not set.
+pub(crate) fn request_of<'a>(
+    alloc: Global,
+    name: &str,
+    matches: &ArgMatches<'a>,
+) -> Result<Option<Request<'a>>, AllocError> {
+    let ascii = matches.get_flag("ascii");
+    let question = matches.get_str("question");
+    let request = match name {
+        "lint" => Request::Lint { ascii },
+        "compare" => Request::Compare { ascii },
+        "outcomes" => Request::Outcomes { ascii },
+        "ask" => ask_request(question.unwrap_or(""), matches),
+        "dead" => Request::Dead,
+        "receivers" => Request::Receivers,
+        "explain" => Request::Explain {
+            set: words_of(alloc, matches, "set")?,
+        },
+        "alerts" => Request::Alerts { question },
+        "universe" => universe_request(words_of(alloc, matches, "question")?, matches),
+        _ => return Ok(None),
+    };
+    Ok(Some(request))
+}
 
 /// The program itself, with which the help begins.
 pub(crate) const PROGRAM: CommandRow = CommandRow {

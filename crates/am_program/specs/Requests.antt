@@ -7,8 +7,8 @@ use Rattle.am_classes.specs.declared.alphabet.Alphabet.{Alphabet}
 use Rattle.am_classes.specs.declared.alphabet.Alphabet.TheVariants.{Unicode, Ascii}
 use Rattle.am_command_line.specs.StepsView.{step_count}
 use Rattle.am_command_line.specs.declared.command_line.CommandLine.{CommandLine}
-use Rattle.am_command_line.specs.declared.command_line.Request.{Request}
-use Rattle.am_command_line.specs.declared.command_line.Request.TheVariants as requests
+use Rattle.am_command_line.specs.declared.table.Request.{Request}
+use Rattle.am_command_line.specs.declared.table.Request.TheVariants as requests
 use Rattle.am_files.specs.Files.{Files, config_of}
 use Rattle.am_commands.specs.Explanation.{explain_promise}
 use Rattle.am_files.specs.Promise.{Promise}
