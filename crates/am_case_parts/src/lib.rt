@@ -1,7 +1,7 @@
 //! The parts of `amcover` that tables of cases call, and what each gives as a text.
 //!
-//! [`call`] has the list of the parts. They show what no command shows: how a text is read, and how
-//! a search goes.
+//! [`call`] has the list of the parts. They show what no command shows, as how a text is read, or
+//! how a search goes.
 #![tactic(auto)]
 
 // What a case names, and what it gives, as a text.

@@ -1,13 +1,13 @@
-//! Matchers, as they are read, and what they match.
+//! Matchers, as they are read, and what they match; and label sets.
 
 ghost use Rattle.std.specs.Prelude.{◌≡◌, Some, IfSome, length, slice_get};
 ghost use Rattle.am_universe.specs.Universe.{sizes};
 
 use crate::asked::read_file;
-use crate::texts::{Refusal, begun};
+use crate::texts::{Refusal, begun, word};
 use am_labels::{Matcher, Matchers, Op, Row, parse_matchers, parse_set};
 use am_list_files::read_universe;
-use am_universe::{Kind, Out, Universe, put_str, write_text};
+use am_universe::{Kind, LabelSet, Out, Universe, put_str, write_map, write_text};
 use std::alloc::{AllocError, Global};
 use std::rt::Files;
 
@@ -55,6 +55,23 @@ pub fn of_match(alloc: Global, list: &str, set: &str) -> Result<Vec<u8>, Refusal
     let (list, set) = (parse_matchers(alloc, list)?, parse_set(alloc, set)?);
     let words = yes_or_no(list.matches(alloc, &set)?);
     Ok(Vec::from_slice(alloc, words.as_bytes())?)
+}
+
+/// Puts values into a label set, each under the name before it. Returns the label set, and the
+/// value of the last name in it.
+pub fn of_put(alloc: Global, words: &[String]) -> Result<Vec<u8>, Refusal> {
+    let mut set = LabelSet::empty(alloc);
+    for pair in words.get(1..).unwrap_or(&[]).chunks(2) {
+        if let [name, value] = pair {
+            set.put(name.clone()?, value.clone()?)?;
+        }
+    }
+    let mut out = begun(alloc, "ok: ")?;
+    write_map(&set, &mut out)?;
+    put_str(&mut out, " ")?;
+    let last = word(words, words.len().saturating_sub(1));
+    write_text(&mut out, set.get(last))?;
+    Ok(out.into_inner())
 }
 
 fn yes_or_no(truth: bool) -> &'static str {
