@@ -15,7 +15,9 @@ use Rattle.am_config.specs.RoutePaths.{all_routes}
 use Rattle.am_eval.proofs.SimpleParts.{end_of_receiver, receiver_of_end}
 use Rattle.am_classes.specs.declared.alphabet.Alphabet.{Alphabet}
 use Rattle.am_classes.specs.declared.alphabet.Alphabet.TheVariants.{Unicode, Ascii}
+use Rattle.am_asked.specs.Asked.{route_matchers}
 use Rattle.am_every_alert.specs.EveryAlert.{IsAlertOf}
+use Rattle.am_every_alert.specs.Deciding.{StandsFor, space_of}
 use Rattle.am_lint.specs.declared.arrival.Arrival.{Arrival}
 use Rattle.am_lint.specs.declared.arrival.Arrival.TheVariants as arrival_is
 use Rattle.am_lint.specs.declared.found.FoundRoute.{FoundRoute}
@@ -99,10 +101,10 @@ module _ (s : Space) (u v : List Label) (c : Configuration) (path : List ℕ) wh
   finding_so Unicode (arrival_is.NeverEntered reason) None so further = absurd (further refl)
   finding_so Unicode (arrival_is.NeverEntered reason) (Some (arrival_is.Ends choice)) so further =
       let h = further refl in
-      (refl, so.0, so.1, h.1, enters_to_end c path (label_set_of v choice) h.2)
+      (refl, so.0, so.1, (h.0, h.1, enters_to_end c path (label_set_of v choice) h.2))
   finding_so Unicode (arrival_is.NeverEntered reason) (Some (arrival_is.HandsOn entry children)) so
       further =
-      let h = further refl in (refl, so.0, so.1, h.0.1, h.0.2)
+      (refl, so.0, so.1, (further refl).0)
   finding_so Unicode (arrival_is.NeverEntered reason) (Some (arrival_is.NeverEntered other)) so
       further = further refl
 
@@ -204,17 +206,18 @@ module _ (alphabet : Alphabet) (s : Space) (u v : List Label) (c : Configuration
 
   -- ---- A report.
 
-  pub lines_so : (receivers : List (Option ReceiverFinding)) (findings notes : ℕ)
-      (lines : List ℕ)
+  pub lines_so : StandsFor alphabet (space_of s.impossible v) (route_matchers c.root)
+      → (receivers : List (Option ReceiverFinding)) (findings notes : ℕ) (lines : List ℕ)
       → receivers ≡ map (receiver_finding routes) (range_with_len 0 (length c.receivers))
       → findings ≡ count_findings (map said_of routes) receivers
       → notes ≡ count_notes (map said_of routes) receivers
       → lines ≡ report_lines v c (map said_of routes) receivers
       → SaysOfRoutes alphabet s c findings notes lines
-  lines_so receivers findings notes lines are counts notes_are text =
+  lines_so stand receivers findings notes lines are counts notes_are text =
       let all = range_with_len 0 (length c.receivers) in
       record {
         labels = v;
+        stand = stand;
         routes = map said_of routes;
         each_route = zip_mapped IsSo (IsSaid alphabet s v c) said_of (λ route found is. (
           is.path,

@@ -2,7 +2,7 @@
 -- alerts.
 use Rattle.std.specs.Prelude.{◌≡◌, ℕ, List, Option, Some, None}
 use Rattle.am_universe.specs.Universe.{Label}
-use Rattle.am_universe.specs.LabelSet.{LabelMap, label_set_of}
+use Rattle.am_universe.specs.LabelSet.{LabelMap}
 use Rattle.am_labels.specs.Space.{Space}
 use Rattle.am_config.specs.ConfigFile.{Configuration}
 use Rattle.am_classes.specs.declared.alphabet.Alphabet.{Alphabet}
@@ -14,7 +14,7 @@ use Rattle.am_lint.specs.declared.found.ReceiverFinding.TheVariants as receiver_
 use Rattle.am_eval.specs.Reaching.{EndsAt, Enters, GoesTo, SomeIs, IsDead, IsNeverEntered}
 use Rattle.am_eval.specs.Reaching.{IsUnmatched}
 use Rattle.am_lint.specs.Reasons.{IsHandedTo}
-use Rattle.am_lint.specs.Arrival.{IsReasonFor}
+use Rattle.am_lint.specs.Arrival.{IsSeenBy, IsReasonFor}
 
 -- What is said of a route. It is dead, for this reason. Or it is unusual: no ordinary alert enters
 -- it, for this reason, but the label set of this choice does. Or it hands on to these children.
@@ -47,7 +47,7 @@ IsRouteFinding a s u c path (Some (Dead cause routes)) =
 IsRouteFinding a s u c path (Some (Unusual cause routes entry)) =
     (a ≡ Unicode) × IsNeverEntered (IsOrdinary s) c path
     × IsReasonFor (IsOrdinary s) c path cause routes
-    × IsAlertOf a s (label_set_of u entry) × Enters c path (label_set_of u entry)
+    × IsSeenBy u (IsAlertOf a s) (Enters c path) entry
 IsRouteFinding a s u c path (Some (HandsOn children)) =
     SomeIs (IsOrdinary s) (Enters c path) × IsDead (IsOrdinary s) c path
     × IsHandedTo (IsOrdinary s) c path children

@@ -49,7 +49,7 @@ so c =
           w.in_ok-look_further.ensures.looked)
       | in_default w ↦
           rw (w.space-is, w.routes-is) (found_ordinary s o config c.args.ordinary
-          c.requires.ordinary first every o.labels old w.in_default.is
+          c.requires.ordinary first every old w.in_default.is
           c.in_ok-routes.ensures.found c.in_ok-routes.ensures.once)
     ]
 
@@ -62,7 +62,7 @@ lint_lines-requires-clause-shown c =
     let routes = c.match-every-2.routes.items in
     let found = so (goal.at.lint_lines-requires-clause-shown c).After-as_slice-2 in
     rw (c.universe.ensures.labels, c.as_slice-2.ensures.value)
-    (found_shown (alphabet_over every) s found.0 labels config routes c.args.config.now.sound found.1)
+    (found_shown (alphabet_over every) s found.0 labels config routes c.args.config.now.sound found.1.0)
 
 pub lint_lines-requires-clause-each : goal.lint_lines-requires-clause-each
 lint_lines-requires-clause-each c =
@@ -85,6 +85,6 @@ returns-clause-says c =
     at c.count_notes.ensures.count in
     let text = rw (c.universe.ensures.labels, c.as_slice-2.ensures.value, c.as_slice-3.ensures.value)
     at c.in_ok-lines.ensures.text in
-    lines_so (alphabet_over every) s found.0 labels config routes found.1
+    lines_so (alphabet_over every) s found.0 labels config routes found.1.0 found.1.1
     c.in_ok-receivers.receivers.items c.count_findings.result c.count_notes.result _ are count notes
     text
