@@ -3,6 +3,7 @@ pub mod ValueText
 pub mod MatchersSpelled
 pub mod TableLemmas
 pub mod LiteralLemmas
+pub mod PathOrder
 pub mod PlaceSteps
 pub mod EnteringLemmas
 pub mod LiteralTruth

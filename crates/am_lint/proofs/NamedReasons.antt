@@ -1,6 +1,6 @@
 -- The routes whose literals are named are a reason.
 use Rattle.std.proofs.Common.{◌≡◌, ◌↔◌, ◌≤◌, ℕ, zero, suc, List, [], ◌∷◌, length, drop}
-use Rattle.std.proofs.Common.{take, Some, Bor, Bool, true, false, not, ◌||◌, cond, refl, sym, ap}
+use Rattle.std.proofs.Common.{map, take, Some, Bor, Bool, true, false, not, ◌||◌, cond, refl, sym, ap}
 use Rattle.std.proofs.Common.{◌∙◌, subst, slice_get, IsTrue, inl, inr, arith, ◌&&◌}
 use Rattle.std.specs.List.{AllByRecursion, filter}
 use Rattle.std.proofs.lemmas.Bool.{both_ways, and_parts, and_from, cases_Bool, not-true}
@@ -32,6 +32,7 @@ use Rattle.am_lint.specs.Literals.{named_paths}
 use Rattle.am_eval.specs.Reaching.{IsSetOf}
 use Rattle.am_lint.specs.Reasons.{IsReasonWhy, Matches, Misses, LacksContinue}
 use Rattle.am_lint.proofs.LiteralTruth.{AreSaying, saying}
+use Rattle.am_lint.proofs.PathOrder.{Ascend, kept_ascend, part_ascends, paths_alike}
 
 -- ---- Lists of literals, of which the first `n` are given.
 
@@ -134,7 +135,8 @@ module _ (s : Space) (routes : List TableRoute) (IsOfKind : List ℕ → Type 0)
 
   module _ (n : ℕ) (all ks : List Candidate) (same : AreSameLiterals all ks)
       (reason : IsReason (IsChoiceOf s) n ks) (say : AreSaying s (take n all) First)
-      (rest : AllByRecursion IsAsked (drop n all)) where
+      (rest : AllByRecursion IsAsked (drop n all))
+      (ascend : Ascend (map (path_of routes) (drop n all))) where
     abbrev blamed : List (List ℕ)
     blamed = named_paths routes (drop n ks)
 
@@ -155,6 +157,8 @@ module _ (s : Space) (routes : List TableRoute) (IsOfKind : List ℕ → Type 0)
     is_reason = record {
       kind = AllByRecursion-each IsOfKind blamed (λ q there.
           let l = blamed_at q there in subst IsOfKind l.3 (asked l.0 l.1).0);
+      ordered = kept_ascend (path_of routes) (λ k. k.named) (drop n ks)
+          (subst Ascend (paths_alike routes n all ks same) ascend);
       enough = λ set occurs does.
           both_ways (meets occurs.0 ks) (reason.enough occurs.0 occurs.1)
           (all_met occurs.0 n ks
@@ -245,13 +249,14 @@ pub part_reason : (s : Space) (c : Configuration) (routes : List TableRoute)
     → IsReasonWhy (IsSetOf s) (IsOfPart c path part) First (DoesAt c part) paths
 part_reason s c routes known path part old new adds First say paths found =
     let Asked = IsAsked s routes (IsOfPart c path part) First (DoesAt c part) in
+    let behind : adds.more ≡ drop (length old) new =
+    sym (ap (drop (length old)) adds.adds ∙ drop_at old adds.more (length old) refl) in
     subst (IsReasonWhy (IsSetOf s) (IsOfPart c path part) First (DoesAt c part)) (sym found.3)
     (is_reason s routes (IsOfPart c path part) First (DoesAt c part) (length old) new found.0
     found.1 found.2
     (subst (λ (ks : List Candidate). AreSaying s ks First)
     (sym (ap (take (length old)) adds.adds ∙ take_at old adds.more (length old) refl)) say)
-    (subst (AllByRecursion Asked)
-    (sym (ap (drop (length old)) adds.adds ∙ drop_at old adds.more (length old) refl))
+    (subst (AllByRecursion Asked) behind
     (AllByRecursion-each Asked adds.more (λ k there.
     let of = saying s c routes known path part k
     (AllByRecursion-at (IsAbout routes part path) adds.more k adds.each there) in (
@@ -261,4 +266,6 @@ part_reason s c routes known path part old new adds First say paths found =
           let does =
           does_at c part (label_set_of s.labels choice) (path_of routes k) of.tree of.at in
           (λ h. does.0 (says.0 h), λ h. says.1 (does.1 h)),
-    )))))
+    ))))
+    (subst (λ ks. Ascend (map (path_of routes) ks)) behind
+    (part_ascends s.labels c routes known part path old new adds)))

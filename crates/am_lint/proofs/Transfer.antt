@@ -84,6 +84,7 @@ module _ (a : Alphabet) (s : Space) (c : Configuration) (h : StandsForAlerts a s
       → IsReasonWhy (IsAlertOf a s) IsOfKind First Does blamed
   why_over IsOfKind First Does blamed first does by = record {
     kind = by.kind;
+    ordered = by.ordered;
     enough = none_so (λ set. First set × ((q : List ℕ) → Contains blamed q → Does q set))
         (λ x y met so. (first x y met so.0, λ q there. does q x y met (so.1 q there))) by.enough;
     needed = λ q there. some_over a s (routes c) h _ (by.needed q there);

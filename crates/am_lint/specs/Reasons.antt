@@ -1,7 +1,10 @@
 -- Why no alert enters a route, and why no alert that enters a route ends there: the routes that are
 -- to blame, by their paths. They are enough, and each of them is needed.
 use Rattle.std.specs.Prelude.{◌≡◌, ◌≢◌, ℕ, List, [], Contains, IsTrue, false, Some, ⊤}
+use Rattle.std.specs.Cmp.Lexicographic.{slice_cmp}
 use Rattle.std.specs.List.{AllByRecursion}
+use Rattle.std.specs.List.Sorted.{IsStrictlySortedBy}
+use Rattle.std.specs.Ordering.{nat_cmp}
 use Rattle.am_universe.specs.LabelSet.{LabelMap}
 use Rattle.am_config.specs.ConfigFile.{Configuration, RouteTree, continues_of}
 use Rattle.am_config.specs.Path.{leads_through, route_at}
@@ -10,8 +13,8 @@ use Rattle.am_lint.specs.Places.{stands_before, is_child_of}
 use Rattle.am_eval.specs.Reaching.{Enters, SomeIs, NoneIs}
 
 -- Some routes of one kind, by their paths, are the reason why no alert that meets a condition also
--- does something at each of them. They are enough: no alert does. Each of them is needed: without
--- it, some alert does.
+-- does something at each of them. They are in preorder, which is the order of paths, and none is
+-- there twice. They are enough: no alert does. Each of them is needed: without it, some alert does.
 -- Source: own choice; logic calls what is enough and needed in this way a minimal unsatisfiable
 -- set.
 -- Example: the children of a route are the reason why no alert that enters the route misses each of
@@ -20,6 +23,7 @@ pub record IsReasonWhy (Occurs : LabelMap → Type 0) (IsOfKind : List ℕ → T
     (First : LabelMap → Type 0) (Does : List ℕ → LabelMap → Type 0) (routes : List (List ℕ))
     : Type 0 where
   pub kind : AllByRecursion IsOfKind routes
+  pub ordered : IsStrictlySortedBy (slice_cmp nat_cmp) routes
   pub enough : NoneIs Occurs
       (λ set. First set × ((q : List ℕ) → Contains routes q → Does q set))
   pub needed : (q : List ℕ) → Contains routes q → SomeIs Occurs
