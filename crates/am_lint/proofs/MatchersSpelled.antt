@@ -1,5 +1,5 @@
 -- The text of matchers spells them.
-use Rattle.std.proofs.Common.{◌≡◌, refl, sym, ◌∙◌, ap, inl, inr, ℕ, ◌-◌, List, [], ◌∷◌, ◌++◌}
+use Rattle.std.proofs.Common.{◌≡◌, refl, sym, ◌∙◌, ap, subst, inl, inr, ℕ, ◌-◌, List, [], ◌∷◌, ◌++◌}
 use Rattle.std.proofs.Common.{length, map, Bool, true, false, not, ◌&&◌, arith}
 use Rattle.std.specs.Prelude.{◌==◌, IsTrue, codes}
 use Rattle.std.specs.List.{flat_map, list_all, AllByRecursion, AllZip}
@@ -84,13 +84,19 @@ passes_quoted t =
     (passes_both true true false (flat_map label_value_escape t) (34 ∷ []) (passes_value t)
     (λ piece rest. refl))
 
+-- a name that a list may have stands without quotes
+text_of_named : (m : Matcher) → is_name m.name ≡ true
+    → matcher_text m ≡ m.name ++ (operator_text m.op ++ quoted_text m.value)
+text_of_named m h = rw h refl
+
 passes_matcher : (m : Matcher) → is_name m.name ≡ true → Passes false (matcher_text m) false
 passes_matcher m h =
-    passes_both false false false m.name (operator_text m.op ++ quoted_text m.value)
+    subst (λ (t : List ℕ). Passes false t false) (sym (text_of_named m h))
+    (passes_both false false false m.name (operator_text m.op ++ quoted_text m.value)
     (passes_name m.name h)
     (passes_both false false false (operator_text m.op) (quoted_text m.value)
     (passes_plain is_plain (λ c h. h) (operator_text m.op) (operator_plain m.op))
-    (passes_quoted m.value))
+    (passes_quoted m.value)))
 
 -- ---- pieces
 
@@ -109,8 +115,10 @@ cut_list : (m : Matcher) (ms : List Matcher) → is_name m.name ≡ true → Nam
     false [] (matcher_text m ++ texts_behind (codes ",") (codes ",") matcher_text ms) ≡
     matcher_text m ∷ map matcher_text ms
 cut_list m [] name named =
-    passes_matcher m name [] [] ∙ rw
-    (name_not_blank m.name (operator_text m.op ++ quoted_text m.value) name) refl
+    let blank : is_blank (matcher_text m) ≡ false =
+    ap is_blank (text_of_named m name)
+    ∙ name_not_blank m.name (operator_text m.op ++ quoted_text m.value) name in
+    passes_matcher m name [] [] ∙ rw blank refl
 cut_list m (next ∷ ms) name named =
     passes_matcher m name [] (texts_behind (codes ",") (codes ",") matcher_text (next ∷ ms)) ∙ ap
     (λ r. matcher_text m ∷ r) (cut_list next ms named.0 named.1)
@@ -142,7 +150,8 @@ spells_one m h = record {
   after = [];
   raw = quoted_text m.value;
   behind = [];
-  parts = rw (append-nil (quoted_text m.value)) refl;
+  parts = text_of_named m h
+      ∙ ap (λ t. m.name ++ (operator_text m.op ++ t)) (sym (append-nil (quoted_text m.value)));
   blanks = refl;
   name = h;
   operator = is_longest m.op 34 _ (λ quote. absurd (omega (arith, quote)));

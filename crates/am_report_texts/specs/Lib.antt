@@ -1,3 +1,5 @@
 pub mod Separated
+pub mod NameText
 pub mod MatchersText
 pub mod Plural
+pub mod Lines

@@ -1,11 +1,13 @@
-//! The parts of the texts of reports: texts in quotes, label sets, matchers in braces, paths, and
-//! the separators of lists.
+//! The parts of the texts of reports: texts in quotes, names, label sets, matchers in braces,
+//! paths, and the separators of lists.
 #![tactic(auto)]
 
-// A text in quotes, and the ending of a word.
+// A text in quotes, the name of a label, and the ending of a word.
+mod name_text;
 mod quoted_text;
 mod word_ending;
 
+pub use name_text::{is_name, push_name};
 pub use quoted_text::push_quoted;
 pub use word_ending::plural;
 

@@ -3,7 +3,7 @@
 ghost use Rattle.std.specs.Prelude.{◌≡◌, ◌++◌, string_bytes, OnOk};
 ghost use Rattle.am_report_texts.specs.MatchersText.{matcher_text, matchers_text};
 
-use crate::{gap_before, push_quoted};
+use crate::{gap_before, push_name, push_quoted};
 use am_labels::{Matcher, Matchers};
 use std::alloc::AllocError;
 
@@ -26,7 +26,7 @@ pub fn push_matcher(text: &mut String, matcher: &Matcher) -> Result<(), AllocErr
     ensures text { OnOk result (string_bytes text.new
         ≡ string_bytes text.old ++ matcher_text matcher.now) }
 {
-    text.push_str(matcher.name())?;
+    push_name(text, matcher.name())?;
     text.push_str(matcher.op().text())?;
     push_quoted(text, matcher.value())
 }
