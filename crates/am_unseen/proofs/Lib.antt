@@ -6,3 +6,4 @@ pub mod SeenValues
 pub mod SeenSets
 pub mod UnseenMatchers
 pub mod SearchSteps
+pub mod LineLaws

@@ -3,6 +3,7 @@ use Rattle.std.specs.Prelude.{ℕ, List, ◌++◌, Option, Some, None, codes, de
 use Rattle.std.specs.List.{flat_map}
 use Rattle.am_universe.specs.Text.{quoted_text}
 use Rattle.am_config.specs.Path.{path_text}
+use Rattle.am_report_texts.specs.NameText.{name_text}
 use Rattle.am_complete.specs.declared.origin.Origin.{Origin}
 use Rattle.am_complete.specs.declared.origin.Origin.TheVariants as origin_is
 use Rattle.am_unseen.specs.Unseen.{UnseenValue}
@@ -29,7 +30,7 @@ similar_text (Some value) = codes ", some have " ++ quoted_text value
 abbrev pub unseen_line : UnseenValue → List ℕ
 unseen_line unseen =
     place_text unseen.origin
-    ++ (codes " unseen: no alert has " ++ (unseen.name
+    ++ (codes " unseen: no alert has " ++ (name_text unseen.name
     ++ (codes "=" ++ (quoted_text unseen.value
     ++ (similar_text unseen.similar ++ codes "\n")))))
 

@@ -5,7 +5,7 @@ ghost use Rattle.am_unseen.specs.UnseenText.{unseen_lines, unseen_line, place_te
 
 use crate::UnseenValue;
 use am_complete::Origin;
-use am_report_texts::{push_path, push_quoted};
+use am_report_texts::{push_name, push_path, push_quoted};
 use std::alloc::{AllocError, Global};
 
 /// Adds a line for each unseen value, in their order. Fails only if memory runs out.
@@ -30,7 +30,7 @@ fn push_line(alloc: Global, text: &mut String, unseen: &UnseenValue<'_>) -> Resu
 {
     push_place(alloc, text, unseen.origin())?;
     text.push_str(" unseen: no alert has ")?;
-    text.push_str(unseen.name())?;
+    push_name(text, unseen.name())?;
     text.push_str("=")?;
     push_quoted(text, unseen.value())?;
     push_similar(text, unseen.similar())?;
