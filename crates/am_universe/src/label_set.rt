@@ -68,8 +68,8 @@ impl LabelSet {
     }
 
     /// The map from names to values.
-    pub(crate) fn values(&self) -> &BTreeMap<String, String>
-        ensures { label_map_of result.now.entries ≡ self.now }
+    pub fn values(&self) -> &BTreeMap<String, String>
+        ensures values { label_map_of result.now.entries ≡ self.now }
     {
         &self.values
     }

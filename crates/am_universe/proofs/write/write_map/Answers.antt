@@ -12,7 +12,7 @@ returns-in_err-write_pair g c = record {
   written =
       let l = c.loop-name.invariant in
       let gives = c.into_iter-name-iterator.ensures.into_iter_gives in
-      let kept : entries c.args.set.now ≡ entry_texts c.into_iter-name-iterator.result = ap entries (sym c.values-name-items.ensures) ∙ entries_kept c.values-name-items.result.now gives.5 ∙ ap entry_texts (sym gives.0) in
+      let kept : entries c.args.set.now ≡ entry_texts c.into_iter-name-iterator.result = ap entries (sym c.values-name-items.ensures.values) ∙ entries_kept c.values-name-items.result.now gives.5 ∙ ap entry_texts (sym gives.0) in
       let among = entry_among c.into_iter-name-iterator.result l.done _ c.next.new.self (c.in-Some.name.now, c.in-Some.value.now) c.as_str.result.now c.as_str-in-loop-name.result.now l.all c.in-Some.ensures.steps c.as_str.ensures.value c.as_str-in-loop-name.ensures.value in
       writes_as (set_through _ _ _ _ _ (kept ∙ among) l.separator) (l.written ⟩ fails _ c.from_residual-in_err-write_pair.ensures c.in_err-write_pair.ensures);
 }
@@ -33,7 +33,7 @@ returns g c = record {
   written =
       let l = c.loop-name.invariant in
       let gives = c.into_iter-name-iterator.ensures.into_iter_gives in
-      let kept : entries c.args.set.now ≡ entry_texts c.into_iter-name-iterator.result = ap entries (sym c.values-name-items.ensures) ∙ entries_kept c.values-name-items.result.now gives.5 ∙ ap entry_texts (sym gives.0) in
+      let kept : entries c.args.set.now ≡ entry_texts c.into_iter-name-iterator.result = ap entries (sym c.values-name-items.ensures.values) ∙ entries_kept c.values-name-items.result.now gives.5 ∙ ap entry_texts (sym gives.0) in
       let all : c.into_iter-name-iterator.result ≡ l.done = l.all ∙ ap (λ r. l.done ++ r) c.in-None.ensures.steps.0 ∙ append-nil l.done in
       writes_as (ap (λ es. 123 ∷ (joined es ++ 125 ∷ [])) (sym (kept ∙ ap entry_texts all))) (l.written ⟩ c.put_all-2.ensures.written);
 }
