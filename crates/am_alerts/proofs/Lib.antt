@@ -1,3 +1,5 @@
 mod Truths
 mod Ids
 pub mod ListedSteps
+pub mod LabelSteps
+pub mod LineLaws

@@ -2,10 +2,12 @@
 use Rattle.std.specs.Prelude.{ℕ, List, [], ◌∷◌, ◌++◌, map, codes, decimal, Option, slice_get}
 use Rattle.std.specs.Prelude.{unwrap_or}
 use Rattle.std.specs.List.{filter, flat_map, enumerate_from}
+use Rattle.std.specs.FinMap.{entries}
 use Rattle.am_universe.specs.LabelSet.{LabelMap}
 use Rattle.am_universe.specs.Text.{quoted_text}
-use Rattle.am_universe.specs.WrittenLabelSet.{map_text}
+use Rattle.am_universe.specs.WrittenLabelSet.{pairs_text}
 use Rattle.am_config.specs.ConfigFile.{Configuration}
+use Rattle.am_report_texts.specs.NameText.{name_text}
 use Rattle.am_eval.specs.World.{World}
 use Rattle.am_eval.specs.Routing.{receivers}
 use Rattle.am_eval.specs.Silencing.{silencers}
@@ -54,6 +56,13 @@ abbrev pub listed : {X : Type 0} → List ℕ → (X → List ℕ) → List X �
 listed front text [] = []
 listed front text (x ∷ xs) = front ++ (text x ++ listed (codes ",") text xs)
 
+-- The label set of an alert, with its labels in the order of the bytes of their names. A name that
+-- no list of matchers may have is in quotes.
+-- Source: own choice.
+-- Example: `{"job-name"="a",team="db"}`.
+abbrev pub labels_text : LabelMap → List ℕ
+labels_text s = pairs_text (map (λ label. (name_text label.0, label.1)) (entries s))
+
 -- The name of the receiver at a position, in quotes.
 abbrev pub receiver_text : Configuration → ℕ → List ℕ
 receiver_text c receiver = quoted_text (unwrap_or (slice_get c.receivers receiver) [])
@@ -73,7 +82,7 @@ inhibitor_text found = decimal found.0 ++ (codes "/" ++ decimal found.1)
 -- by the first rule, and no silence hides it.
 abbrev pub line_text : Configuration → List (Option (List ℕ)) → AlertLine → List ℕ
 line_text c ids line =
-    decimal line.position ++ (codes " " ++ (map_text line.set
+    decimal line.position ++ (codes " " ++ (labels_text line.set
     ++ (codes " -> " ++ (listed [] (receiver_text c) line.receivers
     ++ (listed (codes " silenced ") (silence_text ids) line.silencers
     ++ (listed (codes " inhibited ") inhibitor_text line.inhibitors ++ codes "\n"))))))

@@ -5,14 +5,18 @@ ghost use Rattle.std.specs.Prelude.{◌≡◌, ◌++◌, ◌==◌, [], codes, de
 ghost use Rattle.std.specs.Prelude.{unwrap_or, if◌then◌else◌};
 ghost use Rattle.std.specs.List.{flat_map};
 ghost use Rattle.am_universe.specs.Sink.{Writes};
+ghost use Rattle.am_universe.specs.WrittenLabelSet.{pair_text};
+ghost use Rattle.am_report_texts.specs.NameText.{name_text};
 ghost use Rattle.am_config.specs.ConfigView.{config_view};
 ghost use Rattle.am_alerts.specs.FoundView.{found_text};
 ghost use Rattle.am_alerts.specs.AlertLines.{listed, receiver_text, silence_text, inhibitor_text};
+ghost use Rattle.am_alerts.specs.AlertLines.{labels_text};
 
 use crate::finding::Found;
 use crate::silence_ids::SilenceIds;
 use am_config::Config;
-use am_universe::{Kind, Sink, put_all, put_str, write_map, write_text};
+use am_report_texts::is_name;
+use am_universe::{Kind, LabelSet, Sink, put_all, put_str, write_text};
 
 /// Writes the lines of alerts, and then `# end`. Fails only with `Kind::Write`; then the sink has
 /// taken a proper prefix of that. Takes no memory.
@@ -44,12 +48,48 @@ fn write_line<W: Sink>(
 {
     write_number(alert.position, out)?;
     put_all(out, b" ")?;
-    write_map(alert.set, out)?;
+    write_labels(alert.set, out)?;
     put_all(out, b" -> ")?;
     write_receivers(config, alert.receivers.as_slice(), out)?;
     write_silencers(ids, alert.silencers.as_slice(), out)?;
     write_inhibitors(alert.inhibitors.as_slice(), out)?;
     put_all(out, b"\n")
+}
+
+/// Writes the label set of an alert.
+#[tactic(auto, using(am_universe::proofs::Writing::steps))]
+fn write_labels<W: Sink>(set: &LabelSet, out: &mut W) -> Result<(), Kind>
+    ensures { Writes W.taken W.failures out.old out.new (labels_text set.now) result }
+{
+    put_all(out, b"{")?;
+    let mut separator: &[u8] = b"";
+    for (name, value) in set.values() {
+        write_label(separator, name.as_str(), value.as_str(), out)?;
+        separator = b",";
+    }
+    put_all(out, b"}")
+}
+
+/// Writes a separator, and then a label: its name, `=`, and its value in quotes.
+fn write_label<W: Sink>(separator: &[u8], name: &str, value: &str, out: &mut W) -> Result<(), Kind>
+    ensures { Writes W.taken W.failures out.old out.new
+        (separator.now ++ pair_text (name_text name.now, value.now)) result }
+{
+    put_all(out, separator)?;
+    write_name(name, out)?;
+    put_all(out, b"=")?;
+    write_text(out, value)
+}
+
+/// Writes the name of a label, in quotes if no list of matchers may have it.
+fn write_name<W: Sink>(name: &str, out: &mut W) -> Result<(), Kind>
+    ensures { Writes W.taken W.failures out.old out.new (name_text name.now) result }
+{
+    if is_name(name) {
+        put_str(out, name)
+    } else {
+        write_text(out, name)
+    }
 }
 
 /// Writes the names of receivers.

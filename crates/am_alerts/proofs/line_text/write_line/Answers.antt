@@ -9,7 +9,7 @@ returns-in_err-write_receivers g c =
     let names = receiver_text (config_view c.args.config.now) in
     c.in_ok-write_number.ensures.ok
     ⟩ c.in_ok-put_all.ensures.written.ok
-    ⟩ c.in_ok-write_map.ensures.written.ok
+    ⟩ c.in_ok-write_labels.ensures.ok
     ⟩ c.in_ok-put_all-2.ensures.written.ok
     ⟩ fails _ c.from_residual-in_err-write_receivers.ensures (writes_as (ap (listed [] names) c.as_slice.ensures.value)
     c.in_err-write_receivers.ensures)
@@ -20,7 +20,7 @@ returns-in_err-write_silencers g c =
     let ids = silence_text c.args.ids.now in
     c.in_ok-write_number.ensures.ok
     ⟩ c.in_ok-put_all.ensures.written.ok
-    ⟩ c.in_ok-write_map.ensures.written.ok
+    ⟩ c.in_ok-write_labels.ensures.ok
     ⟩ c.in_ok-put_all-2.ensures.written.ok
     ⟩ wrote_as (ap (listed [] names) c.as_slice.ensures.value)
     c.in_ok-write_receivers.ensures.ok
@@ -33,7 +33,7 @@ returns-in_err-write_inhibitors g c =
     let ids = silence_text c.args.ids.now in
     c.in_ok-write_number.ensures.ok
     ⟩ c.in_ok-put_all.ensures.written.ok
-    ⟩ c.in_ok-write_map.ensures.written.ok
+    ⟩ c.in_ok-write_labels.ensures.ok
     ⟩ c.in_ok-put_all-2.ensures.written.ok
     ⟩ wrote_as (ap (listed [] names) c.as_slice.ensures.value)
     c.in_ok-write_receivers.ensures.ok
@@ -48,7 +48,7 @@ returns g c =
     let ids = silence_text c.args.ids.now in
     c.in_ok-write_number.ensures.ok
     ⟩ c.in_ok-put_all.ensures.written.ok
-    ⟩ c.in_ok-write_map.ensures.written.ok
+    ⟩ c.in_ok-write_labels.ensures.ok
     ⟩ c.in_ok-put_all-2.ensures.written.ok
     ⟩ wrote_as (ap (listed [] names) c.as_slice.ensures.value)
     c.in_ok-write_receivers.ensures.ok
