@@ -15,9 +15,7 @@ use Rattle.am_config.specs.RoutePaths.{all_routes}
 use Rattle.am_eval.proofs.SimpleParts.{end_of_receiver, receiver_of_end}
 use Rattle.am_classes.specs.declared.alphabet.Alphabet.{Alphabet}
 use Rattle.am_classes.specs.declared.alphabet.Alphabet.TheVariants.{Unicode, Ascii}
-use Rattle.am_asked.specs.Asked.{route_matchers}
 use Rattle.am_every_alert.specs.EveryAlert.{IsAlertOf}
-use Rattle.am_every_alert.specs.Deciding.{StandsFor, space_of}
 use Rattle.am_lint.specs.declared.arrival.Arrival.{Arrival}
 use Rattle.am_lint.specs.declared.arrival.Arrival.TheVariants as arrival_is
 use Rattle.am_lint.specs.declared.found.FoundRoute.{FoundRoute}
@@ -206,18 +204,16 @@ module _ (alphabet : Alphabet) (s : Space) (u v : List Label) (c : Configuration
 
   -- ---- A report.
 
-  pub lines_so : StandsFor alphabet (space_of s.impossible v) (route_matchers c.root)
-      → (receivers : List (Option ReceiverFinding)) (findings notes : ℕ) (lines : List ℕ)
+  pub lines_so : (receivers : List (Option ReceiverFinding)) (findings notes : ℕ)
+      (lines : List ℕ)
       → receivers ≡ map (receiver_finding routes) (range_with_len 0 (length c.receivers))
       → findings ≡ count_findings (map said_of routes) receivers
       → notes ≡ count_notes (map said_of routes) receivers
       → lines ≡ report_lines v c (map said_of routes) receivers
-      → SaysOfRoutes alphabet s c findings notes lines
-  lines_so stand receivers findings notes lines are counts notes_are text =
+      → SaysOfRoutes alphabet s v c findings notes lines
+  lines_so receivers findings notes lines are counts notes_are text =
       let all = range_with_len 0 (length c.receivers) in
       record {
-        labels = v;
-        stand = stand;
         routes = map said_of routes;
         each_route = zip_mapped IsSo (IsSaid alphabet s v c) said_of (λ route found is. (
           is.path,

@@ -5,9 +5,7 @@ use Rattle.am_universe.specs.Universe.{Label}
 use Rattle.am_labels.specs.Space.{Space}
 use Rattle.am_config.specs.ConfigFile.{Configuration, RouteTree, receiver_of}
 use Rattle.am_config.specs.RoutePaths.{all_routes}
-use Rattle.am_asked.specs.Asked.{route_matchers}
 use Rattle.am_classes.specs.declared.alphabet.Alphabet.{Alphabet}
-use Rattle.am_every_alert.specs.Deciding.{StandsFor, space_of}
 use Rattle.am_lint.specs.declared.found.ReceiverFinding.{ReceiverFinding}
 use Rattle.am_lint.specs.Findings.{IsRouteFinding, IsReceiverFinding}
 use Rattle.am_lint.specs.ReportText.{Said, count_findings, count_notes, report_lines}
@@ -21,15 +19,12 @@ IsSaid a s u c route said =
 
 -- The lines are those of a configuration, for the alerts of a space over an alphabet. What they say
 -- of each route, in preorder, and of each receiver, in order, is true, and nothing is left out. The
--- two numbers count the findings and the notes. Each alert that is shown has these labels, which
--- stand for all alerts that count.
+-- label sets that they show are over some labels. The two numbers count the findings and the notes.
 -- Source: own choice.
 -- Example: if for each route some ordinary alert ends there, and for each receiver some ordinary
 -- alert goes to it, there are no lines.
-pub record SaysOfRoutes (a : Alphabet) (s : Space) (c : Configuration) (findings notes : ℕ)
-    (lines : List ℕ) : Type 0 where
-  pub labels : List Label
-  pub stand : StandsFor a (space_of s.impossible labels) (route_matchers c.root)
+pub record SaysOfRoutes (a : Alphabet) (s : Space) (labels : List Label) (c : Configuration)
+    (findings notes : ℕ) (lines : List ℕ) : Type 0 where
   pub routes : List Said
   pub each_route : AllZip (IsSaid a s labels c) (all_routes c) routes
   pub receivers : List (Option ReceiverFinding)

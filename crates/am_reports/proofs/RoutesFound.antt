@@ -18,17 +18,16 @@ use Rattle.am_lint.specs.FoundView.{IsFoundIn, IsLookedAt, IsSameButEvery}
 use Rattle.am_lint.proofs.Transfer.{StandsForAlerts}
 use Rattle.am_lint.proofs.FoundLemmas.{IsFoundSo}
 use Rattle.am_lint.proofs.FoundOver.{found_over_ascii, found_over_unicode}
-use Rattle.am_asked.specs.Asked.{route_matchers}
-use Rattle.am_every_alert.specs.Deciding.{StandsFor, space_of}
+use Rattle.am_every_alert.specs.Deciding.{space_of}
 use Rattle.am_reports.specs.Configurations.{One}
 use Rattle.am_reports.specs.Made.{StandsForAll, alphabet_over}
 
 -- what is found about each route is true, with choices of some labels and, for every alert, of
--- others, which stand for the alerts that count
+-- those of a universe that stands for every alert
 abbrev pub AreFoundSo : Alphabet → Space → List Label → Configuration → List FoundRoute → Type 0
 AreFoundSo a s v c found =
-    (u : List Label) × AllZip (IsFoundSo a s u v c) (all_routes c) found
-    × StandsFor a (space_of s.impossible v) (route_matchers c.root)
+    StandsForAll a s.impossible (One c) v
+    × (u : List Label) × AllZip (IsFoundSo a s u v c) (all_routes c) found
 
 -- a space with these labels and the impossible lists of another space
 abbrev pub IsSpaceWith : Space → List Label → Space → Type 0
@@ -41,13 +40,6 @@ stands a s o c u h is =
     λ i. record { labels = sym is.0 i; impossible = sym is.1 i } in
     subst (λ (t : Space). StandsForAlerts a t c) same h.stands
 
--- its labels do so with the impossible lists of the other one
-labels_stand : (a : Alphabet) (s o : Space) (c : Configuration) (u : List Label)
-    → StandsForAll a s.impossible (One c) u → IsSpaceWith s u o
-    → StandsFor a (space_of s.impossible o.labels) (route_matchers c.root)
-labels_stand a s o c u h is =
-    subst (λ v. StandsFor a (space_of s.impossible v) (route_matchers c.root)) (sym is.0) h.stands
-
 module _ (s o : Space) (c : Configuration) (u : List Label)
     (over : StandsForAll Ascii s.impossible (One c) u) (is : IsSpaceWith s u o) where
   pub found_ordinary : (every : Option (List Label)) (found : List FoundRoute)
@@ -55,11 +47,10 @@ module _ (s o : Space) (c : Configuration) (u : List Label)
       → AllByRecursion (λ route. route.every ≡ None) found
       → AreFoundSo (alphabet_over every) s o.labels c found
   found_ordinary every found none so once =
-      subst (λ (x : Option (List Label)). AreFoundSo (alphabet_over x) s o.labels c found)
-      (sym none) (
+      subst (λ (x : Option (List Label)). AreFoundSo (alphabet_over x) s o.labels c found) (sym none) (
+        rw is.0 over,
         o.labels,
         found_over_ascii s o c (stands Ascii s o c u over is) is.1 o.labels found so once,
-        labels_stand Ascii s o c u over is,
       )
 
   pub found_every : (every : Option (List Label)) (v : List Label) (e : Space)
@@ -73,10 +64,10 @@ module _ (s o : Space) (c : Configuration) (u : List Label)
       let long : length new ≡ old.len =
       sym (length_all_zip IsSameButEvery old.items new same) ∙ sym old.ok.0 in
       let found : AreFoundSo Unicode s e.labels c new = (
+        rw at.0 stands_all,
         o.labels,
         found_over_unicode s o c (stands Ascii s o c u over is) is.1 e
             (stands Unicode s e c v stands_all at) at.1 old.items new so same looked,
-        labels_stand Unicode s e c v stands_all at,
       ) in
       subst (λ (x : Option (List Label)).
       AreFoundSo (alphabet_over x) s e.labels c (with_items old new).items) (sym some)

@@ -1,17 +1,19 @@
--- What the sections of a report say about the rules, the silences and the values of a world, for
--- every alert. (This project's own.)
+-- What the sections of a report say about the routes, the rules, the silences and the values of a
+-- world, for every alert. (This project's own.)
 use Rattle.std.specs.Prelude.{◌≡◌, ◌+◌, ℕ, List, [], ◌∷◌, ◌++◌, Option, length}
 use Rattle.std.specs.List.{AllZip}
 use Rattle.am_universe.specs.declared.place.Place.{Place}
 use Rattle.am_universe.specs.declared.place.Place.TheVariants as places
+use Rattle.am_universe.specs.Universe.{Label}
 use Rattle.am_universe.specs.LabelSet.{LabelMap}
 use Rattle.am_labels.specs.Space.{Space}
 use Rattle.am_json.specs.Pointer.{Refusal}
-use Rattle.am_config.specs.ConfigFile.{Rule}
+use Rattle.am_config.specs.ConfigFile.{Configuration, Rule}
 use Rattle.am_eval.specs.World.{World}
 use Rattle.am_classes.specs.declared.alphabet.Alphabet.{Alphabet}
 use Rattle.am_complete.specs.declared.origin.Origin.TheVariants as origin_is
 use Rattle.am_asked.specs.OriginPointer.{origin_pointer}
+use Rattle.am_lint.specs.Report.{SaysOfRoutes}
 use Rattle.am_idle.specs.Rules.{IsRuleFinding}
 use Rattle.am_idle.specs.RuleText.{rule_line}
 use Rattle.am_idle.specs.RuleFindings.{IsFirstRefusedRule, count_idle_rules}
@@ -22,6 +24,8 @@ use Rattle.am_idle.specs.declared.rules.IdleReason.{IdleReason}
 use Rattle.am_idle.specs.declared.silences.SilenceFinding.{SilenceFinding}
 use Rattle.am_unseen.specs.Unseen.{unseen_values}
 use Rattle.am_unseen.specs.UnseenText.{unseen_lines}
+use Rattle.am_reports.specs.Configurations.{One}
+use Rattle.am_reports.specs.Made.{StandsForAll}
 use Rattle.am_reports.specs.Sections.{Section}
 
 -- The lines about things. Each is made from the position of a thing, the thing, and its finding.
@@ -30,6 +34,17 @@ each_line line i [] found = []
 each_line line i (x ∷ xs) [] = []
 each_line line i (x ∷ xs) (finding ∷ found) =
     line i x finding ++ each_line line (i + 1) xs found
+
+-- What the section says about each route and each receiver is true. The label sets that it shows
+-- are over a universe that stands for every alert.
+-- Source: own choice.
+-- Example: if some ordinary alert ends at each route, and some goes to each receiver, it says
+-- nothing.
+pub record SaysOfAllRoutes (a : Alphabet) (s : Space) (c : Configuration) (section : Section)
+    : Type 0 where
+  pub labels : List Label
+  pub stands : StandsForAll a s.impossible (One c) labels
+  pub says : SaysOfRoutes a s labels c section.findings section.notes section.lines
 
 -- What the section says about each rule is true: nothing if some alert inhibits another by the
 -- rule, and else that the rule is idle, and why.

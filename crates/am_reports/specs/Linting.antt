@@ -9,14 +9,14 @@ use Rattle.am_eval.specs.World.{World}
 use Rattle.am_files.specs.Promise.{Promise}
 use Rattle.am_classes.specs.declared.alphabet.Alphabet.{Alphabet}
 use Rattle.am_asked.specs.Made.{undeclared}
-use Rattle.am_lint.specs.Report.{SaysOfRoutes}
 use Rattle.am_reports.specs.Configurations.{One}
 use Rattle.am_reports.specs.LintInputs.{LintInputs, AcceptsLintInputs, lint_input_stages}
 use Rattle.am_files.specs.Faults.{later_stages}
 use Rattle.am_asked.specs.OriginPointer.{matcher_places}
 use Rattle.am_reports.specs.Made.{AreDeclaredWhole, IsDeclaredRefusal, IsRoutesRefusal}
 use Rattle.am_reports.specs.Sections.{Section, report_text, all_findings}
-use Rattle.am_reports.specs.LintSections.{SaysOfRules, SaysOfSilences, values_section}
+use Rattle.am_reports.specs.LintSections.{SaysOfAllRoutes, SaysOfRules, SaysOfSilences}
+use Rattle.am_reports.specs.LintSections.{values_section}
 use Rattle.am_reports.specs.LintSections.{IsRulesRefusal, IsSilencesRefusal}
 
 -- What is said is refused at this place for a label that the universe file declares; or no such
@@ -46,8 +46,7 @@ RefusesLint inputs place r =
 pub record IsLintReport (a : Alphabet) (s : Space) (w : World) (alerts : Option (List LabelMap))
     (findings : ℕ) (report : List ℕ) : Type 0 where
   pub routes : Section
-  pub says_of_routes :
-      SaysOfRoutes a (undeclared s) w.config routes.findings routes.notes routes.lines
+  pub says_of_routes : SaysOfAllRoutes a (undeclared s) w.config routes
   pub rules : Section
   pub says_of_rules : SaysOfRules a (undeclared s) w.config.rules rules
   pub silences : Section

@@ -18,7 +18,7 @@ use Rattle.am_complete.specs.declared.label_state.Completeness.{Completeness}
 use Rattle.am_complete.specs.declared.label_state.Completeness.TheVariants as state_is
 use Rattle.am_complete.specs.AskedLabel.{AskedLabel}
 use Rattle.am_complete.specs.Complete.{about, IsSpaceCompleteAt}
-use Rattle.am_complete.specs.Covering.{AddsNeeded}
+use Rattle.am_complete.specs.Covering.{AddsNeeded, AddsInOrder}
 use Rattle.am_classes.specs.Alike.{HasPattern}
 use Rattle.am_every_alert.specs.Deciding.{StandsFor, space_of}
 use Rattle.am_asked.specs.OriginPointer.{origin_pointer}
@@ -29,7 +29,8 @@ use Rattle.am_reports.specs.Configurations.{labels_of_routes, first_place}
 
 -- A universe stands for every alert over an alphabet that no impossible list matches: it is
 -- complete for the matchers of the routes and of these lists, its texts are over the alphabet, and
--- it has nothing that is not needed for that.
+-- it has nothing that is not needed for that. Its labels are in the order in which the routes, and
+-- then the lists, ask about them.
 -- Source: own choice.
 -- Example: for one route with `team="db"`, the universe in which `team` may be absent or `db` does
 -- so over each alphabet. It does not if `team` may also be `web`.
@@ -37,6 +38,7 @@ pub record StandsForAll (a : Alphabet) (lists : List (List Matcher)) (k : Config
     (u : List Label) : Type 0 where
   pub stands : StandsFor a (space_of lists u) (matchers_of_routes k)
   pub adds : AddsNeeded a (space_of lists []) (routing_matchers (space_of lists u) k) u
+  pub order : AddsInOrder [] (labels_of_routes k lists) u
 
 -- No universe is made, since there is no room for the labels that are asked about, or since some of
 -- them are unproved. The refusal of an unproved label is at the file of the first matcher on it.

@@ -9,8 +9,8 @@ ghost use Rattle.am_universe.specs.declared.kind.Kind.TheVariants as kinds;
 ghost use Rattle.am_classes.specs.declared.alphabet.Alphabet.TheVariants.{Unicode, Ascii};
 ghost use Rattle.am_json.specs.Reading.{refusal_of};
 ghost use Rattle.am_config.specs.ConfigView.{config_view};
-ghost use Rattle.am_lint.specs.Report.{SaysOfRoutes};
 ghost use Rattle.am_reports.specs.Configurations.{One};
+ghost use Rattle.am_reports.specs.LintSections.{SaysOfAllRoutes};
 ghost use Rattle.am_reports.specs.Made.{StandsForAll, IsMadeRefusal, IsRoutesRefusal};
 ghost use Rattle.am_reports.specs.Made.{alphabet_over};
 
@@ -35,8 +35,8 @@ pub(crate) fn route_section(
     config: &Config,
 ) -> Result<Section, Fault>
     requires { space.old.labels ≡ [] }
-    ensures says { IfOk result (λ section. SaysOfRoutes alphabet space.old (config_view config.now)
-        section.findings section.notes section.lines) }
+    ensures says { IfOk result
+        (SaysOfAllRoutes alphabet space.old (config_view config.now)) }
     ensures labels { OnOk result (space.new.labels ≡ []) }
     ensures impossible { OnOk result (space.new.impossible ≡ space.old.impossible) }
     ensures refused { IfErr result (λ fault. fault.kind ≢ kinds.Memory
@@ -89,8 +89,8 @@ fn section_over(
         ordinary }
     requires every { IfSome every
         (StandsForAll Unicode space.old.impossible (One (config_view config.now))) }
-    ensures says { IfOk result (λ section. SaysOfRoutes (alphabet_over every) space.old
-        (config_view config.now) section.findings section.notes section.lines) }
+    ensures says { IfOk result
+        (SaysOfAllRoutes (alphabet_over every) space.old (config_view config.now)) }
     ensures impossible { space.new.impossible ≡ space.old.impossible }
 {
     space.declare(ordinary);

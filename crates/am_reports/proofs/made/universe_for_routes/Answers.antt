@@ -73,8 +73,8 @@ pub returns-in-Ok-found-clause-stands : goal.returns-in-Ok-found-clause-stands
 returns-in-Ok-found-clause-stands c =
     let s = c.args.space.now in
     let ms = routing_matchers s (configurations_of c.args.configs) in
-    let made = (rw c.in-Ok-found.is at c.in_ok-found.ensures.made) ms
-    (is_asked (goal.at.returns-in-Ok-found-clause-stands c).After-as_slice) in
+    let at = (goal.at.returns-in-Ok-found-clause-stands c).After-as_slice in
+    let made = (rw c.in-Ok-found.is at c.in_ok-found.ensures.made) ms (is_asked at) in
     record {
       stands = record {
         universe = made.universe;
@@ -83,4 +83,5 @@ returns-in-Ok-found-clause-stands c =
       };
       adds = subst (λ (t : Space). AddsNeeded c.args.alphabet t ms c.in-Ok-found.universe)
           (undeclared_is s c.requires) made.adds;
+      order = rw (are_asked at, c.requires) at made.order;
     }

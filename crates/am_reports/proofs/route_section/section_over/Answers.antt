@@ -62,7 +62,7 @@ lint_lines-requires-clause-shown c =
     let routes = c.match-every-2.routes.items in
     let found = so (goal.at.lint_lines-requires-clause-shown c).After-as_slice-2 in
     rw (c.universe.ensures.labels, c.as_slice-2.ensures.value)
-    (found_shown (alphabet_over every) s found.0 labels config routes c.args.config.now.sound found.1.0)
+    (found_shown (alphabet_over every) s found.1 labels config routes c.args.config.now.sound found.2)
 
 pub lint_lines-requires-clause-each : goal.lint_lines-requires-clause-each
 lint_lines-requires-clause-each c =
@@ -85,6 +85,10 @@ returns-clause-says c =
     at c.count_notes.ensures.count in
     let text = rw (c.universe.ensures.labels, c.as_slice-2.ensures.value, c.as_slice-3.ensures.value)
     at c.in_ok-lines.ensures.text in
-    lines_so (alphabet_over every) s found.0 labels config routes found.1.0 found.1.1
-    c.in_ok-receivers.receivers.items c.count_findings.result c.count_notes.result _ are count notes
-    text
+    record {
+      labels = labels;
+      stands = found.0;
+      says = lines_so (alphabet_over every) s found.1 labels config routes found.2
+          c.in_ok-receivers.receivers.items c.count_findings.result c.count_notes.result _ are count
+          notes text;
+    }
