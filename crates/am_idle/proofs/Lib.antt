@@ -4,3 +4,4 @@ pub mod SilenceSteps
 pub mod RuleAlerts
 pub mod RuleLiterals
 pub mod RuleTextSteps
+pub mod LineLaws

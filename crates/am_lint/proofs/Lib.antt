@@ -10,6 +10,7 @@ pub mod LiteralTruth
 pub mod NamedReasons
 pub mod ArrivalSteps
 pub mod ReportSteps
+pub mod LineLaws
 pub mod Transfer
 pub mod FoundLemmas
 pub mod ReasonLaws

@@ -6,3 +6,4 @@ pub mod WalkLemmas
 pub mod WaysFound
 pub mod Gathered
 pub mod TextSteps
+pub mod LineLaws

@@ -23,3 +23,6 @@ mod outcome_text;
 
 pub use found::{Outcomes, find_outcomes};
 pub use outcome_text::{Changes, changes_text, outcomes_text};
+
+// What follows from the definitions alone.
+pub mod laws;

@@ -6,3 +6,4 @@ pub mod UniverseStages
 pub mod AskedFacts
 pub mod CheckFacts
 pub mod ReadQuestions
+pub mod LineLaws

@@ -1,5 +1,5 @@
 -- The stage of the first fault of making a universe, or of checking one.
-use Rattle.std.proofs.Common.{◌∷◌, List, [], inl, inr, sym, subst}
+use Rattle.std.proofs.Common.{◌∷◌, List, inl, inr, sym, subst}
 use Rattle.am_universe.specs.declared.place.Place.{Place}
 use Rattle.am_universe.proofs.ListLemmas.{IsIn}
 use Rattle.am_labels.specs.Space.{Space}

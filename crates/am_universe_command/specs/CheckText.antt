@@ -13,8 +13,8 @@ use Rattle.am_asked.specs.OriginPointer.{origin_place, origin_pointer}
 
 -- The name of a label: as it is if it is a label name, and else in quotes. And a text that the
 -- label lacks: in quotes, or `absent` for the empty text.
-abbrev pub name_text : List ℕ → List ℕ
-name_text name = if is_label_name name then name else quoted_text name
+abbrev pub label_name_text : List ℕ → List ℕ
+label_name_text name = if is_label_name name then name else quoted_text name
 
 abbrev pub lacking_text : List ℕ → List ℕ
 lacking_text [] = codes "absent"
@@ -39,7 +39,7 @@ unseen_text unseen = if unseen then codes " unseen" else []
 -- `env unproved config /route/routes/1` are four such lines.
 abbrev pub state_line : LabelState → List ℕ
 state_line state =
-    name_text (string_bytes state.name)
+    label_name_text (string_bytes state.name)
     ++ (codes " " ++ (state_text state.completeness
     ++ (unseen_text state.unseen ++ codes "\n")))
 

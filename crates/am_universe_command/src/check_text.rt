@@ -6,7 +6,7 @@ ghost use Rattle.std.specs.List.{list_all};
 ghost use Rattle.am_universe.specs.Universe.{sizes};
 ghost use Rattle.am_complete.specs.LabelState.{is_settled};
 ghost use Rattle.am_universe_command.specs.CheckText.{check_text, state_line, state_text};
-ghost use Rattle.am_universe_command.specs.CheckText.{name_text, lacking_text, unseen_text};
+ghost use Rattle.am_universe_command.specs.CheckText.{label_name_text, lacking_text, unseen_text};
 ghost use Rattle.am_universe_command.specs.CheckText.{label_sets, count_text, label_sets_text};
 ghost use Rattle.am_universe_command.specs.CheckText.{all_impossible_text, verdict_text};
 
@@ -51,7 +51,8 @@ fn push_state(alloc: Global, text: &mut String, state: &LabelState) -> Result<()
 
 /// Adds the name of a label, in quotes if it is not a label name.
 fn push_name(alloc: Global, text: &mut String, name: &str) -> Result<(), AllocError>
-    ensures { OnOk result (string_bytes text.new ≡ string_bytes text.old ++ name_text name.now) }
+    ensures { OnOk result
+        (string_bytes text.new ≡ string_bytes text.old ++ label_name_text name.now) }
 {
     if is_label_name(alloc, name) {
         text.push_str(name)
