@@ -1,24 +1,27 @@
 -- An alert ends at a path exactly if it matches each route on the way, no sibling before one of
 -- them stops it, and it matches no child of the last. And its ends are in order.
 use Rattle.std.proofs.Common.{◌≡◌, ◌≢◌, ◌↔◌, ◌⊎◌, inl, inr, ℕ, zero, suc, ◌+◌, List, [], ◌∷◌, ◌++◌}
-use Rattle.std.proofs.Common.{map, Some, Bool, true, false, cond, refl, ap, subst, ◌∙◌, arith}
-use Rattle.std.proofs.Common.{take, Contains}
+use Rattle.std.proofs.Common.{map, Some, Bool, true, false, cond, refl, sym, ap, subst, ◌∙◌, arith}
+use Rattle.std.proofs.Common.{take, Contains, ◌≤◌}
 use Rattle.std.specs.Ordering.{nat_cmp}
 use Rattle.std.specs.Cmp.Lexicographic.{slice_cmp}
 use Rattle.std.specs.List.Sorted.{IsStrictlySortedBy}
 use Rattle.std.specs.Prelude.{slice_get, IsTrue, IsFalse}
 use Rattle.std.specs.List.{AllByRecursion, flat_map}
-use Rattle.std.proofs.lemmas.Bool.{false_from_ne_true}
+use Rattle.std.proofs.lemmas.Bool.{false_from_ne_true, both_ways}
+use Rattle.std.proofs.lemmas.Option.{same_Some}
 use Rattle.std.proofs.lemmas.Grind.{common_steps}
 use Rattle.am_universe.specs.LabelSet.{LabelMap}
 use Rattle.am_universe.proofs.ListLemmas.{IsIn, IsIn-from_Contains, Contains-from_IsIn}
 use Rattle.am_universe.proofs.ListLemmas.{IsIn-split, IsIn-unmap, IsIn-map, IsIn-left, IsIn-right}
 use Rattle.am_universe.proofs.ListLemmas.{IsStrictlySortedBy-append, IsStrictlySortedBy-map}
+use Rattle.am_universe.proofs.ListLemmas.{AllByRecursion-at}
+use Rattle.am_universe.proofs.Members.{in_at}
 use Rattle.am_universe.proofs.ChoiceLemmas.{same_first, less_first}
 use Rattle.am_labels.specs.Matcher.{all_hold}
 use Rattle.am_config.specs.ConfigFile.{RouteTree, Routes, route, no_routes, next_route, matchers_of}
-use Rattle.am_config.specs.ConfigFile.{children_of}
-use Rattle.am_config.specs.Path.{list_of}
+use Rattle.am_config.specs.ConfigFile.{children_of, continues_of}
+use Rattle.am_config.specs.Path.{list_of, route_at}
 use Rattle.am_eval.specs.Routing.{Child, tried, ends_tried, or_own_path, ends_at, children_seen}
 use Rattle.am_eval.specs.Routing.{is_last, EndsThere}
 use Rattle.am_eval.proofs.ChildEnds.{is_last-unmatched}
@@ -172,6 +175,59 @@ there_ends s (route settings children) (p ∷ path) h =
 pub ends_exactly : (s : LabelMap) (t : RouteTree) (path : List ℕ)
     → (Contains (ends_at s t) path ↔ EndsThere s t path)
 ends_exactly s t path = grind (arith, common_steps, ends_there, IsIn-from_Contains, Contains-from_IsIn, there_ends)
+
+-- ---- Without `continue` there is one end.
+
+matches_first : (s : LabelMap) (t : RouteTree) (path : List ℕ) → EndsThere s t path
+    → IsTrue (all_hold s (matchers_of t))
+matches_first s t [] h = h.0
+matches_first s t (p ∷ path) h = h.0
+
+not_both : (s : LabelMap) (t : RouteTree) (p : ℕ) (path : List ℕ) → EndsThere s t []
+    → EndsThere s t (p ∷ path) → ⊥
+not_both s t p path h k =
+    both_ways (all_hold s (matchers_of k.1))
+    (AllByRecursion-at (λ child. IsFalse (all_hold s (matchers_of child))) (list_of (children_of t))
+    k.1 h.1 (in_at (list_of (children_of t)) p k.1 k.2))
+    (matches_first s k.1 path k.4)
+
+-- a child that matches and lacks `continue` does not stand before one that is tried
+not_before : (s : LabelMap) (ts : List RouteTree) (p q : ℕ) (t : RouteTree)
+    → slice_get ts p ≡ Some t → IsTrue (all_hold s (matchers_of t)) → IsFalse (continues_of t)
+    → NoneStops s (take q ts) → q ≤ p
+not_before s [] p q t at matches lacks none = absurd (cc)
+not_before s (u ∷ ts) p zero t at matches lacks none = omega arith
+not_before s (u ∷ ts) zero (suc q) t at matches lacks none = grind (arith, common_steps)
+not_before s (u ∷ ts) (suc p) (suc q) t at matches lacks none =
+    omega (arith, not_before s ts p q t at matches lacks none.1)
+
+-- no route below has `continue`
+abbrev NoneContinues : RouteTree → Type 0
+NoneContinues t =
+    (path : List ℕ) (below : RouteTree) → path ≢ [] → route_at t path ≡ Some below
+    → IsFalse (continues_of below)
+
+one_path : (s : LabelMap) (t : RouteTree) (p q : List ℕ) → NoneContinues t → EndsThere s t p
+    → EndsThere s t q → p ≡ q
+one_path s t [] [] none h k = refl
+one_path s t [] (q ∷ qs) none h k = absurd (not_both s t q qs h k)
+one_path s t (p ∷ ps) [] none h k = absurd (not_both s t p ps k h)
+one_path s t (p ∷ ps) (q ∷ qs) none h k =
+    let ts = list_of (children_of t) in
+    let late = not_before s ts p q h.1 h.2 (matches_first s h.1 ps h.4)
+    (none (p ∷ []) h.1 (λ e. cc) (rw h.2 refl)) k.3 in
+    let early = not_before s ts q p k.1 k.2 (matches_first s k.1 qs k.4)
+    (none (q ∷ []) k.1 (λ e. cc) (rw k.2 refl)) h.3 in
+    let at : p ≡ q = omega (arith, late, early) in
+    let same : h.1 ≡ k.1 = same_Some h.1 k.1 (sym h.2 ∙ ap (slice_get ts) at ∙ k.2) in
+    let below = one_path s k.1 ps qs (λ path r some e. none (q ∷ path) r (λ n. cc) (rw k.2 e))
+    (subst (λ (c : RouteTree). EndsThere s c ps) same h.4) k.4 in
+    λ i. at i ∷ below i
+
+pub one_end : (s : LabelMap) (t : RouteTree) (p q : List ℕ) → NoneContinues t
+    → Contains (ends_at s t) p → Contains (ends_at s t) q → p ≡ q
+one_end s t p q none h k =
+    one_path s t p q none ((ends_exactly s t p).0 h) ((ends_exactly s t q).0 k)
 
 -- ---- The ends are in order.
 

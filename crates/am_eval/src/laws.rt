@@ -60,13 +60,18 @@ pub fn a_route_handles_what_no_child_matches()
 /// An alert ends at a path exactly if it matches each route on the way, matches no earlier sibling
 /// of these that lacks `continue`, and matches no child of the last.
 ///
-/// Its ends are in the order of the routes, each once.
+/// Its ends are in the order of the routes, each once. If no route but the top-level one has
+/// `continue`, there is one end at most.
 #[tactic(auto, using(crate::proofs::FlatEnds::ends_exactly, crate::proofs::FlatEnds::ends_ascend))]
 pub fn an_alert_ends_where_nothing_stops_it()
     ensures exactly { (s : LabelMap) (t : RouteTree) (path : List ℕ)
         → (Contains (ends_at s t) path ↔ EndsThere s t path) }
     ensures ascending { (s : LabelMap) (t : RouteTree)
         → IsStrictlySortedBy (slice_cmp nat_cmp) (ends_at s t) }
+    ensures one { (s : LabelMap) (t : RouteTree) (p q : List ℕ)
+        → ((path : List ℕ) (below : RouteTree) → path ≢ [] → route_at t path ≡ Some below
+        → IsFalse (continues_of below))
+        → Contains (ends_at s t) p → Contains (ends_at s t) q → p ≡ q }
 {}
 
 /// Below a route that matches, a child is tried exactly if each earlier sibling that matches has
