@@ -1,4 +1,6 @@
 pub mod BoolLemmas
+mod AlternationReading
+pub mod AlternationMatches
 pub mod ComparisonLemmas
 pub mod TailLemmas
 pub mod OverLemmas

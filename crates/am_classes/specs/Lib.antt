@@ -1,4 +1,5 @@
 pub mod Alphabet
+pub mod Alternation
 pub mod Alike
 pub mod Utf8
 pub mod Automata
