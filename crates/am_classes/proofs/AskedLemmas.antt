@@ -1,92 +1,78 @@
--- The values of matchers, with one more matcher.
-use Rattle.std.proofs.Common.{◌≡◌, ◌+◌, ◌<◌, ◌≤◌, ℕ, List, [], ◌∷◌, ◌++◌, Some, slice_get, length, inl, inr, refl, ap, sym, subst, ◌∙◌, ◌⊎◌, arith, IsTrue, length-append}
-use Rattle.std.specs.List.{list_any, AllByRecursion}
+-- Texts that are wanted, with one more; and those that matchers ask about.
+use Rattle.std.proofs.Common.{◌≡◌, ◌+◌, ◌<◌, ◌≤◌, ℕ, List, [], ◌∷◌, ◌++◌, Some, slice_get, length, inl, inr, refl, ap, sym, subst, ◌∙◌, ◌⊎◌, arith, length-append, Bool, IsPermutation}
+use Rattle.std.specs.List.{list_any, flat_map, filter, AllByRecursion}
+use Rattle.std.proofs.lemmas.List.Sorted.{Contains-permutation, IsPermutation-sym}
 use Rattle.std.specs.Str.{bytes_eq}
-use Rattle.std.proofs.Common.{true, zero, suc}
+use Rattle.std.proofs.Common.{true, false, zero, suc}
 use Rattle.std.proofs.lemmas.Bool.{cases_Bool}
 use Rattle.std.proofs.lemmas.List.{length-map}
 use Rattle.std.proofs.lemmas.Slice.Eq.{bytes_eq-Decides}
 use Rattle.std.proofs.lemmas.Option.{same_Some}
 use Rattle.std.proofs.lemmas.Grind.{common_steps}
-use Rattle.am_universe.proofs.ListLemmas.{IsIn}
-use Rattle.am_universe.proofs.Members.{at_in, in_at}
+use Rattle.am_universe.proofs.ListLemmas.{IsIn, IsIn-left, IsIn-right, IsIn-split}
+use Rattle.am_universe.proofs.ListLemmas.{IsIn-from_Contains, Contains-from_IsIn}
+use Rattle.am_universe.proofs.Members.{at_in, in_at, in_joined, joined_in}
 use Rattle.am_labels.specs.declared.op.Comparison.{Comparison}
 use Rattle.am_labels.specs.declared.op.Comparison.TheVariants.{Text, Pattern}
 use Rattle.am_labels.specs.Matcher.{Matcher, comparison}
-use Rattle.am_labels.proofs.Passing.{any_in, in_any}
-use Rattle.am_classes.specs.Alike.{HasPattern}
+use Rattle.am_labels.proofs.Passing.{any_in, in_any, passes_from_kept, kept_from_passes}
+use Rattle.am_classes.specs.Alike.{HasOtherPattern}
 use Rattle.am_classes.specs.declared.alphabet.Alphabet.{Alphabet}
-use Rattle.am_classes.specs.Values.{AreValues, counts}
-use Rattle.am_scan.proofs.Places.{get_pushed, get_kept, get_last, contains_from_get}
+use Rattle.am_classes.specs.Alphabet.{is_over}
+use Rattle.am_classes.specs.Alternation.{is_alternation}
+use Rattle.am_classes.specs.Named.{AreEachOnce, names_with, text_with, alternatives_with}
+use Rattle.am_classes.specs.Named.{names_texts, text_of, alternatives_of, named_by, named_over}
+use Rattle.am_classes.specs.Named.{other_pattern, other_patterns}
+use Rattle.am_scan.proofs.Places.{get_pushed, get_kept, get_last}
 
--- A value that comes from a matcher still does with one more matcher.
-from_kept : (a : Alphabet) (ms : List Matcher) (m : Matcher) (t : Comparison) (vs : List (List ℕ))
-    → AreValues a ms t vs
-    → (j : ℕ) (value : List ℕ) → slice_get vs j ≡ Some value
-    → (k : ℕ) × (n : Matcher) × (slice_get (ms ++ m ∷ []) k ≡ Some n) × (comparison n.op ≡ t)
-    × (n.value ≡ value)
-from_kept a ms m t vs h j value e =
-    let f = h.from j value e in (f.0, f.1, get_kept ms (m ∷ []) f.1 f.0 f.2, f.3, f.4)
-
--- A matcher with another comparison, or whose value does not count, adds no value.
-pub values_skip : (a : Alphabet) (ms : List Matcher) (m : Matcher) (t : Comparison)
-    (vs : List (List ℕ)) → AreValues a ms t vs
-    → (comparison m.op ≡ t → IsTrue (counts a t m.value) → ⊥) → AreValues a (ms ++ m ∷ []) t vs
-values_skip a ms m t vs h other = record {
-  each = λ k n e takes counted. elim (get_pushed ms m n k e) [
-    | inl before ↦ h.each k n before takes counted
-    | inr b ↦ absurd (other (ap (λ x. comparison x.op) b.1 ∙ takes)
-        (ap (λ x. counts a t x.value) b.1 ∙ counted))
-  ];
-  from = from_kept a ms m t vs h;
-  counted = h.counted;
-  once = h.once;
+pub no_texts : AreEachOnce [] []
+no_texts = record {
+  each = λ k x e. absurd cc;
+  from = λ j x e. absurd cc;
+  once = λ i j x e f. absurd cc;
 }
 
--- A matcher whose value is there already adds no value.
-pub values_same : (a : Alphabet) (ms : List Matcher) (m : Matcher) (t : Comparison)
-    (vs : List (List ℕ)) → AreValues a ms t vs → (j : ℕ) → slice_get vs j ≡ Some m.value
-    → AreValues a (ms ++ m ∷ []) t vs
-values_same a ms m t vs h j there = record {
-  each = λ k n e takes counted. elim (get_pushed ms m n k e) [
-    | inl before ↦ h.each k n before takes counted
-    | inr b ↦ (j, there ∙ ap (λ x. Some x.value) b.1)
-  ];
-  from = from_kept a ms m t vs h;
-  counted = h.counted;
-  once = h.once;
-}
+-- ---- One more wanted text.
 
--- A new value is added.
-pub values_push : (a : Alphabet) (ms : List Matcher) (m : Matcher) (t : Comparison)
-    (vs : List (List ℕ)) → AreValues a ms t vs → comparison m.op ≡ t
-    → IsTrue (counts a t m.value) → ((j : ℕ) → slice_get vs j ≡ Some m.value → ⊥)
-    → AreValues a (ms ++ m ∷ []) t (vs ++ m.value ∷ [])
-values_push a ms m t vs h takes counted new = record {
-  each = λ k n e also counted. elim (get_pushed ms m n k e) [
-    | inl before ↦
-        let f = h.each k n before also counted in (f.0, get_kept vs (m.value ∷ []) n.value f.0 f.1)
-    | inr b ↦ (length vs, get_last vs m.value ∙ ap (λ x. Some x.value) b.1)
-  ];
-  from = λ j value e. elim (get_pushed vs m.value value j e) [
-    | inl before ↦ from_kept a ms m t vs h j value before
-    | inr b ↦ (length ms, m, get_last ms m, takes, b.1)
-  ];
-  counted = λ j value e. elim (get_pushed vs m.value value j e) [
-    | inl before ↦ h.counted j value before
-    | inr b ↦ ap (counts a t) (sym b.1) ∙ counted
-  ];
-  once = λ i j value x y. elim (get_pushed vs m.value value i x) [
-    | inl p ↦ elim (get_pushed vs m.value value j y) [
-      | inl b ↦ h.once i j value p b
-      | inr b ↦ absurd (new i (p ∙ ap Some (sym b.1)))
-    ]
-    | inr p ↦ elim (get_pushed vs m.value value j y) [
-      | inl b ↦ absurd (new j (b ∙ ap Some (sym p.1)))
-      | inr b ↦ p.0 ∙ sym b.0
-    ]
-  ];
-}
+module _ (wanted texts : List (List ℕ)) (text : List ℕ) (h : AreEachOnce wanted texts) where
+  from_kept : (j : ℕ) (x : List ℕ) → slice_get texts j ≡ Some x
+      → (k : ℕ) × (slice_get (wanted ++ text ∷ []) k ≡ Some x)
+  from_kept j x e = let f = h.from j x e in (f.0, get_kept wanted (text ∷ []) x f.0 f.1)
+
+  -- It is there already.
+  pub once_same : (j : ℕ) → slice_get texts j ≡ Some text → AreEachOnce (wanted ++ text ∷ []) texts
+  once_same j there = record {
+    each = λ k x e. elim (get_pushed wanted text x k e) [
+      | inl before ↦ h.each k x before
+      | inr b ↦ (j, there ∙ ap Some b.1)
+    ];
+    from = from_kept;
+    once = h.once;
+  }
+
+  -- It is new, and is added.
+  pub once_push : ((j : ℕ) → slice_get texts j ≡ Some text → ⊥)
+      → AreEachOnce (wanted ++ text ∷ []) (texts ++ text ∷ [])
+  once_push new = record {
+    each = λ k x e. elim (get_pushed wanted text x k e) [
+      | inl before ↦ let f = h.each k x before in (f.0, get_kept texts (text ∷ []) x f.0 f.1)
+      | inr b ↦ (length texts, get_last texts text ∙ ap Some b.1)
+    ];
+    from = λ j x e. elim (get_pushed texts text x j e) [
+      | inl before ↦ from_kept j x before
+      | inr b ↦ (length wanted, get_last wanted text ∙ ap Some b.1)
+    ];
+    once = λ i j x at also. elim (get_pushed texts text x i at) [
+      | inl p ↦ elim (get_pushed texts text x j also) [
+        | inl b ↦ h.once i j x p b
+        | inr b ↦ absurd (new i (p ∙ ap Some (sym b.1)))
+      ]
+      | inr p ↦ elim (get_pushed texts text x j also) [
+        | inl b ↦ absurd (new j (b ∙ ap Some (sym p.1)))
+        | inr b ↦ p.0 ∙ sym b.0
+      ]
+    ];
+  }
 
 -- A text that a test of each text finds is at a position.
 pub among_place : (xs : List (List ℕ)) (text : List ℕ) → list_any (λ x. bytes_eq x text) xs ≡ true
@@ -122,13 +108,111 @@ one_of_all (x ∷ xs) text (suc k) e = grind (arith, common_steps, one_of_all xs
 
 pub ruleset no_longer = (length_of_all, one_of_all, length-append)
 
--- If some values are not compared as texts, one of the matchers takes a pattern.
-pub has_pattern : (a : Alphabet) (ms : List Matcher) (so : Comparison) (values : List (List ℕ))
-    → AreValues a ms so values → (so ≡ Text → ⊥) → 0 < length values → HasPattern ms
-has_pattern a ms so [] h other some = absurd (omega (arith, some))
-has_pattern a ms so (value ∷ values) h other some =
-    let from = h.from 0 value refl in
-    (from.1, contains_from_get ms from.1 from.0 from.2, λ text. other (sym from.3 ∙ text))
+-- ---- What matchers name, and what not.
+
+-- The same texts are wanted if some of them are in another order.
+pub once_moved : (test : List ℕ → Bool) (xs ys zs texts : List (List ℕ)) → IsPermutation ys zs
+    → AreEachOnce (([] ++ filter test xs) ++ filter test zs) texts
+    → AreEachOnce (filter test (xs ++ ys)) texts
+once_moved test xs ys zs texts moved h =
+    let before = filter test (xs ++ ys) in
+    let after = filter test xs ++ filter test zs in
+    record {
+      each = λ k text at.
+          let kept = passes_from_kept test (xs ++ ys) text (in_at before k text at) in
+          let there : IsIn after text = elim (IsIn-split xs ys text kept.0) [
+            | inl here ↦ IsIn-left (filter test xs) (filter test zs) text (kept_from_passes test xs text here kept.1)
+            | inr here ↦
+                IsIn-right (filter test xs) (filter test zs) text
+                (kept_from_passes test zs text (within ys zs text moved here) kept.1)
+          ] in
+          let place = at_in after text there in h.each place.0 text place.1;
+      from = λ j text at.
+          let place = h.from j text at in
+          let there : (IsIn xs text ⊎ IsIn ys text) × (test text ≡ true) =
+          elim (IsIn-split (filter test xs) (filter test zs) text (in_at after place.0 text place.1)) [
+            | inl here ↦ let kept = passes_from_kept test xs text here in (inl kept.0, kept.1)
+            | inr here ↦
+                let kept = passes_from_kept test zs text here in
+                (inr (within zs ys text (IsPermutation-sym ys zs moved) kept.0), kept.1)
+          ] in
+          let both : IsIn (xs ++ ys) text = elim there.0 [
+            | inl here ↦ IsIn-left xs ys text here
+            | inr here ↦ IsIn-right xs ys text here
+          ] in
+          at_in before text (kept_from_passes test (xs ++ ys) text both there.1);
+      once = h.once;
+    }
+  where
+    within : (us vs : List (List ℕ)) (text : List ℕ) → IsPermutation us vs → IsIn us text → IsIn vs text
+    within us vs text m i =
+        IsIn-from_Contains vs text (Contains-permutation us vs text m (Contains-from_IsIn us text i))
+
+named_once_with : (so : Comparison) (value text : List ℕ)
+    → IsIn (text_with so value ++ alternatives_with so value) text → names_with so value ≡ true
+named_once_with Text value text h = refl
+named_once_with Pattern value text h = elim (cases_Bool (is_alternation value)) [
+  | inl names ↦ names
+  | inr other ↦ absurd (rw other at h)
+]
+
+pub named_in : (a : Alphabet) (ms : List Matcher) (m : Matcher) (text : List ℕ) → IsIn ms m
+    → IsIn (named_by m) text → is_over a text ≡ true → IsIn (named_over a ms) text
+named_in a ms m text i named over =
+    let xs = flat_map text_of ms in
+    let ys = flat_map alternatives_of ms in
+    kept_from_passes (is_over a) (xs ++ ys) text
+    (elim (IsIn-split (text_of m) (alternatives_of m) text named) [
+      | inl here ↦ IsIn-left xs ys text (joined_in text_of ms m text i here)
+      | inr part ↦ IsIn-right xs ys text (joined_in alternatives_of ms m text i part)
+    ])
+    over
+
+pub named_from : (a : Alphabet) (ms : List Matcher) (text : List ℕ) → IsIn (named_over a ms) text
+    → (m : Matcher) × IsIn ms m × IsIn (named_by m) text × (names_texts m ≡ true)
+    × (is_over a text ≡ true)
+named_from a ms text h =
+    let xs = flat_map text_of ms in
+    let ys = flat_map alternatives_of ms in
+    let kept = passes_from_kept (is_over a) (xs ++ ys) text h in
+    let m : (m : Matcher) × IsIn ms m × IsIn (named_by m) text =
+    elim (IsIn-split xs ys text kept.0) [
+      | inl here ↦
+          let from = in_joined text_of ms text here in
+          (from.0, from.1, IsIn-left (text_of from.0) (alternatives_of from.0) text from.2)
+      | inr part ↦
+          let from = in_joined alternatives_of ms text part in
+          (from.0, from.1, IsIn-right (text_of from.0) (alternatives_of from.0) text from.2)
+    ] in
+    (m.0, m.1, m.2, named_once_with (comparison m.0.op) m.0.value text m.2, kept.1)
+
+pub other_in : (ms : List Matcher) (m : Matcher) → IsIn ms m → names_texts m ≡ false
+    → IsIn (other_patterns ms) m.value
+other_in ms m i other =
+    let here : IsIn (other_pattern m) m.value = rw other (inl refl) in
+    joined_in other_pattern ms m m.value i here
+
+other_once : (m : Matcher) (pattern : List ℕ) → IsIn (other_pattern m) pattern
+    → (names_texts m ≡ false) × (m.value ≡ pattern)
+other_once m pattern h = elim (cases_Bool (names_texts m)) [
+  | inl names ↦ absurd (rw names at h)
+  | inr other ↦ (other, elim (rw other at h) [ inl same ↦ same | inr none ↦ absurd none ])
+]
+
+pub other_from : (ms : List Matcher) (pattern : List ℕ) → IsIn (other_patterns ms) pattern
+    → (m : Matcher) × IsIn ms m × (names_texts m ≡ false) × (m.value ≡ pattern)
+other_from ms pattern h =
+    let m = in_joined other_pattern ms pattern h in
+    let own = other_once m.0 pattern m.2 in (m.0, m.1, own.0, own.1)
+
+-- If there are other patterns, one of the matchers has the first of them.
+pub has_other : (ms : List Matcher) (patterns : List (List ℕ))
+    → AreEachOnce (other_patterns ms) patterns → 0 < length patterns → HasOtherPattern ms
+has_other ms [] h some = absurd (omega (arith, some))
+has_other ms (pattern ∷ patterns) h some =
+    let from = h.from 0 pattern refl in
+    let m = other_from ms pattern (in_at (other_patterns ms) from.0 pattern from.1) in
+    (m.0, Contains-from_IsIn ms m.0 m.1, m.2)
 
 -- Each matcher compares with a text or with a pattern.
 pub known : (so : Comparison) → (so ≡ Text) ⊎ (so ≡ Pattern)
@@ -140,4 +224,4 @@ pub all_known : (ms : List Matcher)
 all_known [] = tt
 all_known (m ∷ ms) = (known (comparison m.op), all_known ms)
 
-pub ruleset of_questions = (all_known, has_pattern, length-map)
+pub ruleset of_questions = (all_known, has_other, length-map)

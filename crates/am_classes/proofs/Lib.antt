@@ -1,7 +1,6 @@
 pub mod BoolLemmas
 mod AlternationReading
 pub mod AlternationMatches
-pub mod ComparisonLemmas
 pub mod TailLemmas
 pub mod OverLemmas
 pub mod Utf8Lemmas
@@ -9,6 +8,8 @@ pub mod AutomataLemmas
 pub mod FrontLemmas
 pub mod StateLemmas
 pub mod AskedLemmas
+pub mod AlikeLemmas
+pub mod TestedTexts
 pub mod ExplorationLemmas
 pub mod CandidateLemmas
 pub mod ClassLemmas

@@ -1,11 +1,11 @@
 -- Texts that some matchers cannot tell apart. Here the matchers are those of one label, and each is
 -- tested on a text, whatever the name of the matcher is.
-use Rattle.std.specs.Prelude.{◌≡◌, ◌≢◌, ℕ, List, Some, slice_get, Contains}
+use Rattle.std.specs.Prelude.{◌≡◌, ℕ, List, Some, slice_get, Contains, false}
 use Rattle.std.specs.List.{AllByRecursion}
-use Rattle.am_labels.specs.declared.op.Comparison.TheVariants.{Text}
-use Rattle.am_labels.specs.Matcher.{Matcher, holds, comparison}
+use Rattle.am_labels.specs.Matcher.{Matcher, holds}
 use Rattle.am_classes.specs.declared.alphabet.Alphabet.{Alphabet}
 use Rattle.am_classes.specs.Alphabet.{IsOver}
+use Rattle.am_classes.specs.Named.{names_texts}
 
 -- Two texts are alike to matchers: each matcher has the same truth on both.
 -- Source: own choice; the term is that of Myhill and Nerode, who call two texts equivalent if no
@@ -38,9 +38,9 @@ AreApart ms texts =
     (i j : ℕ) (x y : List ℕ) → slice_get texts i ≡ Some x → slice_get texts j ≡ Some y
     → AreAlike ms x y → i ≡ j
 
--- One of some matchers takes a pattern: its operator does not compare with a text. If none does,
--- the classes of texts can always be computed.
+-- One of some matchers takes a pattern that is no alternation of plain texts. If none does, the
+-- classes of texts can always be computed.
 -- Source: Alertmanager configuration reference 0.25, "<matcher>": `=~` and `!~` take patterns.
--- Example: one of `team="db"` and `team=~"w.*"` takes a pattern. `team="db"` alone does not.
-abbrev pub HasPattern : List Matcher → Type 0
-HasPattern ms = (m : Matcher) × Contains ms m × (comparison m.op ≢ Text)
+-- Example: one of `team="db"` and `team=~"w.*"` does. `team="db"` and `team=~"db|web"` do not.
+abbrev pub HasOtherPattern : List Matcher → Type 0
+HasOtherPattern ms = (m : Matcher) × Contains ms m × (names_texts m ≡ false)

@@ -5,7 +5,8 @@ pub mod Utf8
 pub mod Automata
 pub mod Fronts
 pub mod State
-pub mod Values
+pub mod Named
+pub mod Truths
 pub mod Asked
 pub mod Exploration
 pub mod Candidates

@@ -1,9 +1,10 @@
 //! One text for each class of texts that the matchers of a label cannot tell apart.
 //!
-//! If no matcher takes a pattern, each named text is a class, and all other texts together are one.
-//! If some do, the states of the label are explored. At a state where a character may begin, the
-//! truth of each matcher follows from the state. So one text is kept for each different row of
-//! truths.
+//! Matchers name texts: the text behind `=` or `!=`, and the alternatives of a pattern that is an
+//! alternation of plain texts, such as `db|web`. Of named texts that are alike one is kept. If no
+//! matcher takes any other pattern, all texts that are not named are one more class. If some do,
+//! the states of the label are explored. At a state where a character may begin, the truth of each
+//! matcher follows from the state. So one text is kept for each different row of truths.
 //!
 //! The classes are found for all matchers together, and not joined from the classes of each.
 //! Patterns of one label mostly exclude each other, and a class without a text is never listed.
@@ -11,16 +12,18 @@
 //! The search stops once there are more classes than a label may have values. With many patterns,
 //! for each pattern a text that it finds is tried first, because these texts may show at once that
 //! there are too many classes.
-ghost use Rattle.std.specs.Prelude.{◌≡◌, ◌++◌, ◌<◌, false, map, IfOk, IfSome, IfNone, IsTrue};
+ghost use Rattle.std.specs.Prelude.{◌≡◌, ◌++◌, ◌<◌, [], false, map, IfOk, IfSome, IfNone, IsTrue};
 ghost use Rattle.std.specs.Prelude.{string_bytes, vec_len};
 ghost use Rattle.am_universe.specs.declared.limits.TheConstants.{MAX_VALUES};
-ghost use Rattle.am_classes.specs.Alike.{Covers, AreApart, HasPattern};
+ghost use Rattle.am_classes.specs.Alike.{Covers, AreApart, HasOtherPattern};
 ghost use Rattle.am_classes.specs.Alphabet.{AreOver};
+ghost use Rattle.am_classes.specs.Truths.{AreNewIn};
 
 use crate::Alphabet;
 use crate::candidate::Candidate;
 use crate::candidates::candidates;
 use crate::questions::Questions;
+use crate::tested::{new_texts, tested_texts};
 use am_labels::Matcher;
 use am_universe::limits::MAX_VALUES;
 use std::alloc::{AllocError, Global};
@@ -36,10 +39,11 @@ pub struct ClassTexts {
 }
 
 /// Finds one text for each class of texts over an alphabet that matchers cannot tell apart. The
-/// names of the matchers are ignored. Texts that a matcher names come first, in the order of the
-/// matchers. Returns `None` if the classes cannot be computed: a pattern cannot be followed, or
-/// there are too many states. If no matcher takes a pattern, all classes are always found. Fails
-/// only if memory runs out.
+/// names of the matchers are ignored. Texts that matchers compare with come first, in the order of
+/// the matchers. Then come alternatives of patterns, the shorter ones first. Returns `None` if the
+/// classes cannot be computed: a pattern cannot be followed, or there are too many states. If each
+/// pattern is an alternation of plain texts, all classes are always found. Fails only if memory
+/// runs out.
 #[tactic(auto, using(crate::proofs::ClassLemmas::of_classes))]
 pub fn classes(
     alloc: Global,
@@ -49,24 +53,39 @@ pub fn classes(
     ensures covers { IfOk result (λ found. IfSome found (λ classes. IsTrue classes.all
         → Covers alphabet (map (λ m. m.now) matchers.now) (map string_bytes classes.texts.items))) }
     ensures many { IfOk result (λ found. IfSome found (λ classes. classes.all ≡ false
-        → (MAX_VALUES < vec_len classes.texts) × HasPattern (map (λ m. m.now) matchers.now))) }
+        → (MAX_VALUES < vec_len classes.texts)
+        × HasOtherPattern (map (λ m. m.now) matchers.now))) }
     ensures over { IfOk result (λ found. IfSome found (λ classes.
         AreOver alphabet (map string_bytes classes.texts.items))) }
     ensures apart { IfOk result (λ found. IfSome found (λ classes.
         AreApart (map (λ m. m.now) matchers.now) (map string_bytes classes.texts.items))) }
     ensures none { IfOk result (λ found. IfNone found
-        (HasPattern (map (λ m. m.now) matchers.now))) }
+        (HasOtherPattern (map (λ m. m.now) matchers.now))) }
 {
     let Some(questions) = Questions::of(alloc, alphabet, matchers)? else {
         return Ok(None);
     };
-    let room = MAX_VALUES.saturating_sub(questions.texts.len());
+    let named = apart_texts(alloc, matchers, questions.texts.as_slice())?;
+    let room = MAX_VALUES.saturating_sub(named.len());
     let Some(candidates) = candidates(alloc, &questions, room)? else {
         return Ok(None);
     };
     let all = candidates.all;
-    let texts = with_texts(questions.texts, candidates.items)?;
+    let texts = with_texts(named, candidates.items)?;
     Ok(Some(ClassTexts { texts, all }))
+}
+
+/// Returns those of some texts that are alike to none before them.
+fn apart_texts(
+    alloc: Global,
+    matchers: &[&Matcher],
+    texts: &[String],
+) -> Result<Vec<String>, AllocError>
+    ensures { IfOk result (λ apart. AreNewIn (map (λ m. m.now) matchers.now) []
+        (map string_bytes texts.now) (map string_bytes apart.items)) }
+{
+    let tested = tested_texts(alloc, matchers, texts.to_vec(alloc)?)?;
+    new_texts(alloc, Vec::new(alloc), tested)
 }
 
 /// Returns texts, followed by those of candidates.

@@ -1,6 +1,7 @@
 //! Texts that stand for all: one for each class of texts that a label's matchers cannot tell apart.
 //!
-//! [`classes`] gives them. If a matcher takes a pattern, all texts are explored from their ends.
+//! [`classes`] gives them. A pattern such as `db|web` names texts, as `=` does. If a matcher takes
+//! a pattern of another form, all texts are explored from their ends.
 //! All that matters about an end is one of finitely many states, and each byte before it leads from
 //! one state to another.
 #![tactic(auto)]
@@ -15,6 +16,7 @@ pub use alphabet::Alphabet;
 
 // What the matchers of a label ask about a text.
 mod automata;
+mod named_texts;
 mod questions;
 
 // What matters about a text of which only the end has been read.
@@ -25,6 +27,11 @@ mod tail;
 // The states that texts lead to.
 mod exploration;
 mod reached_state;
+
+// Which texts have the same truths.
+mod tested;
+
+pub use tested::{Tested, new_texts, tested_texts};
 
 // The texts that stand for the classes, one for each.
 mod candidate;

@@ -1,23 +1,23 @@
-ghost use Rattle.std.specs.Prelude.{◌≡◌, ◌↔◌, ◌∷◌, [], ℕ, List, Some, false, true, IsTrue, map};
-ghost use Rattle.std.specs.Prelude.{IfOk, IfSome, IfNone, string_bytes, slice_get};
+ghost use Rattle.std.specs.Prelude.{◌≡◌, ◌↔◌, ◌∷◌, [], ℕ, List, Some, true, IsTrue, map};
+ghost use Rattle.std.specs.Prelude.{IfOk, IfSome, IfNone};
 ghost use Rattle.am_classes.specs.declared.label_state.LabelState.{LabelState};
 ghost use Rattle.am_classes.specs.Utf8.{text_step};
 ghost use Rattle.am_classes.specs.Automata.{AreClasses, MakeSame, fits, found_by};
 ghost use Rattle.std.specs.List.{list_all};
-ghost use Rattle.am_classes.specs.Alike.{HasPattern};
-ghost use Rattle.am_classes.specs.Values.{AreValues, counts};
+ghost use Rattle.am_classes.specs.Alike.{HasOtherPattern};
 
 use crate::Alphabet;
 use crate::automata::{automata_of, byte_classes, end_numbers, found_patterns, next_numbers};
 use crate::fronts::{all_fronts, any_ends_with, fronts_before, has_nothing};
 use crate::label_state::LabelState;
+use crate::named_texts::{is_among, named_texts, other_patterns};
 use crate::tail::Tail;
-use am_labels::{Comparison, Matcher};
+use am_labels::Matcher;
 use am_scan::PatternAutomaton;
 use std::alloc::{AllocError, Global};
 
-/// What the matchers of a label ask about a text: whether it is one of some texts, and which of
-/// some patterns find it. No text and no pattern is listed twice.
+/// What the matchers of a label ask about a text: whether it is one of the texts that they name,
+/// and which of the other patterns find it. No text and no pattern is listed twice.
 #[derive(Drop)]
 pub(crate) struct Questions {
     /// Which texts they are asked about.
@@ -47,10 +47,10 @@ impl Questions {
         ensures some { IfOk result (λ found. IfSome found (λ questions.
             AreAsked (map (λ m. m.now) matchers.now) questions)) }
         ensures none { IfOk result (λ found. IfNone found
-            (HasPattern (map (λ m. m.now) matchers.now))) }
+            (HasOtherPattern (map (λ m. m.now) matchers.now))) }
     {
-        let texts = values(alloc, alphabet, matchers, Comparison::Text)?;
-        let patterns = values(alloc, alphabet, matchers, Comparison::Pattern)?;
+        let texts = named_texts(alloc, alphabet, matchers)?;
+        let patterns = other_patterns(alloc, matchers)?;
         let Some(automata) = automata_of(alloc, alphabet, patterns.as_slice())? else {
             return Ok(None);
         };
@@ -155,47 +155,4 @@ impl Questions {
     {
         found_patterns(alloc, self.automata.as_slice(), state.numbers.as_slice())
     }
-}
-
-/// Whether a text is one of these.
-fn is_among(texts: &[String], text: &[u8]) -> bool
-    ensures { IsTrue result
-        ↔ ((k : ℕ) × (slice_get (map string_bytes texts.now) k ≡ Some text.now)) }
-{
-    texts.iter().any(|other| other.as_bytes() == text)
-}
-
-/// Returns the values that count of the matchers with this comparison, each once.
-#[tactic(auto, using(std::proofs::lemmas::Grind::common_steps, am_scan::proofs::Places::map_front, crate::proofs::ComparisonLemmas::differs, crate::proofs::AskedLemmas::values_skip, crate::proofs::AskedLemmas::values_same))]
-fn values(
-    alloc: Global,
-    alphabet: Alphabet,
-    matchers: &[&Matcher],
-    comparison: Comparison,
-) -> Result<Vec<String>, AllocError>
-    ensures { IfOk result (λ values. AreValues alphabet (map (λ m. m.now) matchers.now) comparison
-        (map string_bytes values.items)) }
-{
-    let mut values: Vec<String> = Vec::new(alloc);
-    for matcher in matchers {
-        if matcher.op().comparison() != comparison {
-            continue;
-        }
-        let value = matcher.value();
-        if !counts(alphabet, comparison, value) {
-            continue;
-        }
-        if is_among(values.as_slice(), value.as_bytes()) {
-            continue;
-        }
-        values.push(String::from_str(alloc, value)?)?;
-    }
-    Ok(values)
-}
-
-/// Whether the value of a matcher counts: it is a pattern, or a text over the alphabet.
-fn counts(alphabet: Alphabet, comparison: Comparison, value: &str) -> bool
-    ensures { result ≡ counts alphabet comparison value.now }
-{
-    comparison != Comparison::Text || alphabet.has(value)
 }

@@ -1,26 +1,12 @@
--- Texts that some matchers cannot tell apart: this is an equivalence, and holds for fewer matchers.
-use Rattle.std.proofs.Common.{◌≡◌, ℕ, List, [], ◌∷◌, Contains, refl, sym, ◌∙◌, inl, inr, arith}
+-- Which of some matchers are on a label.
+use Rattle.std.proofs.Common.{◌≡◌, ℕ, List, [], ◌∷◌, Contains, inl, inr, arith}
 use Rattle.std.specs.Cmp.Lexicographic.{bytes_decides}
 use Rattle.std.proofs.lemmas.Grind.{common_steps}
 use Rattle.am_universe.proofs.ListLemmas.{IsIn, IsIn-from_Contains}
 use Rattle.am_universe.specs.Text.{same_text}
 use Rattle.am_labels.specs.Matcher.{Matcher}
 use Rattle.am_labels.proofs.Passing.{passes_from_kept, kept_from_passes}
-use Rattle.am_classes.specs.Alike.{AreAlike}
 use Rattle.am_complete.specs.Complete.{about, AreAmong}
-
-pub alike_itself : (ms : List Matcher) (x : List ℕ) → AreAlike ms x x
-alike_itself [] x = tt
-alike_itself (m ∷ ms) x = (refl, alike_itself ms x)
-
-pub alike_turned : (ms : List Matcher) (x y : List ℕ) → AreAlike ms x y → AreAlike ms y x
-alike_turned [] x y h = tt
-alike_turned (m ∷ ms) x y h = (sym h.0, alike_turned ms x y h.1)
-
-pub alike_joined : (ms : List Matcher) (x y z : List ℕ) → AreAlike ms x y → AreAlike ms y z
-    → AreAlike ms x z
-alike_joined [] x y z g h = tt
-alike_joined (m ∷ ms) x y z g h = (g.0 ∙ h.0, alike_joined ms x y z g.1 h.1)
 
 -- a list of one element contains that element alone
 pub only : {X : Type 0} (y x : X) → Contains (y ∷ []) x → y ≡ x

@@ -1,5 +1,5 @@
 -- Texts, no two of which are alike: they are distinct; with one more; and how many there are.
-use Rattle.std.proofs.Common.{◌≡◌, ◌≤◌, ℕ, zero, suc, true, List, [], ◌∷◌, ◌++◌, length}
+use Rattle.std.proofs.Common.{◌≡◌, ◌≤◌, ℕ, zero, suc, true, List, [], ◌∷◌, length}
 use Rattle.std.proofs.Common.{get_or, refl, subst, inl, inr, arith}
 use Rattle.std.specs.List.{AllByRecursion, IsDistinct}
 use Rattle.std.specs.Cmp.{IsEquivalence}
@@ -10,16 +10,15 @@ use Rattle.std.proofs.lemmas.Map.Made.{length-le_from_is_member}
 use Rattle.std.proofs.lemmas.Option.{slice_get-get_or}
 use Rattle.std.proofs.lemmas.Grind.{common_steps}
 use Rattle.am_universe.specs.Text.{same_text}
-use Rattle.am_universe.proofs.ListLemmas.{IsIn, IsIn-from_Contains, AllByRecursion-at}
+use Rattle.am_universe.proofs.ListLemmas.{IsIn-from_Contains, AllByRecursion-at}
 use Rattle.am_labels.specs.Matcher.{Matcher}
 use Rattle.am_labels.proofs.Passing.{any_in, in_any}
-use Rattle.am_universe.proofs.Members.{in_at}
 use Rattle.am_classes.specs.Alike.{AreAlike, AreApart, HasAlikeIn}
-use Rattle.am_complete.proofs.Alike.{alike_itself, alike_turned, alike_joined}
-use Rattle.am_complete.specs.Truths.{alike}
-use Rattle.am_complete.proofs.ChosenTexts.{alike_is, is_alike, turned, distinct_from_apart}
+use Rattle.am_classes.proofs.AlikeLemmas.{alike_itself, alike_turned, alike_joined}
+use Rattle.am_classes.specs.Truths.{alike}
+use Rattle.am_classes.proofs.AlikeLemmas.{alike_is, is_alike}
+use Rattle.am_complete.proofs.ChosenTexts.{turned, distinct_from_apart}
 use Rattle.am_complete.proofs.ChosenTexts.{same_where_both}
-use Rattle.am_complete.proofs.Pushed.{got_either}
 
 -- ---- What is apart is distinct.
 
@@ -47,13 +46,6 @@ distinct_where_apart ms xs apart =
           absurd (omega (arith, e, before))
       | inr differs ↦ differs
     ])
-
--- ---- One text more.
-
-pub apart_pushed : (ms : List Matcher) (xs : List (List ℕ)) (x : List ℕ) → AreApart ms xs
-    → ((y : List ℕ) → IsIn xs y → AreAlike ms y x → ⊥) → AreApart ms (xs ++ x ∷ [])
-apart_pushed ms xs x apart none i j y z at_y at_z same =
-    grind (arith, common_steps, got_either, in_at, alike_turned)
 
 -- ---- How many there are.
 

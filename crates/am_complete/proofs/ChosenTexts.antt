@@ -1,6 +1,6 @@
 -- Texts that stand for classes of texts. Other texts of these classes stand for them too, and so do
 -- the texts in another order.
-use Rattle.std.proofs.Common.{◌≡◌, ◌<◌, ℕ, Bool, true, false, List, [], ◌∷◌}
+use Rattle.std.proofs.Common.{◌≡◌, ◌<◌, ℕ, Bool, true, false, List}
 use Rattle.std.proofs.Common.{option_map, string_bytes, get_or, Some}
 use Rattle.std.proofs.Common.{refl, sym, ap, ◌∙◌, subst, inl, inr, arith}
 use Rattle.std.specs.Prelude.{slice_get, IsPermutation}
@@ -8,7 +8,6 @@ use Rattle.std.specs.List.{IsDistinct}
 use Rattle.std.specs.Cmp.Lexicographic.{pointwise}
 use mathlib.Core.Bool.{beq}
 use Rattle.std.proofs.lemmas.Bool.{both_ways, cases_Bool, cases_lt}
-use Rattle.std.proofs.lemmas.Slice.Eq.{slice_eq-Decides}
 use Rattle.std.proofs.lemmas.List.Sorted.{Contains-permutation, IsPermutation-sym}
 use Rattle.std.proofs.lemmas.Map.Keys.{IsDistinct-IsPermutation, IsDistinct-from_apart}
 use Rattle.std.proofs.lemmas.Map.Keys.{apart_from_distinct}
@@ -19,37 +18,19 @@ use Rattle.am_universe.proofs.ListLemmas.{IsIn, IsIn-map, IsIn-unmap, IsIn-from_
 use Rattle.am_universe.proofs.ListLemmas.{Contains-from_IsIn}
 use Rattle.am_universe.proofs.ListLemmas.{AllByRecursion-at, AllByRecursion-each}
 use Rattle.am_universe.proofs.Members.{at_in, in_at}
-use Rattle.am_labels.specs.Matcher.{Matcher, holds}
+use Rattle.am_labels.specs.Matcher.{Matcher}
 use Rattle.am_classes.specs.declared.alphabet.Alphabet.{Alphabet}
 use Rattle.am_classes.specs.Alphabet.{IsOver, AreOver}
 use Rattle.am_classes.specs.Alike.{AreAlike, AreApart}
-use Rattle.am_classes.proofs.BoolLemmas.{beq-Decides}
 use Rattle.am_complete.specs.Covering.{AreClasses}
-use Rattle.am_complete.specs.declared.tested.Tested.{Tested}
-use Rattle.am_complete.specs.Truths.{alike, truths, texts_of, AreTested, IsChosen, AreChosenEach}
-use Rattle.am_complete.proofs.Alike.{alike_itself, alike_turned, alike_joined}
+use Rattle.am_classes.specs.declared.tested.Tested.{Tested}
+use Rattle.am_classes.specs.Truths.{alike, truths, texts_of, AreTested}
+use Rattle.am_complete.specs.Chosen.{IsChosen, AreChosenEach}
+use Rattle.am_classes.proofs.AlikeLemmas.{alike_itself, alike_turned, alike_joined}
+use Rattle.am_classes.proofs.AlikeLemmas.{alike_is, is_alike}
 use Rattle.am_complete.proofs.Pushed.{zip_left, zip_right}
 
--- ---- Alike texts have the same truths.
-
-same_truths : (ms : List Matcher) (x y : List ℕ) → AreAlike ms x y → truths ms x ≡ truths ms y
-same_truths [] x y h = refl
-same_truths (m ∷ ms) x y h = λ i. h.0 i ∷ same_truths ms x y h.1 i
-
-alike_from_truths : (ms : List Matcher) (x y : List ℕ) → truths ms x ≡ truths ms y → AreAlike ms x y
-alike_from_truths [] x y e = tt
-alike_from_truths (m ∷ ms) x y e =
-    let first : holds m.op m.value x ≡ holds m.op m.value y = cc in
-    let rest : truths ms x ≡ truths ms y = cc in (first, alike_from_truths ms x y rest)
-
-pub alike_is : (ms : List Matcher) (x y : List ℕ) → AreAlike ms x y → alike ms x y ≡ true
-alike_is ms x y h =
-    (slice_eq-Decides beq-Decides (truths ms x) (truths ms y) _ refl).1 (same_truths ms x y h)
-
-pub is_alike : (ms : List Matcher) (x y : List ℕ) → alike ms x y ≡ true → AreAlike ms x y
-is_alike ms x y h =
-    alike_from_truths ms x y
-    ((slice_eq-Decides beq-Decides (truths ms x) (truths ms y) _ refl).0 h)
+-- ---- A chosen text.
 
 -- a chosen text is alike to the wanted one
 chosen_alike : (ms : List Matcher) (usual : List Tested) (w : Tested) (x : List ℕ)

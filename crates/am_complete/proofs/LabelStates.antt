@@ -34,7 +34,7 @@ use Rattle.am_complete.specs.AskedLabel.{AskedLabel, asked_names, IsAskedOf}
 use Rattle.am_complete.specs.Covering.{CoverPossible, standing_texts}
 use Rattle.am_complete.specs.LabelState.{IsSoAt, is_settled, is_declared, reported_names}
 use Rattle.am_complete.specs.FoundState.{IsFoundAt, IsSoOfName, begins}
-use Rattle.am_complete.proofs.Alike.{alike_joined}
+use Rattle.am_classes.proofs.AlikeLemmas.{alike_joined}
 use Rattle.am_complete.proofs.CompleteUniverses.{space_complete_without_matchers}
 use Rattle.am_complete.proofs.CompleteUniverses.{space_complete_where_asked}
 use Rattle.am_complete.proofs.LabelTexts.{has_name}

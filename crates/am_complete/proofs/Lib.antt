@@ -8,7 +8,6 @@ pub mod AmongMatchers
 pub mod SameMatchers
 pub mod DeclaredLabels
 pub mod MadeUniverses
-pub mod TestedTexts
 pub mod ChosenTexts
 pub mod ApartTexts
 pub mod PossibleTexts

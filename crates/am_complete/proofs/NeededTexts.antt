@@ -13,7 +13,7 @@ use Rattle.am_classes.specs.Alphabet.{IsOver}
 use Rattle.am_labels.specs.Space.{Space}
 use Rattle.am_labels.proofs.Passing.{passes_from_kept, kept_from_passes}
 use Rattle.am_classes.specs.declared.alphabet.Alphabet.{Alphabet}
-use Rattle.am_classes.specs.Alike.{HasAlikeIn, HasPattern}
+use Rattle.am_classes.specs.Alike.{HasAlikeIn, HasOtherPattern}
 use Rattle.am_complete.specs.Complete.{label_texts, may_have}
 use Rattle.am_complete.specs.AskedLabel.{AskedLabel}
 use Rattle.am_complete.specs.Covering.{AreClasses, ArePossible, AreNeeded, CoverPossible}
@@ -22,12 +22,12 @@ use Rattle.am_complete.specs.Room.{NeedsText}
 use Rattle.am_complete.specs.declared.label_state.Completeness.TheVariants as state_is
 use Rattle.am_complete.specs.FoundState.{HasThoseOfLists, IsFoundAt}
 use Rattle.am_complete.specs.Missing.{IsMissingAt, MissingTexts}
-use Rattle.am_complete.specs.Truths.{AreNewIn}
+use Rattle.am_classes.specs.Truths.{AreNewIn}
 use Rattle.am_complete.proofs.ApartTexts.{one_apart}
 use Rattle.am_complete.proofs.LabelStates.{covered}
 use Rattle.am_complete.proofs.LabelTexts.{has_name}
 use Rattle.am_complete.proofs.PossibleTexts.{are_possible, cover_possible, same_possible}
-use Rattle.am_complete.proofs.TestedTexts.{alike_within}
+use Rattle.am_classes.proofs.TestedTexts.{alike_within}
 
 -- ---- What stands in a space for a label.
 
@@ -89,7 +89,7 @@ module _ (a : Alphabet) (s : Space) (l : AskedLabel) (m : MissingTexts) (found :
   cover whole = cover_possible a s.impossible l found lists (classes.covers whole)
 
   pub is_missing : m.name ≡ l.name → l.name ≢ [] → m.named ≡ is_label_name l.name → length wanted ≡ m.count
-      → (m.all ≡ false → HasPattern l.matchers) → IsMissingAt a s l m
+      → (m.all ≡ false → HasOtherPattern l.matchers) → IsMissingAt a s l m
   is_missing name some named counted pattern = record {
     name = name;
     some_name = some;

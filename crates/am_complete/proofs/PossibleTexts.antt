@@ -23,7 +23,7 @@ use Rattle.am_complete.specs.Complete.{asks_only_of, matches_text, may_have, Are
 use Rattle.am_complete.specs.AskedLabel.{AskedLabel}
 use Rattle.am_complete.specs.Covering.{ArePossible, CoverPossible}
 use Rattle.am_complete.specs.FoundState.{HasThoseOfLists}
-use Rattle.am_complete.specs.Truths.{alike}
+use Rattle.am_classes.specs.Truths.{alike}
 use Rattle.am_complete.proofs.ChosenTexts.{distinct_from_apart, apart_from_distinct_texts}
 use Rattle.am_complete.proofs.CompleteUniverses.{alone_truth, takes_away}
 

@@ -33,7 +33,7 @@ use Rattle.am_complete.specs.LabelState.{is_declared}
 use Rattle.am_complete.specs.Missing.{MissingTexts, IsMissingAt, AreMissing, texts_of_missing}
 use Rattle.am_complete.specs.Missing.{missing_for, whole_texts, has_some, is_to_declare, IsWhole}
 use Rattle.am_complete.specs.Missing.{names_to_declare, CanBeDeclared, AreTooLarge}
-use Rattle.am_complete.proofs.Alike.{alike_itself}
+use Rattle.am_classes.proofs.AlikeLemmas.{alike_itself}
 use Rattle.am_complete.proofs.ApartTexts.{distinct_where_apart}
 use Rattle.am_complete.proofs.DeclaredLabels.{distinct_texts}
 use Rattle.am_complete.proofs.LabelStates.{declared_where}

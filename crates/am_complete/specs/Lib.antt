@@ -4,7 +4,7 @@ pub mod Operators
 pub mod Gathering
 pub mod Covering
 pub mod Room
-pub mod Truths
+pub mod Chosen
 pub mod Missing
 pub mod LabelState
 pub mod FoundState

@@ -10,9 +10,8 @@ ghost use Rattle.am_complete.specs.Covering.{AreClasses};
 
 use crate::AskedLabel;
 use crate::representatives::put_in_order;
-use crate::tested::{new_texts, tested_texts};
 use crate::usual_texts::{push_new, texts_over, usual_texts};
-use am_classes::Alphabet;
+use am_classes::{Alphabet, new_texts, tested_texts};
 use am_list_files::Alerts;
 use std::alloc::{AllocError, Global};
 

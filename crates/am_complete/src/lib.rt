@@ -20,7 +20,6 @@ mod label_texts;
 mod missing_texts;
 mod possible_texts;
 mod representatives;
-mod tested;
 mod usual_texts;
 
 // A universe made from what the matchers ask.

@@ -1,20 +1,19 @@
 //! The texts that a label lacks in a space, and what that says about the label.
 
 ghost use Rattle.std.specs.Prelude.{◌≡◌, ◌≢◌, [], IfOk, map, string_bytes, false};
-ghost use Rattle.am_classes.specs.Alike.{HasPattern};
+ghost use Rattle.am_classes.specs.Alike.{HasOtherPattern};
 ghost use Rattle.am_complete.specs.Covering.{AreClasses, standing_texts};
 ghost use Rattle.am_complete.specs.FoundState.{HasThoseOfLists, IsFoundAt};
 ghost use Rattle.am_complete.specs.Missing.{IsMissingAt, needs_label, is_covered};
-ghost use Rattle.am_complete.specs.Truths.{AreNewIn};
+ghost use Rattle.am_classes.specs.Truths.{AreNewIn};
 
 use crate::found_texts::found_texts;
 use crate::label_texts::standing_texts;
 use crate::made_universe::is_label_name;
 use crate::possible_texts::possible_texts;
 use crate::representatives::representatives;
-use crate::tested::{new_texts, tested_texts};
 use crate::{AskedLabel, Completeness};
-use am_classes::{Alphabet, ClassTexts, classes};
+use am_classes::{Alphabet, ClassTexts, classes, new_texts, tested_texts};
 use am_labels::Space;
 use am_list_files::Alerts;
 use am_universe::limits::MAX_VALUES;
@@ -142,7 +141,8 @@ fn class_texts(
 ) -> Result<ClassTexts, AllocError>
     ensures classes { IfOk result (λ found. AreClasses alphabet label.now.matchers
         (map string_bytes found.texts.items) found.all) }
-    ensures pattern { IfOk result (λ found. found.all ≡ false → HasPattern label.now.matchers) }
+    ensures pattern { IfOk result (λ found.
+        found.all ≡ false → HasOtherPattern label.now.matchers) }
 {
     let Some(classes) = classes(alloc, alphabet, label.matchers())? else {
         let texts = found_texts(alloc, alphabet, label, alerts)?;

@@ -5,12 +5,12 @@ ghost use Rattle.std.specs.List.{find};
 ghost use Rattle.am_labels.specs.Matcher.{Matcher};
 ghost use Rattle.am_classes.specs.declared.alphabet.Alphabet.{Alphabet};
 ghost use Rattle.am_complete.specs.Covering.{AreClasses};
-ghost use Rattle.am_complete.specs.Truths.{AreChosenEach, IsChosen, has_same_truths};
+ghost use Rattle.am_classes.specs.Truths.{has_same_truths};
+ghost use Rattle.am_complete.specs.Chosen.{AreChosenEach, IsChosen};
 
 use crate::AskedLabel;
-use crate::tested::{Tested, tested_texts};
 use crate::usual_texts::{texts_over, usual_texts};
-use am_classes::{Alphabet, ClassTexts};
+use am_classes::{Alphabet, ClassTexts, Tested, tested_texts};
 use am_labels::{Comparison, Matcher};
 use am_list_files::Alerts;
 use am_universe::limits::MAX_VALUES;

@@ -29,8 +29,9 @@ use Rattle.am_complete.specs.AskedLabel.{AskedLabel, asked_names, IsAskedOf}
 use Rattle.am_complete.specs.Covering.{standing_texts, standing_in, AreNeeded, KeepsValues}
 use Rattle.am_complete.specs.Covering.{KeepsLabels}
 use Rattle.am_complete.specs.Room.{HasToBeDeclared, HaveNoRoom}
-use Rattle.am_complete.proofs.Alike.{alike_turned}
-use Rattle.am_complete.proofs.ApartTexts.{apart_are_no_more, apart_pushed}
+use Rattle.am_classes.proofs.AlikeLemmas.{alike_turned}
+use Rattle.am_classes.proofs.AlikeLemmas.{apart_pushed}
+use Rattle.am_complete.proofs.ApartTexts.{apart_are_no_more}
 use Rattle.am_complete.proofs.AskedLabels.{no_name, on_name, asked_for}
 use Rattle.am_complete.proofs.LabelTexts.{has_name, texts_by, unnamed_texts}
 use Rattle.am_complete.proofs.MadeUniverses.{distinct_joined}

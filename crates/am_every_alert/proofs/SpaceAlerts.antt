@@ -27,7 +27,7 @@ use Rattle.am_complete.specs.Complete.{asks_only_of, matches_text, may_have}
 use Rattle.am_asked.specs.Asked.{route_matchers, world_matchers, question_matchers}
 use Rattle.am_complete.specs.Complete.{impossible_matchers}
 use Rattle.am_complete.specs.Covering.{HasTextsOver}
-use Rattle.am_complete.proofs.Alike.{alike_itself}
+use Rattle.am_classes.proofs.AlikeLemmas.{alike_itself}
 use Rattle.am_complete.proofs.LabelTexts.{undeclared_texts}
 use Rattle.am_complete.proofs.CompleteUniverses.{alone_truth, takes_away}
 use Rattle.am_every_alert.specs.EveryAlert.{IsAlert, IsAlertOf, MeetsTheSame, AreTreatedAlike}

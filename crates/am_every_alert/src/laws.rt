@@ -140,7 +140,7 @@ pub fn label_sets_of_a_universe_are_alerts()
 {}
 
 /// Being alike to some matchers is an equivalence of texts.
-#[tactic(auto, using(am_complete::proofs::Alike::alike_itself, am_complete::proofs::Alike::alike_turned, am_complete::proofs::Alike::alike_joined))]
+#[tactic(auto, using(am_classes::proofs::AlikeLemmas::alike_itself, am_classes::proofs::AlikeLemmas::alike_turned, am_classes::proofs::AlikeLemmas::alike_joined))]
 pub fn alike_texts_are_equivalent()
     ensures itself { (ms : List Matcher) (x : List ℕ) → AreAlike ms x x }
     ensures turned { (ms : List Matcher) (x y : List ℕ) → AreAlike ms x y → AreAlike ms y x }

@@ -1,6 +1,6 @@
 use Rattle.std.proofs.Common.{false, map, string_bytes, sym, subst}
 use Rattle.am_classes.specs.Alphabet.{IsOver, AreOver}
-use Rattle.am_complete.specs.Truths.{AreTested, texts_of}
+use Rattle.am_classes.specs.Truths.{AreTested, texts_of}
 use Rattle.am_complete.proofs.NeededTexts.{all_from}
 use Rattle.am_complete.proofs.found_texts.found_texts.Goals as goal
 

@@ -4,7 +4,7 @@ use Rattle.std.proofs.lemmas.List.{length-map}
 use Rattle.am_universe.specs.Universe.{is_label_name}
 use Rattle.am_complete.specs.Complete.{may_have}
 use Rattle.am_complete.specs.Covering.{standing_texts}
-use Rattle.am_complete.specs.Truths.{AreNewIn}
+use Rattle.am_classes.specs.Truths.{AreNewIn}
 use Rattle.am_complete.proofs.NeededTexts.{is_missing}
 use Rattle.am_complete.proofs.missing_texts.missing_at.Goals as goal
 

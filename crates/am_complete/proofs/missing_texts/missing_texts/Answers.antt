@@ -1,7 +1,7 @@
 use Rattle.std.proofs.Common.{◌≡◌, map, string_bytes, ap, ◌∙◌, subst, List, ℕ}
 use Rattle.std.proofs.lemmas.Result.{IfOk-weaker}
 use Rattle.am_complete.specs.Covering.{standing_texts}
-use Rattle.am_complete.specs.Truths.{AreNewIn, AreTested, texts_of}
+use Rattle.am_classes.specs.Truths.{AreNewIn, AreTested, texts_of}
 use Rattle.am_complete.proofs.missing_texts.missing_texts.Goals as goal
 
 pub returns : goal.returns

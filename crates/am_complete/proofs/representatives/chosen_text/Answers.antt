@@ -1,7 +1,7 @@
 use Rattle.std.proofs.Common.{◌≡◌, Some, option_map, sym, ap, ◌∙◌, inr}
 use Rattle.std.specs.List.{find}
 use Rattle.am_universe.proofs.ListLemmas.{Contains-from_IsIn}
-use Rattle.am_complete.specs.Truths.{has_same_truths}
+use Rattle.am_classes.specs.Truths.{has_same_truths}
 use Rattle.am_complete.proofs.LabelTexts.{found}
 use Rattle.am_complete.proofs.representatives.chosen_text.Goals as goal
 

@@ -2,8 +2,8 @@ use Rattle.std.proofs.Common.{◌≡◌, ◌+◌, ◌++◌, ◌∷◌, [], map, 
 use Rattle.std.proofs.Common.{subst, List}
 use Rattle.std.proofs.lemmas.List.{map-append}
 use Rattle.std.proofs.lemmas.Slice.Zip.{all_zipped_more}
-use Rattle.am_complete.specs.declared.tested.Tested.{Tested}
-use Rattle.am_complete.specs.Truths.{IsChosen, AreChosenEach}
+use Rattle.am_classes.specs.declared.tested.Tested.{Tested}
+use Rattle.am_complete.specs.Chosen.{IsChosen, AreChosenEach}
 use Rattle.am_complete.proofs.LabelStates.{stands_at}
 use Rattle.am_complete.proofs.Pushed.{one_longer}
 use Rattle.am_complete.proofs.representatives.chosen_texts.Goals as goal

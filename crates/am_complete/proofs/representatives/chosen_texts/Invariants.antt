@@ -1,5 +1,5 @@
 use Rattle.std.proofs.Common.{map, string_bytes, take}
-use Rattle.am_complete.specs.Truths.{AreChosenEach}
+use Rattle.am_complete.specs.Chosen.{AreChosenEach}
 use Rattle.am_complete.proofs.representatives.chosen_texts.Given as goal
 
 -- the texts so far are chosen for the wanted ones so far

@@ -2,8 +2,9 @@ use Rattle.std.proofs.Common.{ℕ, List, map, string_bytes, sym, subst}
 use Rattle.std.proofs.lemmas.Result.{IfOk-weaker}
 use Rattle.am_classes.specs.Alphabet.{AreOver}
 use Rattle.am_complete.specs.Covering.{AreClasses}
-use Rattle.am_complete.specs.declared.tested.Tested.{Tested}
-use Rattle.am_complete.specs.Truths.{AreChosenEach, AreTested}
+use Rattle.am_classes.specs.declared.tested.Tested.{Tested}
+use Rattle.am_classes.specs.Truths.{AreTested}
+use Rattle.am_complete.specs.Chosen.{AreChosenEach}
 use Rattle.am_complete.proofs.ChosenTexts.{classes_chosen}
 use Rattle.am_complete.proofs.representatives.usual_where_alike.Goals as goal
 

@@ -4,20 +4,22 @@
 ghost use Rattle.std.specs.Prelude.{◌≡◌, List, IfOk, map, string_bytes};
 ghost use Rattle.std.specs.List.{list_any};
 ghost use Rattle.am_labels.specs.Matcher.{Matcher};
-ghost use Rattle.am_complete.specs.Truths.{AreNewIn, AreTested, has_same_truths, texts_of, truths};
+ghost use Rattle.am_classes.specs.Truths.{AreNewIn, AreTested, has_same_truths, texts_of, truths};
 
 use am_labels::{Matcher, PreparedMatcher};
 use std::alloc::{AllocError, Global};
 
 /// A text, and the truth of each matcher of a label on it.
 #[derive(Drop)]
-pub(crate) struct Tested {
-    pub(crate) text: String,
-    pub(crate) truths: Vec<bool>,
+pub struct Tested {
+    /// The text.
+    pub text: String,
+    /// The truths, in the order of the matchers.
+    pub truths: Vec<bool>,
 }
 
 /// Tests texts by matchers.
-pub(crate) fn tested_texts(
+pub fn tested_texts(
     alloc: Global,
     matchers: &[&Matcher],
     texts: Vec<String>,
@@ -66,7 +68,7 @@ fn truths_on(
 
 /// Returns the texts, among the wanted ones, that are new: each is alike to none of those that are
 /// there, and to none before it.
-pub(crate) fn new_texts(
+pub fn new_texts(
     alloc: Global,
     mut there: Vec<Tested>,
     wanted: Vec<Tested>,

@@ -1,5 +1,5 @@
 use Rattle.std.proofs.Common.{◌≡◌, map, take}
-use Rattle.am_complete.proofs.tested.prepared.Given as goal
+use Rattle.am_classes.proofs.tested.prepared.Given as goal
 
 -- the matchers so far are prepared
 abbrev pub invariant-loop-matcher : goal.invariant-loop-matcher

@@ -1,7 +1,7 @@
 use Rattle.std.proofs.Common.{◌≡◌, ◌++◌, List, map, string_bytes}
 use Rattle.am_labels.specs.Matcher.{Matcher}
-use Rattle.am_complete.specs.Truths.{AreTested, AreNewIn, texts_of}
-use Rattle.am_complete.proofs.tested.new_texts.Given as goal
+use Rattle.am_classes.specs.Truths.{AreTested, AreNewIn, texts_of}
+use Rattle.am_classes.proofs.tested.new_texts.Given as goal
 
 -- the new texts come after those that were there, and are new among the wanted ones so far
 abbrev pub invariant-loop-text : goal.invariant-loop-text

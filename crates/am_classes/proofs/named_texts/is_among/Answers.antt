@@ -5,7 +5,7 @@ use Rattle.std.proofs.lemmas.Iterator.{YieldsList-from_slice}
 use Rattle.std.proofs.lemmas.Iterator.Search.{any_from_yields_List}
 use Rattle.am_universe.proofs.UniverseLemmas.{list_any-map}
 use Rattle.am_classes.proofs.AskedLemmas.{among_place, among_found}
-use Rattle.am_classes.proofs.questions.is_among.Goals as goal
+use Rattle.am_classes.proofs.named_texts.is_among.Goals as goal
 
 pub returns : goal.returns
 returns c =

@@ -7,10 +7,10 @@ use Rattle.std.proofs.lemmas.List.{map-append}
 use Rattle.std.proofs.lemmas.List.Folds.{map_fixed}
 use Rattle.am_universe.proofs.DistinctLists.{all_push, all_pushed}
 use Rattle.am_classes.specs.Alike.{HasAlikeIn}
-use Rattle.am_complete.specs.declared.tested.Tested.{Tested}
-use Rattle.am_complete.specs.Truths.{AreTested, AreNewIn, texts_of, truths, has_same_truths}
-use Rattle.am_complete.proofs.TestedTexts.{alike_there, none_alike, one_old, one_new}
-use Rattle.am_complete.proofs.tested.new_texts.Goals as goal
+use Rattle.am_classes.specs.declared.tested.Tested.{Tested}
+use Rattle.am_classes.specs.Truths.{AreTested, AreNewIn, texts_of, truths, has_same_truths}
+use Rattle.am_classes.proofs.TestedTexts.{alike_there, none_alike, one_old, one_new}
+use Rattle.am_classes.proofs.tested.new_texts.Goals as goal
 
 pub loop-text-preserved : goal.loop-text-preserved
 loop-text-preserved c =

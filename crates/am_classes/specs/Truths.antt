@@ -1,12 +1,11 @@
 -- Texts that are tested by matchers.
-use Rattle.std.specs.Prelude.{◌≡◌, ◌⊎◌, ℕ, List, ◌++◌, map, Bool, Contains, IsTrue}
-use Rattle.std.specs.Prelude.{string_bytes}
-use Rattle.std.specs.List.{AllByRecursion, AllZip}
+use Rattle.std.specs.Prelude.{◌≡◌, ℕ, List, ◌++◌, map, Bool, Contains, string_bytes}
+use Rattle.std.specs.List.{AllByRecursion}
 use Rattle.std.specs.Cmp.Lexicographic.{pointwise}
 use mathlib.Core.Bool.{beq}
 use Rattle.am_labels.specs.Matcher.{Matcher, holds}
 use Rattle.am_classes.specs.Alike.{AreApart, HasAlikeIn}
-use Rattle.am_complete.specs.declared.tested.Tested.{Tested}
+use Rattle.am_classes.specs.declared.tested.Tested.{Tested}
 
 -- The truths of some matchers on a text, in order.
 abbrev pub truths : List Matcher → List ℕ → List Bool
@@ -33,16 +32,3 @@ pub record AreNewIn (ms : List Matcher) (there wanted texts : List (List ℕ)) :
   pub apart : AreApart ms texts
   pub new : AllByRecursion (λ text. HasAlikeIn ms there text → ⊥) texts
   pub cover : AllByRecursion (HasAlikeIn ms (there ++ texts)) wanted
-
--- A text is chosen for a wanted one: it is that text, or a usual one with the same truths. And
--- texts are chosen for each of some texts.
--- Source: own choice.
--- Example: for `team=~"db.*"`, `other` may be chosen for `web`, and not for `db`.
-abbrev pub IsChosen : List Tested → Tested → List ℕ → Type 0
-IsChosen usual wanted text =
-    (text ≡ string_bytes wanted.text)
-    ⊎ ((t : Tested) × Contains usual t × (text ≡ string_bytes t.text)
-    × IsTrue (has_same_truths wanted t))
-
-abbrev pub AreChosenEach : List Tested → List Tested → List (List ℕ) → Type 0
-AreChosenEach usual wanted texts = AllZip (IsChosen usual) wanted texts

@@ -1,6 +1,6 @@
 use Rattle.std.proofs.Common.{◌≡◌, map, string_bytes}
-use Rattle.am_complete.specs.Truths.{AreTested, texts_of}
-use Rattle.am_complete.proofs.tested.tested_texts.Given as goal
+use Rattle.am_classes.specs.Truths.{AreTested, texts_of}
+use Rattle.am_classes.proofs.tested.tested_texts.Given as goal
 
 -- the texts so far are tested, by the same matchers
 abbrev pub invariant-loop-text : goal.invariant-loop-text

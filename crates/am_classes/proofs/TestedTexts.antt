@@ -12,11 +12,11 @@ use Rattle.am_universe.proofs.ListLemmas.{AllByRecursion-at, AllByRecursion-each
 use Rattle.am_labels.specs.Matcher.{Matcher}
 use Rattle.am_labels.proofs.Passing.{any_in, in_any}
 use Rattle.am_classes.specs.Alike.{AreAlike, HasAlikeIn}
-use Rattle.am_complete.specs.declared.tested.Tested.{Tested}
-use Rattle.am_complete.specs.Truths.{alike, truths, texts_of, AreTested, AreNewIn, has_same_truths}
-use Rattle.am_complete.proofs.Alike.{alike_itself}
-use Rattle.am_complete.proofs.ApartTexts.{apart_pushed}
-use Rattle.am_complete.proofs.ChosenTexts.{alike_is, is_alike}
+use Rattle.am_classes.specs.declared.tested.Tested.{Tested}
+use Rattle.am_classes.specs.Truths.{alike, truths, texts_of, AreTested, AreNewIn, has_same_truths}
+use Rattle.am_classes.proofs.AlikeLemmas.{alike_itself}
+use Rattle.am_classes.proofs.AlikeLemmas.{apart_pushed}
+use Rattle.am_classes.proofs.AlikeLemmas.{alike_is, is_alike}
 
 -- ---- The same truths.
 

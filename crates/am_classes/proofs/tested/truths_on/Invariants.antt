@@ -1,6 +1,6 @@
 use Rattle.std.proofs.Common.{◌≡◌, take}
-use Rattle.am_complete.specs.Truths.{truths}
-use Rattle.am_complete.proofs.tested.truths_on.Given as goal
+use Rattle.am_classes.specs.Truths.{truths}
+use Rattle.am_classes.proofs.tested.truths_on.Given as goal
 
 -- the truths so far are those of the matchers so far, which stay the same
 abbrev pub invariant-loop-i : goal.invariant-loop-i

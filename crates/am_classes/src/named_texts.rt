@@ -1,0 +1,157 @@
+//! The texts that matchers name, and the patterns of those that name none.
+//!
+//! A pattern such as `db|web` asks whether a text is `db` or `web`, and nothing else. So it has no
+//! automaton: its alternatives are named texts, as the text behind `=` is.
+
+ghost use Rattle.std.specs.Prelude.{◌≡◌, ◌↔◌, ◌∷◌, ◌++◌, [], ℕ, List, Some, IsTrue, IfOk, OnOk};
+ghost use Rattle.std.specs.Prelude.{map, slice_get, string_bytes};
+ghost use Rattle.std.specs.List.{filter, flat_map};
+ghost use Rattle.am_classes.specs.Alphabet.{is_over};
+ghost use Rattle.am_classes.specs.Alternation.{is_alternation, is_plain};
+ghost use Rattle.am_classes.specs.Named.{AreEachOnce, names_texts, named_over};
+ghost use Rattle.am_classes.specs.Named.{alternatives_of, other_patterns, text_of};
+
+use crate::Alphabet;
+use am_labels::{Comparison, Matcher};
+use std::alloc::{AllocError, Global};
+
+/// Returns the texts over an alphabet that matchers name, each once: first those that they compare
+/// with, and then the alternatives of patterns, the shorter ones first.
+pub(crate) fn named_texts(
+    alloc: Global,
+    alphabet: Alphabet,
+    matchers: &[&Matcher],
+) -> Result<Vec<String>, AllocError>
+    ensures { IfOk result (λ texts. AreEachOnce
+        (named_over alphabet (map (λ m. m.now) matchers.now)) (map string_bytes texts.items)) }
+{
+    let compared = compared_texts(alloc, matchers)?;
+    let mut parts = all_alternatives(alloc, matchers)?;
+    parts.sort_by_key(|part| part.len())?;
+    let mut texts = Vec::new(alloc);
+    push_over(alloc, alphabet, compared.as_slice(), &mut texts)?;
+    push_over(alloc, alphabet, parts.as_slice(), &mut texts)?;
+    Ok(texts)
+}
+
+/// Returns the texts that matchers compare with.
+fn compared_texts<'m>(alloc: Global, matchers: &[&'m Matcher]) -> Result<Vec<&'m str>, AllocError>
+    ensures { IfOk result (λ texts. map (λ text. text.now) texts.items
+        ≡ flat_map text_of (map (λ m. m.now) matchers.now)) }
+{
+    let mut texts = Vec::new(alloc);
+    for matcher in matchers {
+        if matcher.op().comparison() == Comparison::Text {
+            texts.push(matcher.value())?;
+        }
+    }
+    Ok(texts)
+}
+
+/// Returns the alternatives of the patterns of matchers.
+fn all_alternatives<'m>(alloc: Global, matchers: &[&'m Matcher]) -> Result<Vec<&'m str>, AllocError>
+    ensures { IfOk result (λ parts. map (λ part. part.now) parts.items
+        ≡ flat_map alternatives_of (map (λ m. m.now) matchers.now)) }
+{
+    let mut parts = Vec::new(alloc);
+    for matcher in matchers {
+        parts.append(&mut alternatives_of(alloc, matcher)?)?;
+    }
+    Ok(parts)
+}
+
+/// Returns the patterns of matchers that name no texts, each once.
+pub(crate) fn other_patterns(
+    alloc: Global,
+    matchers: &[&Matcher],
+) -> Result<Vec<String>, AllocError>
+    ensures { IfOk result (λ patterns. AreEachOnce (other_patterns (map (λ m. m.now) matchers.now))
+        (map string_bytes patterns.items)) }
+{
+    let mut patterns = Vec::new(alloc);
+    for matcher in matchers {
+        if !names_texts(matcher) {
+            push_new(alloc, matcher.value(), &mut patterns)?;
+        }
+    }
+    Ok(patterns)
+}
+
+/// Returns the alternatives of the pattern of a matcher, if they are plain texts.
+fn alternatives_of<'m>(alloc: Global, matcher: &'m Matcher) -> Result<Vec<&'m str>, AllocError>
+    ensures { IfOk result (λ parts. map (λ part. part.now) parts.items
+        ≡ alternatives_of matcher.now) }
+{
+    let pattern = matcher.value();
+    match matcher.op().comparison() {
+        Comparison::Pattern if is_alternation(pattern) => pattern.split('|').collect(alloc),
+        _ => Ok(Vec::new(alloc)),
+    }
+}
+
+/// Whether a matcher names texts: it compares with one, or its pattern is an alternation of such.
+fn names_texts(matcher: &Matcher) -> bool
+    ensures { result ≡ names_texts matcher.now }
+{
+    match matcher.op().comparison() {
+        Comparison::Text => true,
+        Comparison::Pattern => is_alternation(matcher.value()),
+    }
+}
+
+/// Whether a pattern is an alternation of plain texts.
+fn is_alternation(pattern: &str) -> bool
+    ensures { result ≡ is_alternation pattern.now }
+{
+    pattern
+        .as_bytes()
+        .iter()
+        .all(|byte| *byte == b'|' || is_plain(*byte))
+}
+
+/// Whether a byte is a character that stands for itself in a pattern.
+fn is_plain(byte: u8) -> bool
+    ensures { result ≡ is_plain byte }
+{
+    byte.is_ascii() && !b"\\.+*?()|[]{}^$".contains(&byte)
+}
+
+/// Adds those of some texts that are over an alphabet and not there yet.
+fn push_over(
+    alloc: Global,
+    alphabet: Alphabet,
+    named: &[&str],
+    texts: &mut Vec<String>,
+) -> Result<(), AllocError>
+    ensures { OnOk result ((wanted : List (List ℕ))
+        → AreEachOnce wanted (map string_bytes texts.old.items)
+        → AreEachOnce (wanted ++ filter (is_over alphabet) (map (λ text. text.now) named.now))
+        (map string_bytes texts.new.items)) }
+{
+    for text in named {
+        if alphabet.has(text) {
+            push_new(alloc, text, texts)?;
+        }
+    }
+    Ok(())
+}
+
+/// Adds a text, unless it is there already.
+fn push_new(alloc: Global, text: &str, texts: &mut Vec<String>) -> Result<(), AllocError>
+    ensures { OnOk result ((wanted : List (List ℕ))
+        → AreEachOnce wanted (map string_bytes texts.old.items)
+        → AreEachOnce (wanted ++ text.now ∷ []) (map string_bytes texts.new.items)) }
+{
+    if !is_among(texts.as_slice(), text.as_bytes()) {
+        texts.push(String::from_str(alloc, text)?)?;
+    }
+    Ok(())
+}
+
+/// Whether a text is one of these.
+pub(crate) fn is_among(texts: &[String], text: &[u8]) -> bool
+    ensures { IsTrue result
+        ↔ ((k : ℕ) × (slice_get (map string_bytes texts.now) k ≡ Some text.now)) }
+{
+    texts.iter().any(|other| other.as_bytes() == text)
+}
