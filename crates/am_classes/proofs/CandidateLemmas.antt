@@ -1,20 +1,24 @@
 -- Candidates: with one more, and for all texts.
-use Rattle.std.proofs.Common.{◌≡◌, ℕ, refl, List, [], ◌∷◌, ◌++◌, Some, slice_get, string_bytes, inl, inr, subst, sym, ap, ◌∙◌}
+use Rattle.std.proofs.Common.{◌≡◌, ◌<◌, ◌≤◌, ◌⊎◌, ℕ, false, length, refl, List, [], ◌∷◌, ◌++◌, Option, Some, None, IfSome, slice_get, string_bytes, inl, inr, subst, sym, ap, ◌∙◌}
+use Rattle.std.proofs.lemmas.Bool.{cases_lt}
 use Rattle.std.proofs.lemmas.Option.{same_Some}
 use Rattle.am_classes.specs.declared.questions.Questions.{Questions}
 use Rattle.am_classes.specs.declared.label_state.LabelState.{LabelState}
 use Rattle.am_classes.specs.declared.reached_state.ReachedState.{ReachedState}
 use Rattle.am_classes.specs.declared.candidate.Candidate.{Candidate}
+use Rattle.am_classes.specs.declared.candidates.CandidateTexts.{CandidateTexts}
 use Rattle.am_classes.specs.declared.tail.Tail.TheVariants.{Whole}
 use Rattle.am_classes.specs.Automata.{found_by}
 use Rattle.am_classes.specs.Alphabet.{IsOver}
 use Rattle.am_classes.specs.State.{IsNamed}
 use Rattle.am_classes.specs.Exploration.{IsClosed}
-use Rattle.am_classes.specs.Candidates.{IsCandidate, HasFound, AreApartCandidates, Represents, AreCandidates}
+use Rattle.am_classes.specs.Candidates.{IsCandidate, HasFound, HasCandidate, AreApartCandidates, Represents, AreCandidates}
+use Rattle.am_classes.specs.Candidates.{AreBelow, AreShortest, AreTied}
+use Rattle.am_classes.specs.declared.limits.TheConstants.{MAX_SAMPLE_NUMBERS}
 use Rattle.am_scan.specs.Automaton.{Grows}
 use Rattle.am_scan.proofs.Places.{get_pushed}
 use Rattle.am_classes.proofs.Utf8Lemmas.{text_whole}
-use Rattle.am_classes.proofs.ExplorationLemmas.{some_follows}
+use Rattle.am_classes.proofs.ExplorationLemmas.{reached}
 
 -- Candidates that represent a state still do so with more candidates.
 pub represents_kept : (q : Questions) (old new : List Candidate) (state : LabelState)
@@ -42,18 +46,25 @@ apart_pushed q old x h own new = record {
   ];
 }
 
--- Candidates for all states are candidates for all texts.
-pub candidates_of_all : (q : Questions) (listed : List ReachedState) (cs : List Candidate)
-    → IsClosed q listed → AreApartCandidates q cs
-    → ((k : ℕ) (item : ReachedState) → slice_get listed k ≡ Some item → Represents q cs item.state)
-    → AreCandidates q cs
-candidates_of_all q listed cs closed distinct represents = record {
-  distinct = distinct;
-  all = λ text over unnamed.
-      let whole = text_whole q.alphabet text over in
-      let here = some_follows q listed closed text Whole whole in
-      represents here.0 here.1 here.2 text here.3 (same_Some here.1.state.tail Whole (sym here.3.tail ∙ whole)) unnamed;
-}
+-- If states before a position lead on and are represented, each text has a candidate, or is at least
+-- as long as the text beside a state at or behind that position.
+pub represented : (q : Questions) (listed : List ReachedState) (at : ℕ) (cs : List Candidate)
+    → IsClosed q listed at
+    → ((k : ℕ) (item : ReachedState) → k < at → slice_get listed k ≡ Some item → Represents q cs item.state)
+    → (text : List ℕ) → IsOver q.alphabet text → (IsNamed q text → ⊥)
+    → HasCandidate q cs text
+    ⊎ ((k : ℕ) × (item : ReachedState) × (at ≤ k) × (slice_get listed k ≡ Some item)
+    × (length item.text.items ≤ length text))
+represented q listed at cs closed represents text over unnamed =
+    let whole = text_whole q.alphabet text over in
+    let here = reached q listed at closed text Whole whole in
+    elim here.4 [
+      | inr behind ↦ inr (here.0, here.1, behind, here.2, here.3)
+      | inl follows ↦ elim (cases_lt here.0 at) [
+        | inr behind ↦ inr (here.0, here.1, behind, here.2, here.3)
+        | inl below ↦ inl (represents here.0 here.1 below here.2 text follows (same_Some here.1.state.tail Whole (sym follows.tail ∙ whole)) unnamed)
+      ]
+    ]
 
 -- If there is no pattern, one text that is not named stands for all such texts.
 pub one_candidate : (q : Questions) (cs : List Candidate) (x : Candidate) → cs ≡ x ∷ []
@@ -67,3 +78,14 @@ one_candidate q cs x is none_asked found unnamed over =
       all = λ text over missed. (0, x, refl, none text);
     } in
     subst (AreCandidates q) (sym is) all
+
+-- Shortest candidates are tied, and so are short ones if they are not all.
+pub tied_if_some : (q : Questions) (found : Option CandidateTexts)
+    → IfSome found (λ cs. AreShortest q cs.items.items)
+    → IfSome found (λ cs. AreTied q cs.all cs.items.items)
+tied_if_some q None h = tt
+tied_if_some q (Some cs) shortest = λ k c at. inr (inl (shortest k c at))
+
+pub tied_short : (q : Questions) (cs : List Candidate) → AreBelow MAX_SAMPLE_NUMBERS cs
+    → AreTied q false cs
+tied_short q cs short = λ k c at. inr (inr (refl, short k c at))

@@ -1,9 +1,9 @@
 -- The named texts, one for each class of them, and the texts of the candidates stand for all
 -- classes, one for each.
-use Rattle.std.proofs.Common.{◌≡◌, ℕ, zero, suc, ◌+◌, true, false, List, [], ◌∷◌, ◌++◌, Bool, ◌||◌, ◌⊎◌}
+use Rattle.std.proofs.Common.{◌≡◌, ◌<◌, ℕ, zero, suc, ◌+◌, true, false, List, [], ◌∷◌, ◌++◌, Bool, ◌||◌, ◌⊎◌}
 use Rattle.std.proofs.Common.{Some, slice_get, length, map, string_bytes, inl, inr, refl, subst}
 use Rattle.std.proofs.Common.{sym, ap, ap₂, ◌∙◌, arith, Contains, String}
-use Rattle.std.specs.List.{list_any, AllZip}
+use Rattle.std.specs.List.{list_any, AllByRecursion, AllZip}
 use Rattle.std.proofs.lemmas.Bool.{false_from_ne_true, cases_Bool}
 use Rattle.std.proofs.lemmas.Slice.Eq.{bytes_eq-Decides}
 use Rattle.std.proofs.lemmas.List.{length-map}
@@ -31,8 +31,11 @@ use Rattle.am_classes.specs.Automata.{found_by}
 use Rattle.am_classes.specs.Named.{names_with, text_with, alternatives_with, names_texts, named_by}
 use Rattle.am_classes.specs.Named.{named_over, other_patterns}
 use Rattle.am_classes.specs.State.{named_texts, patterns_of, IsNamed}
-use Rattle.am_classes.specs.Candidates.{AreApartCandidates, AreCandidates}
+use Rattle.am_classes.specs.Candidates.{AreApartCandidates, AreCandidates, AreTied}
+use Rattle.am_classes.specs.Candidates.{IsCandidate, IsShortestFound}
+use Rattle.am_classes.specs.ClassTexts.{IsClassText, IsShortest, Names, others}
 use Rattle.am_classes.specs.Truths.{AreNewIn}
+use Rattle.am_classes.specs.declared.limits.TheConstants.{MAX_SAMPLE_NUMBERS}
 use Rattle.am_classes.proofs.AlikeLemmas.{alike_turned}
 use Rattle.am_classes.proofs.AlternationMatches.{finds_alternatives}
 use Rattle.am_classes.proofs.AskedLemmas.{among_cases, has_other, named_in, named_from}
@@ -167,6 +170,23 @@ unnamed_differs : (q : Questions) (x : List ℕ) → (IsNamed q x → ⊥) → (
     → slice_get (named_texts q) k ≡ Some named → same_text x named ≡ false
 unnamed_differs q x unnamed k named at = grind (arith, common_steps, false_from_ne_true, bytes_eq-Decides)
 
+-- A text that is named, by the questions of matchers, is named by one of these.
+names_from : (ms : List Matcher) (q : Questions) → AreAsked ms q → (x : List ℕ) → IsNamed q x
+    → Names ms x
+names_from ms q asked x named =
+    let wanted = asked.texts.from named.0 x named.1 in
+    let from = named_from q.alphabet ms x (in_at (named_over q.alphabet ms) wanted.0 x wanted.1) in
+    (from.0, Contains-from_IsIn ms from.0 from.1, Contains-from_IsIn (named_by from.0) x from.2)
+
+-- A shortest candidate is a shortest text of its class: a text alike to it is not named either.
+shortest_from : (ms : List Matcher) (q : Questions) (c : Candidate) → AreAsked ms q
+    → IsCandidate q c → IsShortestFound q c → IsShortest q.alphabet ms (string_bytes c.text)
+shortest_from ms q c asked own shortest = λ x over alike.
+    let text = string_bytes c.text in
+    shortest x over
+    (λ named. own.unnamed (named_alike ms q asked x text named own.over (alike_turned ms text x alike)))
+    (sym (own.found ∙ found_from_patterns q text x (patterns_same ms q asked text x alike)))
+
 -- The texts of the classes: one for each class of named texts, and those of the candidates.
 abbrev pub class_texts : List (List ℕ) → List Candidate → List (List ℕ)
 class_texts named cs = named ++ map (λ c. string_bytes c.text) cs
@@ -251,8 +271,28 @@ module _ (ms : List Matcher) (q : Questions) (named : List (List ℕ)) (cs : Lis
             subst (IsOver q.alphabet) c.2 (distinct.own behind.0 c.0 c.1).over
       ])
 
+  -- The texts of the classes are tied to the matchers.
+  pub classes_tied : (all : Bool) → AreApartCandidates q cs → AreTied q all cs
+      → AllByRecursion (λ text. IsClassText q.alphabet ms text
+      ⊎ ((all ≡ false) × (length text < MAX_SAMPLE_NUMBERS))) (class_texts named cs)
+  classes_tied all distinct tied =
+      all_from_places _ (class_texts named cs)
+      (λ k x at. elim (get_append named (map (λ c. string_bytes c.text) cs) x k at) [
+        | inl here ↦ inl (inl (names_from ms q asked x (is_named x k here)))
+        | inr behind ↦
+            let c = get_mapped (λ c. string_bytes c.text) cs behind.0 x behind.2 in
+            subst (λ text. IsClassText q.alphabet ms text ⊎ ((all ≡ false) × (length text < MAX_SAMPLE_NUMBERS))) c.2
+            (elim (tied behind.0 c.0 c.1) [
+              | inl other ↦ inl (inr (inr (other.0, other.1, λ n below. names_from ms q asked (others n) (other.2 n below))))
+              | inr tie ↦ elim tie [
+                | inl shortest ↦ inl (inr (inl (shortest_from ms q c.0 asked (distinct.own behind.0 c.0 c.1) shortest)))
+                | inr short ↦ inr short
+              ]
+            ])
+      ])
+
 pub ruleset of_classes =
-    (class_texts, classes_cover, classes_apart, classes_over, has_other, length-map)
+    (class_texts, classes_cover, classes_apart, classes_over, classes_tied, has_other, length-map)
 
 -- Copies have the same texts.
 pub copied_texts : {Z : Type 0} (xs ys : List (String Z))

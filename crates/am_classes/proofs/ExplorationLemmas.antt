@@ -1,7 +1,7 @@
 -- Listed states: with more listed, and for each text one that it leads to.
-use Rattle.std.proofs.Common.{◌≡◌, ◌<◌, ◌+◌, ◌-◌, ℕ, zero, suc, ap, set, Option, ◌⊎◌, List, [], ◌∷◌, ◌++◌, Some, slice_get, length, refl, inl, inr, subst, sym, ◌∙◌, arith, lt-ltb, le-ltb}
+use Rattle.std.proofs.Common.{◌≡◌, ◌<◌, ◌≤◌, ◌+◌, ◌-◌, ℕ, zero, suc, ap, set, Option, ◌⊎◌, List, [], ◌∷◌, ◌++◌, Some, slice_get, length, refl, inl, inr, subst, sym, ◌∙◌, arith, lt-ltb, le-ltb}
 use Rattle.std.proofs.lemmas.Bool.{cases_lt}
-use Rattle.std.proofs.lemmas.Option.{option_and_then_some, same_Some}
+use Rattle.std.proofs.lemmas.Option.{option_and_then_some, same_Some, slice_get_within}
 use Rattle.am_classes.specs.declared.questions.Questions.{Questions}
 use Rattle.am_classes.specs.declared.label_state.LabelState.{LabelState}
 use Rattle.am_classes.specs.declared.reached_state.ReachedState.{ReachedState}
@@ -9,72 +9,93 @@ use Rattle.am_classes.specs.declared.tail.Tail.{Tail}
 use Rattle.am_classes.specs.Utf8.{text_step, tail_of}
 use Rattle.am_classes.specs.State.{FollowsLabel}
 use Rattle.am_classes.specs.Automata.{MakeSame}
-use Rattle.am_classes.specs.Exploration.{AreListed, HasState, LeadsOn, AreLed, byte_at, IsClosed}
+use Rattle.am_classes.specs.Exploration.{HasState, LeadsOn, AreLed, byte_at, IsClosed}
+use Rattle.am_classes.specs.Exploration.{AreShortFirst}
 use Rattle.am_scan.specs.Automaton.{Grows}
 use Rattle.am_scan.proofs.Places.{get_pushed, get_last, get_behind}
 use Rattle.am_classes.proofs.TailLemmas.{step_byte}
 
 -- A listed state is still there when more is listed.
-pub has_kept : (q : Questions) (old new : List ReachedState) (text : List ℕ) → Grows old new
-    → HasState q old text → HasState q new text
-has_kept q old new text grows has = (has.0, has.1, grows has.0 has.1 has.2, has.3)
+pub has_kept : (q : Questions) (old new : List ReachedState) (n : ℕ) (text : List ℕ)
+    → Grows old new → HasState q old n text → HasState q new n text
+has_kept q old new n text grows has = (has.0, has.1, grows has.0 has.1 has.2, has.3, has.4)
 
-pub leads_kept : (q : Questions) (old new : List ReachedState) (state : LabelState) (byte : ℕ)
-    → Grows old new → LeadsOn q old state byte → LeadsOn q new state byte
-leads_kept q old new state byte grows leads = λ text tail follows has.
-    has_kept q old new (byte ∷ text) grows (leads text tail follows has)
+pub leads_kept : (q : Questions) (old new : List ReachedState) (item : ReachedState) (byte : ℕ)
+    → Grows old new → LeadsOn q old item byte → LeadsOn q new item byte
+leads_kept q old new item byte grows leads = λ text tail follows has.
+    has_kept q old new (length item.text.items + 1) (byte ∷ text) grows (leads text tail follows has)
 
--- Each state still follows the text beside it with one more state.
-pub listed_pushed : (q : Questions) (old new : List ReachedState) (item : ReachedState)
-    → new ≡ old ++ item ∷ [] → AreListed q old → FollowsLabel q item.state item.text.items
-    → AreListed q new
-listed_pushed q old new item is own follows = λ k x at.
-    elim (get_pushed old item x k (subst (λ xs. slice_get xs k ≡ Some x) is at)) [
-      | inl before ↦ own k x before
-      | inr here ↦ subst (λ y. FollowsLabel q y.state y.text.items) here.1 follows
+-- What is so of each element is so with one more, if it is so of that one.
+pub each_more : {X : Type 0} (P : X → Type 0) (old new : List X) (y : X) → new ≡ old ++ y ∷ []
+    → ((k : ℕ) (x : X) → slice_get old k ≡ Some x → P x) → P y
+    → (k : ℕ) (x : X) → slice_get new k ≡ Some x → P x
+each_more P old new y is each here = λ k x at.
+    elim (get_pushed old y x k (subst (λ xs. slice_get xs k ≡ Some x) is at)) [
+      | inl before ↦ each k x before
+      | inr last ↦ subst P last.1 here
     ]
 
--- A state that is added is listed.
-pub has_pushed : (q : Questions) (old new : List ReachedState) (item : ReachedState) (text : List ℕ)
-    → new ≡ old ++ item ∷ [] → FollowsLabel q item.state text → HasState q new text
-has_pushed q old new item text is follows =
-    (length old, item, subst (λ xs. slice_get xs (length old) ≡ Some item) (sym is) (get_last old item), follows)
-
--- A state that is listed after others follows the text beside it.
-pub own_behind : (q : Questions) (front left rest all : List ReachedState) (item : ReachedState)
-    → front ++ left ≡ all → left ≡ item ∷ rest → AreListed q all → FollowsLabel q item.state item.text.items
-own_behind q front left rest all item is first own =
+-- What is so of each element is so of one that is listed after others.
+pub each_behind : {X : Type 0} (P : X → Type 0) (front left rest all : List X) (y : X)
+    → front ++ left ≡ all → left ≡ y ∷ rest
+    → ((k : ℕ) (x : X) → slice_get all k ≡ Some x → P x) → P y
+each_behind P front left rest all y is first each =
     let at = rw first at is in
-    own (length front + 0) item (subst (λ xs. slice_get xs (length front + 0) ≡ Some item) at (get_behind front (item ∷ rest) item 0 refl))
+    each (length front + 0) y (subst (λ xs. slice_get xs (length front + 0) ≡ Some y) at (get_behind front (y ∷ rest) y 0 refl))
+
+-- States with shorter texts still come first with one more that has a longest text, and did before
+-- more were listed.
+pub short_more : (n : ℕ) (old new : List ReachedState) (item : ReachedState) → new ≡ old ++ item ∷ []
+    → AreShortFirst n old → length item.text.items ≡ n → AreShortFirst n new
+short_more n old new item is short here = record {
+  order = λ i j x y at also below.
+      elim (get_pushed old item x i (subst (λ xs. slice_get xs i ≡ Some x) is at)) [
+        | inl a ↦ elim (get_pushed old item y j (subst (λ xs. slice_get xs j ≡ Some y) is also)) [
+          | inl b ↦ short.order i j x y a b below
+          | inr b ↦ subst (λ z. length x.text.items ≤ length z.text.items) b.1 (omega (arith, short.most i x a, here))
+        ]
+        | inr a ↦ elim (get_pushed old item y j (subst (λ xs. slice_get xs j ≡ Some y) is also)) [
+          | inl b ↦ absurd (omega (arith, a.0, below, slice_get_within old j y b))
+          | inr b ↦ subst (λ z. length z.text.items ≤ length y.text.items) a.1 (subst (λ z. length item.text.items ≤ length z.text.items) b.1 (omega arith))
+        ]
+      ];
+  most = each_more (λ x. length x.text.items ≤ n) old new item is short.most (omega (arith, here));
+}
+
+pub short_before : (n : ℕ) (old new : List ReachedState) → Grows old new → AreShortFirst n new
+    → AreShortFirst n old
+short_before n old new grows short = record {
+  order = λ i j x y at also below. short.order i j x y (grows i x at) (grows j y also) below;
+  most = λ k x at. short.most k x (grows k x at);
+}
+
+-- A state that is added is listed.
+pub has_pushed : (q : Questions) (old new : List ReachedState) (item : ReachedState) (n : ℕ)
+    (text : List ℕ) → new ≡ old ++ item ∷ [] → FollowsLabel q item.state text
+    → length item.text.items ≤ n → HasState q new n text
+has_pushed q old new item n text is follows short =
+    (length old, item, subst (λ xs. slice_get xs (length old) ≡ Some item) (sym is) (get_last old item), follows, short)
 
 -- What is served is still served with one more state.
-pub serves_more : (q : Questions) (old new front : List ReachedState) (item : ReachedState) (text : List ℕ)
-    → Grows old new → ((x : List ℕ) → HasState q front x → HasState q old x)
-    → ((x : List ℕ) → FollowsLabel q item.state x → HasState q new x)
-    → HasState q (front ++ item ∷ []) text → HasState q new text
-serves_more q old new front item text grows before here has =
+pub serves_more : (q : Questions) (old new front : List ReachedState) (item : ReachedState) (n : ℕ)
+    (text : List ℕ) → Grows old new → ((x : List ℕ) → HasState q front n x → HasState q old n x)
+    → ((x : List ℕ) → FollowsLabel q item.state x → HasState q new n x)
+    → HasState q (front ++ item ∷ []) n text → HasState q new n text
+serves_more q old new front item n text grows before here has =
     elim (get_pushed front item has.1 has.0 has.2) [
-      | inl earlier ↦ has_kept q old new text grows (before text (has.0, has.1, earlier, has.3))
+      | inl earlier ↦ has_kept q old new n text grows (before text (has.0, has.1, earlier, has.3, has.4))
       | inr last ↦ here text (subst (λ x. FollowsLabel q x.state text) (sym last.1) has.3)
     ]
 
--- A byte that leads to a text that one more state follows leads on.
-pub leads_pushed : (q : Questions) (old new : List ReachedState) (item : ReachedState) (state : LabelState)
-    (byte : ℕ) → new ≡ old ++ item ∷ []
-    → ((text : List ℕ) → FollowsLabel q state text → FollowsLabel q item.state (byte ∷ text))
-    → LeadsOn q new state byte
-leads_pushed q old new item state byte is longer = λ text tail follows has.
-    has_pushed q old new item (byte ∷ text) is (longer text follows)
-
 -- A byte leads on where another does that leads to the same states.
-pub leads_again : (q : Questions) (listed : List ReachedState) (state : LabelState) (one other : ℕ)
-    → text_step q.alphabet state.tail one ≡ text_step q.alphabet state.tail other
-    → ((text : List ℕ) (next : LabelState) → FollowsLabel q state text → FollowsLabel q next (one ∷ text)
-    → FollowsLabel q next (other ∷ text)) → LeadsOn q listed state one → LeadsOn q listed state other
-leads_again q listed state one other tails again leads = λ text tail follows has.
+pub leads_again : (q : Questions) (listed : List ReachedState) (item : ReachedState) (one other : ℕ)
+    → text_step q.alphabet item.state.tail one ≡ text_step q.alphabet item.state.tail other
+    → ((text : List ℕ) (next : LabelState) → FollowsLabel q item.state text → FollowsLabel q next (one ∷ text)
+    → FollowsLabel q next (other ∷ text)) → LeadsOn q listed item one → LeadsOn q listed item other
+leads_again q listed item one other tails again leads = λ text tail follows has.
     let step = rw follows.tail at has in
     let there = leads text tail follows (rw follows.tail (tails ∙ step)) in
-    (there.0, there.1, there.2, again text there.1.state follows there.3)
+    (there.0, there.1, there.2, again text there.1.state follows there.3, there.4)
 
 -- After a write, an element is what was written, or what was there before.
 get_changed : {X : Type 0} (xs : List X) (i k : ℕ) (x y : X) → slice_get (set xs i x) k ≡ Some y
@@ -87,21 +108,21 @@ get_changed (z ∷ xs) (suc i) (suc k) x y e =
     elim (get_changed xs i k x y e) [ inl a ↦ inl (ap suc a.0, a.1) | inr b ↦ inr b ]
 
 -- A byte that led on still does when more is listed.
-pub led_kept : (q : Questions) (old new : List ReachedState) (state : LabelState) (led : List (Option ℕ))
-    → Grows old new → AreLed q old state led → AreLed q new state led
-led_kept q old new state led grows are = λ class byte here.
+pub led_kept : (q : Questions) (old new : List ReachedState) (item : ReachedState) (led : List (Option ℕ))
+    → Grows old new → AreLed q old item led → AreLed q new item led
+led_kept q old new item led grows are = λ class byte here.
     let before = are class byte here in
-    (before.0, leads_kept q old new state byte grows before.1)
+    (before.0, leads_kept q old new item byte grows before.1)
 
 -- One more byte has led on.
-pub led_more : (q : Questions) (listed : List ReachedState) (state : LabelState) (led : List (Option ℕ))
-    (class byte : ℕ) → AreLed q listed state led → MakeSame q.automata.items class byte
-    → LeadsOn q listed state byte → AreLed q listed state (set led class (Some byte))
-led_more q listed state led class byte are make leads = λ c b here.
+pub led_more : (q : Questions) (listed : List ReachedState) (item : ReachedState) (led : List (Option ℕ))
+    (class byte : ℕ) → AreLed q listed item led → MakeSame q.automata.items class byte
+    → LeadsOn q listed item byte → AreLed q listed item (set led class (Some byte))
+led_more q listed item led class byte are make leads = λ c b here.
     elim (get_changed led class c (Some byte) (Some b) here) [
       | inl new ↦
           let same = same_Some byte b new.1 in
-          subst (λ x. MakeSame q.automata.items c x × LeadsOn q listed state x) same
+          subst (λ x. MakeSame q.automata.items c x × LeadsOn q listed item x) same
           (subst (λ k. MakeSame q.automata.items k byte) (sym new.0) make, leads)
       | inr old ↦ are c b old
     ]
@@ -120,12 +141,24 @@ place_of_byte byte small =
       ]
     ]
 
--- Each text that is the end of a text over the alphabet leads to a listed state.
-pub some_follows : (q : Questions) (listed : List ReachedState) → IsClosed q listed → (text : List ℕ)
-    (tail : Tail) → tail_of q.alphabet text ≡ Some tail → HasState q listed text
-some_follows q listed closed [] tail e = closed.first
-some_follows q listed closed (byte ∷ text) tail e =
+-- Each text that is the end of a text over the alphabet leads to a listed state, or to one at or
+-- behind a position if only the states before that lead on. The text beside it is not longer.
+pub reached : (q : Questions) (listed : List ReachedState) (at : ℕ) → IsClosed q listed at
+    → (text : List ℕ) (tail : Tail) → tail_of q.alphabet text ≡ Some tail
+    → (k : ℕ) × (item : ReachedState) × (slice_get listed k ≡ Some item)
+    × (length item.text.items ≤ length text) × (FollowsLabel q item.state text ⊎ (at ≤ k))
+reached q listed at closed [] tail e =
+    let here = closed.first in (here.0, here.1, here.2, here.4, inl here.3)
+reached q listed at closed (byte ∷ text) tail e =
     option_and_then_some (λ last. text_step q.alphabet last byte) (tail_of q.alphabet text) tail e
     (λ last before step.
-    let here = some_follows q listed closed text last before in
-    closed.leads here.0 byte here.1 here.2 (step_byte q.alphabet last tail byte step) text tail here.3 e)
+    let here = reached q listed at closed text last before in
+    elim here.4 [
+      | inr behind ↦ (here.0, here.1, here.2, omega (arith, here.3), inr behind)
+      | inl follows ↦ elim (cases_lt here.0 at) [
+        | inr behind ↦ (here.0, here.1, here.2, omega (arith, here.3), inr behind)
+        | inl below ↦ (
+            let next = closed.leads here.0 byte here.1 below here.2 (step_byte q.alphabet last tail byte step) text tail follows e in
+            (next.0, next.1, next.2, omega (arith, here.3, next.4), inl next.3))
+      ]
+    ])

@@ -1,5 +1,6 @@
 -- Texts that no matcher names. Each stands for a class.
-use Rattle.std.specs.Prelude.{◌≡◌, ℕ, Bool, List, Some, slice_get, string_bytes}
+use Rattle.std.specs.Prelude.{◌≡◌, ◌≤◌, ◌<◌, ◌⊎◌, ℕ, Bool, false, List, Some, slice_get, length}
+use Rattle.std.specs.Prelude.{string_bytes}
 use Rattle.am_classes.specs.declared.questions.Questions.{Questions}
 use Rattle.am_classes.specs.declared.candidate.Candidate.{Candidate}
 use Rattle.am_classes.specs.declared.label_state.LabelState.{LabelState}
@@ -7,6 +8,8 @@ use Rattle.am_classes.specs.declared.tail.Tail.TheVariants.{Whole}
 use Rattle.am_classes.specs.Alphabet.{IsOver}
 use Rattle.am_classes.specs.State.{FollowsLabel, IsNamed}
 use Rattle.am_classes.specs.Automata.{found_by}
+use Rattle.am_classes.specs.ClassTexts.{IsOther}
+use Rattle.am_classes.specs.declared.limits.TheConstants.{MAX_SAMPLE_NUMBERS}
 
 -- A candidate says which patterns find its text. The text is not named, and is over the alphabet.
 pub record IsCandidate (q : Questions) (candidate : Candidate) : Type 0 where
@@ -46,3 +49,40 @@ pub record AreCandidates (q : Questions) (candidates : List Candidate) : Type 0 
   pub distinct : AreApartCandidates q candidates
   pub all : (text : List ℕ) → IsOver q.alphabet text → ¬ (IsNamed q text)
       → HasCandidate q candidates text
+
+-- A candidate is a shortest one: no shorter text over the alphabet is found by exactly the same
+-- patterns and not named.
+-- Source: own choice.
+-- Example: for the pattern `db.*`, `db` is such a text, and `db2` is not.
+abbrev pub IsShortestFound : Questions → Candidate → Type 0
+IsShortestFound q candidate =
+    (text : List ℕ) → IsOver q.alphabet text → ¬ (IsNamed q text)
+    → found_by q.automata.items text ≡ candidate.found.items
+    → length (string_bytes candidate.text) ≤ length text
+
+abbrev pub AreShortest : Questions → List Candidate → Type 0
+AreShortest q candidates =
+    (k : ℕ) (candidate : Candidate) → slice_get candidates k ≡ Some candidate
+    → IsShortestFound q candidate
+
+-- For each text over the alphabet that is not named and has fewer than `n` bytes, there is a
+-- candidate that is found by exactly the same patterns.
+abbrev pub RepresentShorter : Questions → List Candidate → ℕ → Type 0
+RepresentShorter q candidates n =
+    (text : List ℕ) → IsOver q.alphabet text → ¬ (IsNamed q text) → length text < n
+    → HasCandidate q candidates text
+
+-- The text of each candidate has fewer than `n` bytes.
+abbrev pub AreBelow : ℕ → List Candidate → Type 0
+AreBelow n candidates =
+    (k : ℕ) (candidate : Candidate) → slice_get candidates k ≡ Some candidate
+    → length (string_bytes candidate.text) < n
+
+-- Each candidate is `other`, as often as needed, or a shortest one, or, if the candidates are not
+-- `all`, the text of a sample, which is short.
+abbrev pub AreTied : Questions → Bool → List Candidate → Type 0
+AreTied q all candidates =
+    (k : ℕ) (candidate : Candidate) → slice_get candidates k ≡ Some candidate
+    → IsOther (IsNamed q) (string_bytes candidate.text)
+    ⊎ (IsShortestFound q candidate
+    ⊎ ((all ≡ false) × (length (string_bytes candidate.text) < MAX_SAMPLE_NUMBERS)))

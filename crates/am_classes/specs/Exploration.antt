@@ -1,8 +1,7 @@
 -- States of a label that are listed, each with a text that leads to it.
-use Rattle.std.specs.Prelude.{◌≡◌, ◌<◌, ◌+◌, ◌-◌, ℕ, List, [], ◌∷◌, Option, Some, slice_get}
-use Rattle.std.specs.Prelude.{if◌then◌else◌, nat_lt}
+use Rattle.std.specs.Prelude.{◌≡◌, ◌<◌, ◌≤◌, ◌+◌, ◌-◌, ℕ, List, [], ◌∷◌, Option, Some, slice_get}
+use Rattle.std.specs.Prelude.{if◌then◌else◌, nat_lt, length}
 use Rattle.am_classes.specs.declared.questions.Questions.{Questions}
-use Rattle.am_classes.specs.declared.label_state.LabelState.{LabelState}
 use Rattle.am_classes.specs.declared.reached_state.ReachedState.{ReachedState}
 use Rattle.am_classes.specs.declared.tail.Tail.{Tail}
 use Rattle.am_classes.specs.Utf8.{tail_of}
@@ -15,30 +14,45 @@ AreListed q listed =
     (k : ℕ) (item : ReachedState) → slice_get listed k ≡ Some item
     → FollowsLabel q item.state item.text.items
 
--- One of the listed states follows a text.
-abbrev pub HasState : Questions → List ReachedState → List ℕ → Type 0
-HasState q listed text =
+-- One of the listed states follows a text, and the text beside it has at most `n` bytes.
+abbrev pub HasState : Questions → List ReachedState → ℕ → List ℕ → Type 0
+HasState q listed n text =
     (k : ℕ) × (item : ReachedState) × (slice_get listed k ≡ Some item)
-    × FollowsLabel q item.state text
+    × FollowsLabel q item.state text × (length item.text.items ≤ n)
+
+-- The text beside each state has `n` bytes.
+abbrev pub HaveLength : ℕ → List ReachedState → Type 0
+HaveLength n listed =
+    (k : ℕ) (item : ReachedState) → slice_get listed k ≡ Some item → length item.text.items ≡ n
+
+-- States with shorter texts come first, and no text has more than `n` bytes.
+-- Source: own choice; the term for such a search is breadth first.
+-- Example: with the texts ``, `a`, `b` and `ba` this is so for each `n` from 2 on.
+pub record AreShortFirst (n : ℕ) (listed : List ReachedState) : Type 0 where
+  pub order : (i j : ℕ) (x y : ReachedState) → slice_get listed i ≡ Some x
+      → slice_get listed j ≡ Some y → i ≤ j → length x.text.items ≤ length y.text.items
+  pub most : (k : ℕ) (x : ReachedState) → slice_get listed k ≡ Some x → length x.text.items ≤ n
 
 -- A byte before a text that a state follows leads to a text that a listed state follows, unless no
--- text over the alphabet has such a byte there.
+-- text over the alphabet has such a byte there. The text beside the listed state is at most one
+-- byte longer.
 -- Source: own choice.
 -- Example: if `a` and `ba` have the same listed state, `b` leads from it to itself.
-abbrev pub LeadsOn : Questions → List ReachedState → LabelState → ℕ → Type 0
-LeadsOn q listed state byte =
-    (text : List ℕ) (tail : Tail) → FollowsLabel q state text
-    → tail_of q.alphabet (byte ∷ text) ≡ Some tail → HasState q listed (byte ∷ text)
+abbrev pub LeadsOn : Questions → List ReachedState → ReachedState → ℕ → Type 0
+LeadsOn q listed item byte =
+    (text : List ℕ) (tail : Tail) → FollowsLabel q item.state text
+    → tail_of q.alphabet (byte ∷ text) ≡ Some tail
+    → HasState q listed (length item.text.items + 1) (byte ∷ text)
 
 -- For each class there is at most one byte, and it leads on. The patterns treat this byte and the
 -- class alike.
 -- Source: own choice.
 -- Example: over ASCII, if `db.*` is the only pattern, `z` may stand for all bytes but `d`, `b` and
 -- the line feed.
-abbrev pub AreLed : Questions → List ReachedState → LabelState → List (Option ℕ) → Type 0
-AreLed q listed state led =
+abbrev pub AreLed : Questions → List ReachedState → ReachedState → List (Option ℕ) → Type 0
+AreLed q listed item led =
     (class byte : ℕ) → slice_get led class ≡ Some (Some byte)
-    → MakeSame q.automata.items class byte × LeadsOn q listed state byte
+    → MakeSame q.automata.items class byte × LeadsOn q listed item byte
 
 -- The byte at a place of the order in which bytes are tried: those from `a` to `~`, those from the
 -- blank on, those before the blank, and those after `~`.
@@ -51,11 +65,11 @@ byte_at place =
     else if nat_lt place 127 then place - 95
     else place
 
--- No text leads out of what is listed.
+-- No text leads out of what is listed, from the states before position `at`.
 -- Source: own choice; the term is that of finite automata, whose states are closed under steps.
 -- Example: over Unicode, if nothing is asked about a text, a list with one state for each tail is
 -- closed.
-pub record IsClosed (q : Questions) (listed : List ReachedState) : Type 0 where
-  pub first : HasState q listed []
-  pub leads : (k byte : ℕ) (item : ReachedState) → slice_get listed k ≡ Some item → byte < 256
-      → LeadsOn q listed item.state byte
+pub record IsClosed (q : Questions) (listed : List ReachedState) (at : ℕ) : Type 0 where
+  pub first : HasState q listed 0 []
+  pub leads : (k byte : ℕ) (item : ReachedState) → k < at → slice_get listed k ≡ Some item
+      → byte < 256 → LeadsOn q listed item byte

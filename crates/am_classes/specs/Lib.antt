@@ -9,4 +9,6 @@ pub mod Named
 pub mod Truths
 pub mod Asked
 pub mod Exploration
+pub mod ClassTexts
 pub mod Candidates
+pub mod Samples

@@ -1,8 +1,10 @@
-ghost use Rattle.std.specs.Prelude.{◌≡◌, ◌<◌, [], false, IsTrue, IfOk, IfSome, IfNone, length};
-ghost use Rattle.std.specs.Prelude.{vec_len, string_bytes};
+ghost use Rattle.std.specs.Prelude.{◌≡◌, ◌<◌, ℕ, [], true, false, IsTrue, IfOk, IfSome, IfNone};
+ghost use Rattle.std.specs.Prelude.{length, vec_len, string_bytes};
 ghost use Rattle.am_classes.specs.State.{FollowsLabel, IsNamed};
 ghost use Rattle.am_classes.specs.Candidates.{AreCandidates, AreApartCandidates, Represents};
-ghost use Rattle.am_classes.specs.Candidates.{HasFound};
+ghost use Rattle.am_classes.specs.Candidates.{HasFound, AreShortest, RepresentShorter};
+ghost use Rattle.am_classes.specs.Candidates.{AreBelow, AreTied};
+ghost use Rattle.am_classes.specs.ClassTexts.{IsOther};
 ghost use Rattle.am_scan.specs.Automaton.{Grows};
 ghost use Rattle.am_classes.specs.Alphabet.{IsOrdinary};
 
@@ -26,6 +28,7 @@ pub(crate) struct CandidateTexts {
 /// Finds texts that no matcher names: one for each set of patterns that finds such a text, or more
 /// of them than there is room for. Returns `None` if they cannot be computed. Without patterns they
 /// always can.
+#[tactic(auto, using(crate::proofs::CandidateLemmas::tied_short))]
 pub(crate) fn candidates(
     alloc: Global,
     questions: &Questions,
@@ -37,6 +40,8 @@ pub(crate) fn candidates(
         IsTrue candidates.all → AreCandidates questions.now candidates.items.items)) }
     ensures many { IfOk result (λ found. IfSome found (λ candidates. candidates.all ≡ false
         → (room < vec_len candidates.items) × (0 < length questions.now.automata.items))) }
+    ensures tied { IfOk result (λ found. IfSome found (λ candidates.
+        AreTied questions.now candidates.all candidates.items.items)) }
     ensures none { IfOk result (λ found. IfNone found (0 < length questions.now.automata.items)) }
 {
     if questions.automata.is_empty() {
@@ -55,7 +60,9 @@ pub(crate) fn candidates(
 /// Returns a text that is not named, as the only candidate. There must be no pattern.
 fn other_candidate(alloc: Global, questions: &Questions) -> Result<Vec<Candidate>, AllocError>
     requires { questions.now.automata.items ≡ [] }
-    ensures { IfOk result (λ candidates. AreCandidates questions.now candidates.items) }
+    ensures candidates { IfOk result (λ candidates.
+        AreCandidates questions.now candidates.items) }
+    ensures tied { IfOk result (λ candidates. AreTied questions.now true candidates.items) }
 {
     let text = other_text(alloc, questions)?;
     let found = Vec::new(alloc);
@@ -68,6 +75,7 @@ fn other_candidate(alloc: Global, questions: &Questions) -> Result<Vec<Candidate
 fn other_text(alloc: Global, questions: &Questions) -> Result<String, AllocError>
     ensures unnamed { IfOk result (λ text. ¬ IsNamed questions.now (string_bytes text)) }
     ensures ordinary { IfOk result (λ text. IsOrdinary (string_bytes text)) }
+    ensures other { IfOk result (λ text. IsOther (IsNamed questions.now) (string_bytes text)) }
 {
     let mut text = String::new(alloc);
     while questions.names(text.as_bytes()) {
@@ -90,6 +98,11 @@ pub(crate) fn add(
     ensures grows { Grows candidates.old.items candidates.new.items }
     ensures added { IfOk result (λ done. IsTrue done
         → Represents questions.now candidates.new.items item.now.state) }
+    ensures shortest { AreShortest questions.now candidates.old.items
+        → RepresentShorter questions.now candidates.old.items (length item.now.text.items)
+        → AreShortest questions.now candidates.new.items }
+    ensures short { (n : ℕ) → length item.now.text.items < n
+        → AreBelow n candidates.old.items → AreBelow n candidates.new.items }
 {
     if !item.state.tail.is_whole() {
         return Ok(true);

@@ -12,12 +12,15 @@
 //! The search stops once there are more classes than a label may have values. With many patterns,
 //! for each pattern a text that it finds is tried first, because these texts may show at once that
 //! there are too many classes.
-ghost use Rattle.std.specs.Prelude.{◌≡◌, ◌++◌, ◌<◌, [], false, map, IfOk, IfSome, IfNone, IsTrue};
-ghost use Rattle.std.specs.Prelude.{string_bytes, vec_len};
+ghost use Rattle.std.specs.Prelude.{◌≡◌, ◌++◌, ◌<◌, ◌⊎◌, [], false, map, IfOk, IfSome, IfNone};
+ghost use Rattle.std.specs.Prelude.{IsTrue, length, string_bytes, vec_len};
+ghost use Rattle.std.specs.List.{AllByRecursion};
 ghost use Rattle.am_universe.specs.declared.limits.TheConstants.{MAX_VALUES};
 ghost use Rattle.am_classes.specs.Alike.{Covers, AreApart, HasOtherPattern};
 ghost use Rattle.am_classes.specs.Alphabet.{AreOver};
+ghost use Rattle.am_classes.specs.ClassTexts.{IsClassText};
 ghost use Rattle.am_classes.specs.Truths.{AreNewIn};
+ghost use Rattle.am_classes.specs.declared.limits.TheConstants.{MAX_SAMPLE_NUMBERS};
 
 use crate::Alphabet;
 use crate::candidate::Candidate;
@@ -59,6 +62,10 @@ pub fn classes(
         AreOver alphabet (map string_bytes classes.texts.items))) }
     ensures apart { IfOk result (λ found. IfSome found (λ classes.
         AreApart (map (λ m. m.now) matchers.now) (map string_bytes classes.texts.items))) }
+    ensures tied { IfOk result (λ found. IfSome found (λ classes. AllByRecursion
+        (λ text. IsClassText alphabet (map (λ m. m.now) matchers.now) text
+        ⊎ ((classes.all ≡ false) × (length text < MAX_SAMPLE_NUMBERS)))
+        (map string_bytes classes.texts.items))) }
     ensures none { IfOk result (λ found. IfNone found
         (HasOtherPattern (map (λ m. m.now) matchers.now))) }
 {

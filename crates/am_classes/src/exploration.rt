@@ -10,13 +10,14 @@
 //! patterns treat alike take one step together, except those with which a named text goes on. When
 //! no new state comes, every text leads to a listed one, by induction over its bytes. With more
 //! than `MAX_STATES` states there is no answer.
-ghost use Rattle.std.specs.Prelude.{◌≡◌, ◌<◌, ◌≤◌, ◌∷◌, ◌++◌, ℕ, List, [], Some, false};
-ghost use Rattle.std.specs.Prelude.{IfOk, IfSome, IsTrue, slice_get, vec_len};
+ghost use Rattle.std.specs.Prelude.{◌≡◌, ◌<◌, ◌≤◌, ◌+◌, ◌∷◌, ◌++◌, ℕ, List, [], Some, false};
+ghost use Rattle.std.specs.Prelude.{IfOk, IfSome, IsTrue, slice_get, length, vec_len};
 ghost use Rattle.am_classes.specs.declared.questions.Questions.{Questions};
 ghost use Rattle.am_classes.specs.State.{FollowsLabel};
 ghost use Rattle.am_scan.specs.Automaton.{Grows};
 ghost use Rattle.am_classes.specs.Exploration.{AreListed, HasState, LeadsOn, AreLed, byte_at};
-ghost use Rattle.am_classes.specs.Candidates.{AreApartCandidates, AreCandidates};
+ghost use Rattle.am_classes.specs.Exploration.{HaveLength, AreShortFirst};
+ghost use Rattle.am_classes.specs.Candidates.{AreApartCandidates, AreCandidates, AreShortest};
 
 use crate::candidates::{CandidateTexts, add};
 use crate::label_state::LabelState;
@@ -40,6 +41,8 @@ pub(crate) fn explored(
         IsTrue candidates.all → AreCandidates questions.now candidates.items.items)) }
     ensures many { IfOk result (λ found. IfSome found (λ candidates.
         candidates.all ≡ false → room < vec_len candidates.items)) }
+    ensures shortest { IfOk result (λ found. IfSome found (λ candidates.
+        AreShortest questions.now candidates.items.items)) }
 {
     let mut exploration = Exploration::new(alloc, questions)?;
     let mut items = Vec::new(alloc);
@@ -75,7 +78,9 @@ fn next_states<'q>(
     ensures own { IfOk result (λ found. IfSome found
         (λ nexts. AreListed questions.now nexts.items)) }
     ensures leads { IfOk result (λ found. IfSome found (λ nexts. (byte : ℕ) → byte < 256
-        → LeadsOn questions.now nexts.items item.now.state byte)) }
+        → LeadsOn questions.now nexts.items item.now byte)) }
+    ensures same { IfOk result (λ found. IfSome found (λ nexts.
+        HaveLength (length item.now.text.items + 1) nexts.items)) }
 {
     let mut nexts = Vec::new(alloc);
     let mut led = vec![in alloc; None; 256]?;
@@ -117,13 +122,15 @@ fn step_on<'q>(
     nexts: &mut Vec<ReachedState<'q>>,
 ) -> Result<bool, AllocError>
     requires follows { FollowsLabel questions.now item.now.state item.now.text.items }
-    requires led { AreLed questions.now nexts.old.items item.now.state led.old.items }
+    requires led { AreLed questions.now nexts.old.items item.now led.old.items }
     requires own { AreListed questions.now nexts.old.items }
-    ensures led { AreLed questions.now nexts.new.items item.now.state led.new.items }
+    requires same { HaveLength (length item.now.text.items + 1) nexts.old.items }
+    ensures led { AreLed questions.now nexts.new.items item.now led.new.items }
     ensures own { AreListed questions.now nexts.new.items }
+    ensures same { HaveLength (length item.now.text.items + 1) nexts.new.items }
     ensures grows { Grows nexts.old.items nexts.new.items }
     ensures leads { IfOk result (λ done. IsTrue done
-        → LeadsOn questions.now nexts.new.items item.now.state byte) }
+        → LeadsOn questions.now nexts.new.items item.now byte) }
 {
     let state = &item.state;
     if state.tail.step(questions.alphabet, byte).is_none() {
@@ -155,10 +162,12 @@ fn add_longer<'q>(
 ) -> Result<bool, AllocError>
     requires follows { FollowsLabel questions.now item.now.state item.now.text.items }
     requires own { AreListed questions.now nexts.old.items }
+    requires same { HaveLength (length item.now.text.items + 1) nexts.old.items }
     ensures own { AreListed questions.now nexts.new.items }
+    ensures same { HaveLength (length item.now.text.items + 1) nexts.new.items }
     ensures grows { Grows nexts.old.items nexts.new.items }
     ensures leads { IfOk result (λ done. IsTrue done
-        → LeadsOn questions.now nexts.new.items item.now.state byte) }
+        → LeadsOn questions.now nexts.new.items item.now byte) }
 {
     let Some(next) = item.longer(alloc, questions, byte)? else {
         return Ok(false);
@@ -179,7 +188,8 @@ impl<'q> Exploration<'q> {
     /// Begins with the state of the empty text alone.
     fn new(alloc: Global, questions: &'q Questions) -> Result<Exploration<'q>, AllocError>
         ensures own { IfOk result (λ e. AreListed questions.now e.listed.items) }
-        ensures first { IfOk result (λ e. HasState questions.now e.listed.items []) }
+        ensures first { IfOk result (λ e. HasState questions.now e.listed.items 0 []) }
+        ensures order { IfOk result (λ e. AreShortFirst 0 e.listed.items) }
     {
         let first = ReachedState::end(alloc, questions)?;
         Ok(Exploration {
@@ -195,9 +205,12 @@ impl<'q> Exploration<'q> {
         ensures own { (questions : Questions) → AreListed questions self.old.listed.items
             → AreListed questions items.entry.items
             → AreListed questions self.new.listed.items }
+        ensures order { (n : ℕ) → AreShortFirst n self.old.listed.items
+            → HaveLength n items.entry.items → AreShortFirst n self.new.listed.items }
         ensures serves { IfOk result (λ done. IsTrue done
-            → (questions : Questions) (text : List ℕ) → HasState questions items.entry.items text
-            → HasState questions self.new.listed.items text) }
+            → (questions : Questions) (n : ℕ) (text : List ℕ)
+            → AreShortFirst n self.new.listed.items → HasState questions items.entry.items n text
+            → HasState questions self.new.listed.items n text) }
     {
         for item in items {
             if !self.list(item)? {
@@ -214,10 +227,12 @@ impl<'q> Exploration<'q> {
         ensures own { (questions : Questions) → AreListed questions self.old.listed.items
             → FollowsLabel questions item.entry.state item.entry.text.items
             → AreListed questions self.new.listed.items }
+        ensures order { (n : ℕ) → AreShortFirst n self.old.listed.items
+            → length item.entry.text.items ≡ n → AreShortFirst n self.new.listed.items }
         ensures serves { IfOk result (λ done. IsTrue done
-            → (questions : Questions) (text : List ℕ)
-            → FollowsLabel questions item.entry.state text
-            → HasState questions self.new.listed.items text) }
+            → (questions : Questions) (n : ℕ) (text : List ℕ)
+            → AreShortFirst n self.new.listed.items → FollowsLabel questions item.entry.state text
+            → HasState questions self.new.listed.items n text) }
     {
         if self.serves(&item.state) {
             return Ok(true);
@@ -233,9 +248,9 @@ impl<'q> Exploration<'q> {
 
     /// Whether a listed state serves for this one. Only `true` promises something.
     fn serves(&self, state: &LabelState<'q>) -> bool
-        ensures { IsTrue result → (questions : Questions) (text : List ℕ)
-            → FollowsLabel questions state.now text
-            → HasState questions self.now.listed.items text }
+        ensures { IsTrue result → (questions : Questions) (n : ℕ) (text : List ℕ)
+            → AreShortFirst n self.now.listed.items → FollowsLabel questions state.now text
+            → HasState questions self.now.listed.items n text }
     {
         let Some(place) = self.places.get(&state.hash()) else {
             return false;

@@ -21,7 +21,7 @@ impl<'q> ReachedState<'q> {
     ) -> Result<ReachedState<'q>, AllocError>
         ensures follows { IfOk result (λ item.
             FollowsLabel questions.now item.state item.text.items) }
-        ensures empty { IfOk result (λ item. FollowsLabel questions.now item.state []) }
+        ensures empty { IfOk result (λ item. item.text.items ≡ []) }
     {
         Ok(ReachedState {
             state: questions.end(alloc)?,

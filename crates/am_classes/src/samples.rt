@@ -1,7 +1,9 @@
 //! Texts that patterns find. If there are too many classes, these texts may show it soon.
-ghost use Rattle.std.specs.Prelude.{IfOk, IfSome};
+ghost use Rattle.std.specs.Prelude.{◌≡◌, ◌<◌, ℕ, length, IfOk, IfSome};
 ghost use Rattle.am_classes.specs.State.{FollowsLabel};
-ghost use Rattle.am_classes.specs.Candidates.{AreApartCandidates};
+ghost use Rattle.am_classes.specs.Candidates.{AreApartCandidates, AreBelow};
+ghost use Rattle.am_classes.specs.Samples.{AreNoLonger};
+ghost use Rattle.am_classes.specs.declared.limits.TheConstants.{MAX_SAMPLE_NUMBERS};
 
 use crate::candidate::Candidate;
 use crate::candidates::add;
@@ -18,7 +20,9 @@ pub(crate) fn sampled(
     questions: &Questions,
     room: usize,
 ) -> Result<Vec<Candidate>, AllocError>
-    ensures { IfOk result (λ candidates. AreApartCandidates questions.now candidates.items) }
+    ensures distinct { IfOk result (λ candidates.
+        AreApartCandidates questions.now candidates.items) }
+    ensures short { IfOk result (λ candidates. AreBelow MAX_SAMPLE_NUMBERS candidates.items) }
 {
     let mut candidates = Vec::new(alloc);
     for automaton in &questions.automata {
@@ -39,7 +43,9 @@ fn add_text(
     candidates: &mut Vec<Candidate>,
 ) -> Result<(), AllocError>
     requires { AreApartCandidates questions.now candidates.old.items }
-    ensures { AreApartCandidates questions.now candidates.new.items }
+    ensures distinct { AreApartCandidates questions.now candidates.new.items }
+    ensures short { (n : ℕ) → length text.now < n → AreBelow n candidates.old.items
+        → AreBelow n candidates.new.items }
 {
     let Some(item) = item_of(alloc, questions, text)? else {
         return Ok(());
@@ -54,12 +60,14 @@ fn item_of<'q>(
     questions: &'q Questions,
     text: &[u8],
 ) -> Result<Option<ReachedState<'q>>, AllocError>
-    ensures { IfOk result (λ found. IfSome found (λ item.
+    ensures follows { IfOk result (λ found. IfSome found (λ item.
         FollowsLabel questions.now item.state item.text.items)) }
+    ensures length { IfOk result (λ found. IfSome found (λ item.
+        length item.text.items ≡ length text.now)) }
 {
     let mut item = ReachedState::end(alloc, questions)?;
-    for byte in text.iter().rev() {
-        let Some(longer) = item.longer(alloc, questions, *byte)? else {
+    for i in (0..text.len()).rev() {
+        let Some(longer) = item.longer(alloc, questions, text[i])? else {
             return Ok(None);
         };
         item = longer;
@@ -75,8 +83,10 @@ struct Reached {
 }
 
 /// Returns a short text of printable ASCII that a pattern finds, or the empty text if none was
-/// found. Nothing is promised about it.
-fn sample(alloc: Global, automaton: &PatternAutomaton) -> Result<Vec<u8>, AllocError> {
+/// found. Nothing is promised about it, but that it is short.
+fn sample(alloc: Global, automaton: &PatternAutomaton) -> Result<Vec<u8>, AllocError>
+    ensures { IfOk result (λ text. length text.items < MAX_SAMPLE_NUMBERS) }
+{
     let mut reached = vec![in alloc;
         Reached {
             number: automaton.end(),
@@ -101,7 +111,10 @@ fn reach_more(
     automaton: &PatternAutomaton,
     reached: &mut Vec<Reached>,
     at: usize,
-) -> Result<(), AllocError> {
+) -> Result<(), AllocError>
+    requires { AreNoLonger reached.old.items }
+    ensures { AreNoLonger reached.new.items }
+{
     for byte in b' '..=b'~' {
         let Some(from) = reached.get(at) else {
             return Ok(());

@@ -1,14 +1,17 @@
-use Rattle.std.proofs.Common.{◌≡◌, Some, slice_get, length, string_bytes, refl, sym, ap, ◌∙◌, subst}
+use Rattle.std.proofs.Common.{◌≡◌, ◌<◌, Some, slice_get, length, string_bytes, inl, inr, refl, sym, ap, ◌∙◌, subst, arith}
+use Rattle.std.proofs.lemmas.Bool.{cases_lt}
 use Rattle.am_classes.specs.declared.candidate.Candidate.{Candidate}
 use Rattle.am_classes.specs.declared.tail.Tail.TheVariants.{Whole}
 use Rattle.am_classes.specs.Automata.{found_by}
 use Rattle.am_classes.specs.State.{FollowsLabel, IsNamed}
 use Rattle.am_classes.proofs.OverLemmas.{followed_over}
-use Rattle.am_classes.specs.Candidates.{AreApartCandidates, IsCandidate, HasFound}
+use Rattle.am_classes.specs.Candidates.{AreApartCandidates, IsCandidate, IsShortestFound, HasFound}
 use Rattle.am_scan.proofs.Places.{get_last, grows_pushed}
 use Rattle.am_classes.proofs.TailLemmas.{whole_from}
 use Rattle.am_classes.proofs.CandidateLemmas.{apart_pushed}
+use Rattle.am_classes.proofs.ExplorationLemmas.{each_more}
 use Rattle.am_classes.proofs.candidates.add.Goals as goal
+use Rattle.am_classes.proofs.candidates.add.Goals.{After-push}
 
 pub returns-then-has_found-clause-added : goal.returns-then-has_found-clause-added
 returns-then-has_found-clause-added c =
@@ -21,12 +24,26 @@ returns-then-has_found-clause-added c =
       has.3 ∙ c.as_slice-2.ensures.value ∙ found text follows,
     )
 
+-- the new candidate has the text of the state, and no candidate is found by the same patterns
+bytes : (c : After-push) → string_bytes c.in_ok-text.text ≡ c.args.item.now.text.items
+bytes c = c.in_ok-text.ensures.ok ∙ c.in-Ok.ensures.cases.0 ∙ c.as_slice-3.ensures.value
+
+new : (c : After-push) → HasFound c.args.candidates.now.items c.in-Some.found.items → ⊥
+new c = λ has.
+    c.has_found.ensures.no c.if-has_found.false (
+      has.0,
+      has.1,
+      subst (λ cs. slice_get cs has.0 ≡ Some has.1) (sym c.as_slice.ensures.value) has.2,
+      has.3 ∙ sym c.as_slice-2.ensures.value,
+    )
+
 pub returns-clause-distinct : goal.returns-clause-distinct
 returns-clause-distinct c =
     let q = c.args.questions.now in
     let x : Candidate = record { text = c.in_ok-text.text; found = c.in-Some.found } in
     let found = rw c.in-Some.is at c.in_ok-found.ensures in
-    let bytes : string_bytes c.in_ok-text.text ≡ c.args.item.now.text.items = c.in_ok-text.ensures.ok ∙ c.in-Ok.ensures.cases.0 ∙ c.as_slice-3.ensures.value in
+    let here = (goal.at.returns-clause-distinct c).After-push in
+    let bytes = bytes here in
     let whole : c.args.item.now.state.tail ≡ Whole = whole_from c.args.item.now.state.tail (sym c.is_whole.ensures ∙ c.if-not-is_whole.false) in
     let own : IsCandidate q x = record {
       found = found c.args.item.now.text.items c.requires.follows ∙ ap (found_by q.automata.items) (sym bytes);
@@ -37,14 +54,25 @@ returns-clause-distinct c =
       over = followed_over q.alphabet q c.args.item.now.state c.in_ok-text.text refl
           (subst (FollowsLabel q c.args.item.now.state) (sym bytes) c.requires.follows);
     } in
-    let new : HasFound c.args.candidates.now.items c.in-Some.found.items → ⊥ = λ has.
-    c.has_found.ensures.no c.if-has_found.false (
-      has.0,
-      has.1,
-      subst (λ cs. slice_get cs has.0 ≡ Some has.1) (sym c.as_slice.ensures.value) has.2,
-      has.3 ∙ sym c.as_slice-2.ensures.value,
-    ) in
-    subst (AreApartCandidates q) (sym c.in_ok-push.ensures.items) (apart_pushed q c.args.candidates.now.items x c.requires.distinct own new)
+    subst (AreApartCandidates q) (sym c.in_ok-push.ensures.items) (apart_pushed q c.args.candidates.now.items x c.requires.distinct own (new here))
+
+pub returns-clause-shortest : goal.returns-clause-shortest
+returns-clause-shortest c = λ old shorter.
+    let q = c.args.questions.now in
+    let here = (goal.at.returns-clause-shortest c).After-push in
+    each_more (IsShortestFound q) c.args.candidates.now.items c.push.new.self.items _ c.in_ok-push.ensures.items old
+    (λ text over unnamed same. elim (cases_lt (length text) (length c.args.item.now.text.items)) [
+      | inl short ↦
+          let has = shorter text over unnamed short in
+          absurd (new here (has.0, has.1, has.2, has.3 ∙ same))
+      | inr long ↦ omega (arith, long, ap length (bytes here))
+    ])
+
+pub returns-clause-short : goal.returns-clause-short
+returns-clause-short c = λ n below old.
+    let here = (goal.at.returns-clause-short c).After-push in
+    each_more (λ x. length (string_bytes x.text) < n) c.args.candidates.now.items c.push.new.self.items _ c.in_ok-push.ensures.items old
+    (omega (arith, below, ap length (bytes here)))
 
 pub returns-clause-grows : goal.returns-clause-grows
 returns-clause-grows c =

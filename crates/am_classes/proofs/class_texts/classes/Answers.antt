@@ -1,11 +1,15 @@
-use Rattle.std.proofs.Common.{◌≡◌, ◌+◌, ◌<◌, map, length, string_bytes, vec_len, sym, ap, ap₂, ◌∙◌}
+use Rattle.std.proofs.Common.{◌≡◌, ◌⊎◌, ◌+◌, ◌<◌, false, subst, map, length, string_bytes, vec_len, sym, ap, ap₂, ◌∙◌}
 use Rattle.std.proofs.Common.{List, arith, length-append}
 use Rattle.am_universe.specs.declared.limits.TheConstants.{MAX_VALUES}
 use Rattle.std.proofs.lemmas.List.{length-map}
 use Rattle.am_scan.specs.Automaton.{pattern_of}
 use Rattle.am_labels.specs.Matcher.{Matcher}
 use Rattle.am_classes.specs.State.{patterns_of}
+use Rattle.std.specs.List.{AllByRecursion}
+use Rattle.am_classes.specs.declared.limits.TheConstants.{MAX_SAMPLE_NUMBERS}
+use Rattle.am_classes.specs.ClassTexts.{IsClassText}
 use Rattle.am_classes.proofs.AskedLemmas.{has_other}
+use Rattle.am_classes.proofs.ClassLemmas.{class_texts, classes_tied}
 use Rattle.am_classes.proofs.class_texts.classes.Goals as goal
 
 pub returns-clause-many : goal.returns-clause-many
@@ -27,3 +31,17 @@ returns-clause-many c = λ some_missing.
       has_other ms (patterns_of questions) asked.patterns
           (omega (arith, many.1, length-map questions.automata.items pattern_of)),
     )
+
+pub returns-clause-tied : goal.returns-clause-tied
+returns-clause-tied c =
+    let ms : List Matcher = map (λ m. m.now) c.args.matchers.now in
+    let q = c.in-Some.questions in
+    let of = rw c.in-Some.is at c.in_ok-questions.ensures in
+    let named = map string_bytes c.in_ok-named.named.items in
+    let apart = rw c.as_slice.ensures.value at c.in_ok-named.ensures in
+    let cs = c.in-Some-2.candidates in
+    let found = rw c.in-Some-2.is at c.in_ok-candidates.ensures in
+    subst (AllByRecursion _) (sym c.in_ok-texts.ensures)
+    (subst (λ a. AllByRecursion (λ text. IsClassText a ms text ⊎ ((cs.all ≡ false) × (length text < MAX_SAMPLE_NUMBERS)))
+    (class_texts named cs.items.items)) of.alphabet
+    (classes_tied ms q named cs.items.items of.some apart cs.all found.distinct found.tied))

@@ -6,19 +6,20 @@ use Rattle.am_classes.proofs.exploration.next_states.Goals as goal
 pub loop-place-preserved : goal.loop-place-preserved
 loop-place-preserved c =
     let q = c.args.questions.now in
-    let state = c.args.item.now.state in
+    let item = c.args.item.now in
     let old = c.loop-place.nexts.items in
     let new = c.step_on.new.nexts.items in
     record {
       own = c.step_on.ensures.own;
+      same = c.step_on.ensures.same;
       led = c.step_on.ensures.led;
-      leads = below_more (λ place. LeadsOn q new state (byte_at place)) c.loop-place.place
-          (λ place below. leads_kept q old new state (byte_at place) c.step_on.ensures.grows (c.loop-place.invariant.leads place below))
-          (subst (LeadsOn q new state) c.byte_at.ensures (c.in_ok-step_on.ensures.leads c.if-not-branch.false));
+      leads = below_more (λ place. LeadsOn q new item (byte_at place)) c.loop-place.place
+          (λ place below. leads_kept q old new item (byte_at place) c.step_on.ensures.grows (c.loop-place.invariant.leads place below))
+          (subst (LeadsOn q new item) c.byte_at.ensures (c.in_ok-step_on.ensures.leads c.if-not-branch.false));
     }
 
 pub returns-clause-leads : goal.returns-clause-leads
 returns-clause-leads c = λ byte small.
     let at = place_of_byte byte small in
-    subst (LeadsOn c.args.questions.now c.loop-place.nexts.items c.args.item.now.state) at.2
+    subst (LeadsOn c.args.questions.now c.loop-place.nexts.items c.args.item.now) at.2
     (c.loop-place.invariant.leads at.0 (omega (arith, at.1)))

@@ -14,31 +14,31 @@ returns-then-lead_alike-clause-leads c = λ _.
     let led = c.requires.led c.from-class.result before there in
     let made : MakeSame c.args.questions.now.automata.items c.from-class.result c.args.byte =
     subst (λ k. MakeSame c.args.questions.now.automata.items k c.args.byte) (sym c.from-class.ensures) c.class_of.ensures in
-    leads_again c.args.questions.now c.args.nexts.now.items c.args.item.now.state before c.args.byte
+    leads_again c.args.questions.now c.args.nexts.now.items c.args.item.now before c.args.byte
     (c.lead_alike.ensures.tails c.if-lead_alike.true)
     (c.lead_alike.ensures.follows c.if-lead_alike.true (λ text. sym (led.0 text) ∙ made text)) led.1
 
 pub returns-in_err-add_longer-clause-led : goal.returns-in_err-add_longer-clause-led
 returns-in_err-add_longer-clause-led c =
-    led_kept c.args.questions.now c.args.nexts.now.items c.add_longer.new.nexts.items c.args.item.now.state c.args.led.now.items
+    led_kept c.args.questions.now c.args.nexts.now.items c.add_longer.new.nexts.items c.args.item.now c.args.led.now.items
     c.add_longer.ensures.grows c.requires.led
 
 pub returns-then-not-branch-clause-led : goal.returns-then-not-branch-clause-led
 returns-then-not-branch-clause-led c =
-    led_kept c.args.questions.now c.args.nexts.now.items c.add_longer.new.nexts.items c.args.item.now.state c.args.led.now.items
+    led_kept c.args.questions.now c.args.nexts.now.items c.add_longer.new.nexts.items c.args.item.now c.args.led.now.items
     c.add_longer.ensures.grows c.requires.led
 
 pub returns-then-class-len-clause-led : goal.returns-then-class-len-clause-led
 returns-then-class-len-clause-led c =
     let q = c.args.questions.now in
-    let state = c.args.item.now.state in
+    let item = c.args.item.now in
     let nexts = c.add_longer.new.nexts.items in
-    let kept = led_kept q c.args.nexts.now.items nexts state c.args.led.now.items c.add_longer.ensures.grows c.requires.led in
-    led_more q nexts state c.args.led.now.items c.from-class.result c.args.byte kept
+    let kept = led_kept q c.args.nexts.now.items nexts item c.args.led.now.items c.add_longer.ensures.grows c.requires.led in
+    led_more q nexts item c.args.led.now.items c.from-class.result c.args.byte kept
     (subst (λ k. MakeSame q.automata.items k c.args.byte) (sym c.from-class.ensures) c.class_of.ensures)
     (c.in_ok-add_longer.ensures.leads c.if-not-branch.false)
 
 pub returns-else-class-len-clause-led : goal.returns-else-class-len-clause-led
 returns-else-class-len-clause-led c =
-    led_kept c.args.questions.now c.args.nexts.now.items c.add_longer.new.nexts.items c.args.item.now.state c.args.led.now.items
+    led_kept c.args.questions.now c.args.nexts.now.items c.add_longer.new.nexts.items c.args.item.now c.args.led.now.items
     c.add_longer.ensures.grows c.requires.led

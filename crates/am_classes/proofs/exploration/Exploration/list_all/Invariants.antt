@@ -2,7 +2,7 @@ use Rattle.std.proofs.Common.{◌≡◌, ◌++◌, ℕ, List}
 use Rattle.std.specs.Vec.Iter.{into_iter_items}
 use Rattle.am_classes.specs.declared.questions.Questions.{Questions}
 use Rattle.am_scan.specs.Automaton.{Grows}
-use Rattle.am_classes.specs.Exploration.{AreListed, HasState}
+use Rattle.am_classes.specs.Exploration.{AreListed, HasState, HaveLength, AreShortFirst}
 use Rattle.am_classes.proofs.exploration.Exploration.list_all.Given as goal
 
 -- The states so far are served.
@@ -12,6 +12,8 @@ invariant-loop-item l = record {
   grows : Grows l.fn.self.listed.items l.self.listed.items;
   own : (q : Questions) → AreListed q l.fn.self.listed.items → AreListed q l.fn.items.items
       → AreListed q l.self.listed.items;
-  serves : (q : Questions) (text : List ℕ) → HasState q l.yielded text
-      → HasState q l.self.listed.items text;
+  order : (n : ℕ) → AreShortFirst n l.fn.self.listed.items → HaveLength n l.fn.items.items
+      → AreShortFirst n l.self.listed.items;
+  serves : (q : Questions) (n : ℕ) (text : List ℕ) → AreShortFirst n l.self.listed.items
+      → HasState q l.yielded n text → HasState q l.self.listed.items n text;
 }
