@@ -43,10 +43,11 @@ pub struct ClassTexts {
 
 /// Finds one text for each class of texts over an alphabet that matchers cannot tell apart. The
 /// names of the matchers are ignored. Texts that matchers compare with come first, in the order of
-/// the matchers. Then come alternatives of patterns, the shorter ones first. Returns `None` if the
-/// classes cannot be computed: a pattern cannot be followed, or there are too many states. If each
-/// pattern is an alternation of plain texts, all classes are always found. Fails only if memory
-/// runs out.
+/// the matchers. Then come alternatives of patterns, the shorter ones first. If all classes are
+/// found, each other text is a shortest of its class or, if no matcher takes another pattern,
+/// `other`, repeated until it is not named. Returns `None` if the classes cannot be computed: a
+/// pattern cannot be followed, or there are too many states. If each pattern is an alternation of
+/// plain texts, all classes are always found. Fails only if memory runs out.
 #[tactic(auto, using(crate::proofs::ClassLemmas::of_classes))]
 pub fn classes(
     alloc: Global,

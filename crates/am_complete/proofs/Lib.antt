@@ -15,3 +15,4 @@ pub mod AskedLabels
 pub mod NeededTexts
 pub mod LabelStates
 pub mod RoomBeside
+pub mod RepresentativeTexts

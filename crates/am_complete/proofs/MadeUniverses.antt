@@ -46,7 +46,7 @@ use Rattle.am_complete.proofs.Pushed.{zip_left, zip_right}
 
 -- ---- Lists that are joined.
 
-all_joined : {X : Type 0} (P : X → Type 0) (xs ys : List X) → AllByRecursion P xs
+pub all_joined : {X : Type 0} (P : X → Type 0) (xs ys : List X) → AllByRecursion P xs
     → AllByRecursion P ys → AllByRecursion P (xs ++ ys)
 all_joined P [] ys first last = last
 all_joined P (x ∷ xs) ys first last = (first.0, all_joined P xs ys first.1 last)
@@ -88,7 +88,7 @@ open_at missing i h =
       not-true (is_covered p.0.1) r.1,
     )
 
-all_elsewhere : (missing : List MissingTexts) (i : ℕ) (m : MissingTexts)
+pub all_elsewhere : (missing : List MissingTexts) (i : ℕ) (m : MissingTexts)
     → slice_get missing i ≡ Some m → (Contains (open_positions missing) i → ⊥) → is_covered m ≡ true
 all_elsewhere missing i m at fresh =
     true_from_ne_false (is_covered m) (λ some.

@@ -6,5 +6,6 @@ pub mod Covering
 pub mod Room
 pub mod Chosen
 pub mod Missing
+pub mod Representatives
 pub mod LabelState
 pub mod FoundState

@@ -4,13 +4,16 @@
 //! every label set, and `dead` would call each route dead that asks for a value of it. The words of
 //! a pattern follow a simple rule. A better search would find more, and could promise no more.
 
-ghost use Rattle.std.specs.Prelude.{IfOk, false, map, string_bytes};
-ghost use Rattle.am_classes.specs.Alphabet.{AreOver};
+ghost use Rattle.std.specs.Prelude.{◌≤◌, [], IfOk, true, false, map, length, string_bytes};
+ghost use Rattle.std.specs.List.{AllByRecursion};
+ghost use Rattle.std.specs.Option.{option_map_or};
+ghost use Rattle.am_classes.specs.Alphabet.{IsOver, AreOver};
 ghost use Rattle.am_complete.specs.Covering.{AreClasses};
+ghost use Rattle.am_complete.specs.Representatives.{IsRepresentative, GainsOnly};
 
 use crate::AskedLabel;
 use crate::representatives::put_in_order;
-use crate::usual_texts::{push_new, texts_over, usual_texts};
+use crate::usual_texts::{push_new, usual_texts};
 use am_classes::{Alphabet, new_texts, tested_texts};
 use am_list_files::Alerts;
 use std::alloc::{AllocError, Global};
@@ -25,8 +28,11 @@ pub(crate) fn found_texts(
     label: &AskedLabel<'_>,
     alerts: Option<&Alerts>,
 ) -> Result<Vec<String>, AllocError>
-    ensures { IfOk result (λ texts.
+    ensures classes { IfOk result (λ texts.
         AreClasses alphabet label.now.matchers (map string_bytes texts.items) false) }
+    ensures representatives { IfOk result (λ texts. AllByRecursion
+        (IsRepresentative true alphabet (option_map_or (λ a. a.now) alerts.entry [])
+        label.now.name label.now.matchers) (map string_bytes texts.items)) }
 {
     let texts = texts_to_try(alloc, alphabet, label, alerts)?;
     let tried = tested_texts(alloc, label.matchers(), texts)?;
@@ -42,42 +48,72 @@ fn texts_to_try(
     label: &AskedLabel<'_>,
     alerts: Option<&Alerts>,
 ) -> Result<Vec<String>, AllocError>
-    ensures { IfOk result (λ texts. AreOver alphabet (map string_bytes texts.items)) }
+    ensures over { IfOk result (λ texts. AreOver alphabet (map string_bytes texts.items)) }
+    ensures representatives { IfOk result (λ texts. AllByRecursion
+        (IsRepresentative true alphabet (option_map_or (λ a. a.now) alerts.entry [])
+        label.now.name label.now.matchers) (map string_bytes texts.items)) }
 {
     let mut texts = Vec::new(alloc);
     for matcher in label.matchers() {
         if !matcher.op().takes_pattern() {
-            push_new(alloc, &mut texts, matcher.value())?;
+            push_new(alloc, alphabet, &mut texts, matcher.value())?;
         }
     }
-    push_new(alloc, &mut texts, "")?;
-    for text in &usual_texts(alloc, alerts, label.name())? {
-        push_new(alloc, &mut texts, text.as_str())?;
+    push_new(alloc, alphabet, &mut texts, "")?;
+    let usual = usual_texts(alloc, alphabet, alerts, label.name())?;
+    for text in &usual {
+        push_new(alloc, alphabet, &mut texts, text.as_str())?;
     }
     for matcher in label.matchers() {
         if matcher.op().takes_pattern() {
-            push_words(alloc, &mut texts, matcher.value())?;
+            push_words(alloc, alphabet, &mut texts, matcher.value())?;
         }
     }
-    texts_over(alloc, alphabet, texts)
+    Ok(texts)
 }
 
 /// Adds the words of a pattern: runs of letters, digits, `_` and `-`. A character after a backslash
 /// is part of no word.
-fn push_words(alloc: Global, texts: &mut Vec<String>, pattern: &str) -> Result<(), AllocError> {
-    for (i, piece) in pattern.split('\\').enumerate() {
-        let piece = if i == 0 { piece } else { behind_first(piece) };
-        for word in piece.split(|c: char| !is_of_word(c)) {
-            if !word.is_empty() {
-                push_new(alloc, texts, word)?;
-            }
+fn push_words(
+    alloc: Global,
+    alphabet: Alphabet,
+    texts: &mut Vec<String>,
+    pattern: &str,
+) -> Result<(), AllocError>
+    ensures { GainsOnly (λ text. IsOver alphabet text × (length text ≤ length pattern.now))
+        (map string_bytes texts.old.items) (map string_bytes texts.new.items) }
+{
+    let mut escaped = false;
+    for piece in pattern.split('\\') {
+        let piece = if escaped { behind_first(piece) } else { piece };
+        push_runs(alloc, alphabet, texts, piece)?;
+        escaped = true;
+    }
+    Ok(())
+}
+
+/// Adds the runs of letters, digits, `_` and `-` of a text.
+fn push_runs(
+    alloc: Global,
+    alphabet: Alphabet,
+    texts: &mut Vec<String>,
+    piece: &str,
+) -> Result<(), AllocError>
+    ensures { GainsOnly (λ text. IsOver alphabet text × (length text ≤ length piece.now))
+        (map string_bytes texts.old.items) (map string_bytes texts.new.items) }
+{
+    for word in piece.split(|c: char| !is_of_word(c)) {
+        if !word.is_empty() {
+            push_new(alloc, alphabet, texts, word)?;
         }
     }
     Ok(())
 }
 
 /// Returns a text without its first character.
-fn behind_first(text: &str) -> &str {
+fn behind_first(text: &str) -> &str
+    ensures { length result.now ≤ length text.now }
+{
     let mut characters = text.chars();
     characters.next();
     characters.as_str()

@@ -10,8 +10,10 @@
 //! stands for a class.
 
 ghost use Rattle.std.specs.Prelude.{◌≡◌, ◌≢◌, ◌++◌, ◌<◌, [], List, length, map, Contains, false};
+ghost use Rattle.std.specs.Prelude.{Bool};
 ghost use Rattle.std.specs.Prelude.{IfOk, IfErr, OnOk, IsTrue, string_bytes, unwrap_or, option_map};
-ghost use Rattle.std.specs.List.{AllByRecursion, IsDistinct};
+ghost use Rattle.std.specs.List.{AllByRecursion, AllZip, IsDistinct};
+ghost use Rattle.std.specs.Option.{option_map_or};
 ghost use Rattle.am_universe.specs.Text.{same_text};
 ghost use Rattle.am_universe.specs.Universe.{is_empty_text, is_label_name, IsUniverse, names};
 ghost use Rattle.am_universe.specs.declared.kind.Kind.TheVariants as kinds;
@@ -26,6 +28,7 @@ ghost use Rattle.am_complete.specs.Room.{AreUnproved, HaveNoRoom};
 ghost use Rattle.am_complete.specs.Missing.{AreMissing, missing_for, whole_texts, IsWhole};
 ghost use Rattle.am_complete.specs.Missing.{is_to_declare, names_to_declare, CanBeDeclared};
 ghost use Rattle.am_complete.specs.Missing.{AreTooLarge, open_positions};
+ghost use Rattle.am_complete.specs.Representatives.{AreRepresentatives, AddsRepresentatives};
 
 use crate::AskedLabel;
 use crate::label_texts::standing_texts;
@@ -85,6 +88,10 @@ pub fn universe_beside(
         AllByRecursion (λ i. i < length asked.now) made.unproved.items) }
     ensures unproved { IfOk result (λ made.
         AreUnproved alphabet space.now asked.now made.unproved.items) }
+    ensures representatives { IfOk result (λ made. (ms : List Matcher) (may_lack : Bool)
+        → IsAskedOf asked.now ms → (may_lack ≡ false → made.unproved.items ≡ [])
+        → AddsRepresentatives may_lack alphabet space.now
+        (option_map_or (λ a. a.now) alerts.entry []) ms made.universe) }
     ensures complete { IfOk result (λ made. made.unproved.items ≡ []
         → (ms : List Matcher) → IsAskedOf asked.now ms
         → IsSpaceComplete alphabet
@@ -125,7 +132,11 @@ fn missing_of_each<'m>(
 ) -> Result<Vec<Missing<'m>>, AllocError>
     requires { (ms : List Matcher) × IsAskedOf asked.now ms
         × AreAmong (impossible_matchers space.now.impossible) ms }
-    ensures { IfOk result (λ missing. AreMissing alphabet space.now asked.now missing.items) }
+    ensures missing { IfOk result (λ missing.
+        AreMissing alphabet space.now asked.now missing.items) }
+    ensures representatives { IfOk result (λ missing. AllZip
+        (AreRepresentatives alphabet (option_map_or (λ a. a.now) alerts.entry []))
+        asked.now missing.items) }
 {
     let mut missing = Vec::with_capacity(alloc, asked.len())?;
     for label in asked {

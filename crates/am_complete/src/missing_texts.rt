@@ -1,11 +1,14 @@
 //! The texts that a label lacks in a space, and what that says about the label.
 
-ghost use Rattle.std.specs.Prelude.{◌≡◌, ◌≢◌, [], IfOk, map, string_bytes, false};
+ghost use Rattle.std.specs.Prelude.{◌≡◌, ◌≢◌, [], IfOk, map, string_bytes, false, not};
+ghost use Rattle.std.specs.List.{AllByRecursion};
+ghost use Rattle.std.specs.Option.{option_map_or};
 ghost use Rattle.am_classes.specs.Alike.{HasOtherPattern};
+ghost use Rattle.am_classes.specs.Truths.{AreNewIn};
 ghost use Rattle.am_complete.specs.Covering.{AreClasses, standing_texts};
 ghost use Rattle.am_complete.specs.FoundState.{HasThoseOfLists, IsFoundAt};
 ghost use Rattle.am_complete.specs.Missing.{IsMissingAt, needs_label, is_covered};
-ghost use Rattle.am_classes.specs.Truths.{AreNewIn};
+ghost use Rattle.am_complete.specs.Representatives.{IsRepresentative, AreRepresentatives};
 
 use crate::found_texts::found_texts;
 use crate::label_texts::standing_texts;
@@ -114,7 +117,9 @@ pub(crate) fn missing_at<'m>(
     alerts: Option<&Alerts>,
 ) -> Result<Missing<'m>, AllocError>
     requires { label.now.name ≢ [] → HasThoseOfLists space.now.impossible label.now }
-    ensures { IfOk result (IsMissingAt alphabet space.now label.now) }
+    ensures missing { IfOk result (IsMissingAt alphabet space.now label.now) }
+    ensures representatives { IfOk result
+        (AreRepresentatives alphabet (option_map_or (λ a. a.now) alerts.entry []) label.now) }
 {
     let name = label.name();
     let found = class_texts(alloc, alphabet, label, alerts)?;
@@ -143,6 +148,9 @@ fn class_texts(
         (map string_bytes found.texts.items) found.all) }
     ensures pattern { IfOk result (λ found.
         found.all ≡ false → HasOtherPattern label.now.matchers) }
+    ensures representatives { IfOk result (λ found. AllByRecursion (IsRepresentative
+        (not found.all) alphabet (option_map_or (λ a. a.now) alerts.entry []) label.now.name
+        label.now.matchers) (map string_bytes found.texts.items)) }
 {
     let Some(classes) = classes(alloc, alphabet, label.matchers())? else {
         let texts = found_texts(alloc, alphabet, label, alerts)?;

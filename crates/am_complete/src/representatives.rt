@@ -1,15 +1,18 @@
 //! Which text stands for each class of a label's texts.
 
-ghost use Rattle.std.specs.Prelude.{◌≡◌, List, IfOk, map, Bool, option_map, string_bytes};
-ghost use Rattle.std.specs.List.{find};
+ghost use Rattle.std.specs.Prelude.{◌≡◌, List, [], IfOk, map, Bool, Contains, option_map};
+ghost use Rattle.std.specs.Prelude.{string_bytes};
+ghost use Rattle.std.specs.List.{find, AllByRecursion};
+ghost use Rattle.std.specs.Option.{option_map_or};
 ghost use Rattle.am_labels.specs.Matcher.{Matcher};
 ghost use Rattle.am_classes.specs.declared.alphabet.Alphabet.{Alphabet};
 ghost use Rattle.am_complete.specs.Covering.{AreClasses};
 ghost use Rattle.am_classes.specs.Truths.{has_same_truths};
 ghost use Rattle.am_complete.specs.Chosen.{AreChosenEach, IsChosen};
+ghost use Rattle.am_complete.specs.Representatives.{IsUsual, GainsOnly};
 
 use crate::AskedLabel;
-use crate::usual_texts::{texts_over, usual_texts};
+use crate::usual_texts::usual_texts;
 use am_classes::{Alphabet, ClassTexts, Tested, tested_texts};
 use am_labels::{Comparison, Matcher};
 use am_list_files::Alerts;
@@ -28,8 +31,11 @@ pub(crate) fn representatives(
 ) -> Result<Vec<String>, AllocError>
     requires { AreClasses alphabet label.now.matchers (map string_bytes classes.texts.items)
         classes.all }
-    ensures { IfOk result (λ chosen.
+    ensures classes { IfOk result (λ chosen.
         AreClasses alphabet label.now.matchers (map string_bytes chosen.items) classes.all) }
+    ensures from { IfOk result (λ chosen. GainsOnly
+        (IsUsual (option_map_or (λ a. a.now) alerts.entry []) label.now.name)
+        (map string_bytes classes.texts.items) (map string_bytes chosen.items)) }
 {
     if !classes.all {
         return Ok(classes.texts);
@@ -49,15 +55,18 @@ fn usual_where_alike(
     alerts: Option<&Alerts>,
     texts: Vec<String>,
 ) -> Result<Vec<String>, AllocError>
-    ensures { IfOk result (λ chosen. (all : Bool)
+    ensures classes { IfOk result (λ chosen. (all : Bool)
         → AreClasses alphabet label.now.matchers (map string_bytes texts.items) all
         → AreClasses alphabet label.now.matchers (map string_bytes chosen.items) all) }
+    ensures from { IfOk result (λ chosen. GainsOnly
+        (IsUsual (option_map_or (λ a. a.now) alerts.entry []) label.now.name)
+        (map string_bytes texts.items) (map string_bytes chosen.items)) }
 {
     if texts.len() > MAX_VALUES {
         return Ok(texts);
     }
     let matchers = label.matchers();
-    let usual = texts_over(alloc, alphabet, usual_texts(alloc, alerts, label.name())?)?;
+    let usual = usual_texts(alloc, alphabet, alerts, label.name())?;
     let usual = tested_texts(alloc, matchers, usual)?;
     let wanted = tested_texts(alloc, matchers, texts)?;
     chosen_texts(alloc, matchers, usual.as_slice(), wanted.as_slice())
@@ -115,9 +124,11 @@ fn is_named(matchers: &[&Matcher], text: &str) -> bool {
 
 /// Puts the texts of a label in order: absence first, and texts with a line feed last.
 pub(crate) fn put_in_order(texts: &mut Vec<String>) -> Result<(), AllocError>
-    ensures { (a : Alphabet) (ms : List Matcher) (all : Bool)
+    ensures classes { (a : Alphabet) (ms : List Matcher) (all : Bool)
         → AreClasses a ms (map string_bytes texts.old.items) all
         → AreClasses a ms (map string_bytes texts.new.items) all }
+    ensures from { AllByRecursion (Contains (map string_bytes texts.old.items))
+        (map string_bytes texts.new.items) }
 {
     texts.sort_by_key(|text| rank_of(text.as_str()))
 }

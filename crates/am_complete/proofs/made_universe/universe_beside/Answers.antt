@@ -1,5 +1,6 @@
-use Rattle.std.proofs.Common.{◌<◌, length, ◌≡◌, ◌++◌, List, ℕ, Bor, map, sym, ap, ◌∙◌, subst, arith}
+use Rattle.std.proofs.Common.{◌<◌, length, ◌≡◌, ◌++◌, List, [], ℕ, Bor, map, sym, ap, ◌∙◌, subst, arith}
 use Rattle.std.specs.List.{AllByRecursion}
+use Rattle.std.specs.Option.{option_map_or}
 use Rattle.std.proofs.lemmas.Result.{err_from_is_err_and}
 use Rattle.std.proofs.lemmas.Grind.{common_steps}
 use Rattle.am_universe.specs.Universe.{Label, IsUniverse, names}
@@ -11,6 +12,7 @@ use Rattle.am_complete.specs.Missing.{MissingTexts, IsWhole, open_positions, Are
 use Rattle.am_complete.specs.Missing.{names_to_declare}
 use Rattle.am_complete.proofs.MadeUniverses.{keeps, adds, covers_each, within_asked, are_unproved}
 use Rattle.am_complete.proofs.MadeUniverses.{in_order, complete, made_over}
+use Rattle.am_complete.proofs.RepresentativeTexts.{adds_representatives}
 use Rattle.am_complete.proofs.RoomBeside.{names_distinct, can_be_declared, no_room, named_before}
 use Rattle.am_complete.proofs.made_universe.universe_beside.Goals as goal
 use Rattle.am_complete.proofs.made_universe.universe_beside.Goals.{After-as_slice-3}
@@ -41,7 +43,7 @@ returns-in_err-universe-clause-limit c =
     c.from_residual-in_err-universe.ensures.1 in
     rw (fault.1, fault.2) (λ limit.
     no_room c.args.alphabet s c.args.asked.now missing (universe here)
-    c.in_ok-missing.ensures c.requires.1.distinct
+    c.in_ok-missing.ensures.missing c.requires.1.distinct
     (subst (AreTooLarge s missing) (beside here)
     (subst (λ (ms : List MissingTexts). AreTooLarge s ms
     (map (λ (n : Bor (List ℕ)). n.now) c.as_slice-2.result.now)) c.as_slice-3.ensures.value
@@ -56,7 +58,7 @@ returns c =
     let v : List Label = c.in_ok-universe.universe in
     let positions : List ℕ = c.in_ok-unproved.unproved.items in
     let here = (goal.at.returns c).After-as_slice-3 in
-    let zip = c.in_ok-missing.ensures in
+    let zip = c.in_ok-missing.ensures.missing in
     let is = c.in_ok-universe.ensures.universe in
     let are : names v ≡ names s.labels ++ names_to_declare s.labels missing =
     c.in_ok-universe.ensures.names ∙ beside here in
@@ -77,6 +79,10 @@ returns c =
       within = subst (AllByRecursion (λ i. i < length asked)) (sym opens)
           (within_asked a s asked missing zip);
       unproved = subst (AreUnproved a s asked) (sym opens) (are_unproved a s asked missing zip);
+      representatives = λ ms may_lack asks closed.
+          adds_representatives a s (option_map_or (λ a. a.now) c.args.alerts []) asked missing zip
+          c.in_ok-missing.ensures.representatives v ms may_lack is whole asks
+          (λ strict. sym opens ∙ closed strict);
       complete = complete a s asked v positions is covers;
       over = made_over a s asked missing v zip whole;
       kind = tt;

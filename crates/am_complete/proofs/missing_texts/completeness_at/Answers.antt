@@ -15,7 +15,7 @@ pub returns-in-Some : goal.returns-in-Some
 returns-in-Some c =
     let s = c.args.space.now in
     let l = c.args.label.now in
-    let is = subst (IsMissingAt c.args.alphabet s l) (sym c.missing.view_is) c.in_ok-missing.ensures in
+    let is = subst (IsMissingAt c.args.alphabet s l) (sym c.missing.view_is) c.in_ok-missing.ensures.missing in
     let texts = c.missing.inside.texts.items in
     let text = c.in-Some.text.now in
     let first : slice_get texts 0 ≡ Some text =
@@ -31,7 +31,7 @@ pub returns-in-Some-2 : goal.returns-in-Some-2
 returns-in-Some-2 c =
     let s = c.args.space.now in
     let l = c.args.label.now in
-    let is = subst (IsMissingAt c.args.alphabet s l) (sym c.missing.view_is) c.in_ok-missing.ensures in
+    let is = subst (IsMissingAt c.args.alphabet s l) (sym c.missing.view_is) c.in_ok-missing.ensures.missing in
     let texts = c.missing.inside.texts.items in
     let text = c.in-Some-2.field-0.now in
     let first : slice_get texts 0 ≡ Some text =
@@ -44,7 +44,7 @@ pub returns-in-None : goal.returns-in-None
 returns-in-None c =
     let s = c.args.space.now in
     let l = c.args.label.now in
-    let is = subst (IsMissingAt c.args.alphabet s l) (sym c.missing.view_is) c.in_ok-missing.ensures in
+    let is = subst (IsMissingAt c.args.alphabet s l) (sym c.missing.view_is) c.in_ok-missing.ensures.missing in
     is_complete c.args.alphabet s l _ is c.if-all.true
     (no_first c.missing.inside.texts.items
     (ap (λ xs. slice_get xs 0) (sym c.deref.ensures.value) ∙ sym c.in-None.ensures.value))
