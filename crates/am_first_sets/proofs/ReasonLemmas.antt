@@ -1,24 +1,26 @@
 -- Literals that are named or not, one after another.
 use Rattle.std.proofs.Common.{◌≡◌, ◌<◌, ◌≤◌, ◌+◌, ℕ, zero, suc, List, [], ◌∷◌, ◌++◌, Bool, true, false}
 use Rattle.std.proofs.Common.{not, ◌&&◌, ◌||◌, Some, None, IsTrue, refl, sym, ap, ◌∙◌, subst, inl, inr}
-use Rattle.std.proofs.Common.{arith, add-one, length, set, take, drop, get_or, nat_lt, ◌⊎◌, ◌↔◌}
+use Rattle.std.proofs.Common.{arith, add-one, cond, length, set, take, drop, get_or, nat_lt, ◌⊎◌, ◌↔◌}
 use Rattle.std.specs.Prelude.{slice_get, slice_index_or, Option, IfSome, IfNone, IsFalse, is_some}
 use Rattle.std.proofs.lemmas.Bool.{and_parts, and_from, both_ways, cases_Bool, lt-ltb}
-use Rattle.std.proofs.lemmas.Bool.{true_from_ne_false}
+use Rattle.std.proofs.lemmas.Bool.{true_from_ne_false, false_from_ne_true}
+use Rattle.std.proofs.lemmas.Grind.{common_steps}
 use Rattle.std.proofs.lemmas.List.Folds.{list_all_at}
 use Rattle.std.proofs.lemmas.Option.{slice_get_within, get_or_from_slice_get}
 use Rattle.std.proofs.Math.Nat.{eq-or-lt_of_le}
 use Rattle.std.specs.Borrow.{Bor}
 use Rattle.am_judged_lists.specs.Cube.{MaskedLabels, matches}
 use Rattle.am_first_sets.specs.declared.candidate.Candidate.{Candidate}
-use Rattle.am_first_sets.specs.Literals.{holds_at, meets, IsMet, IsUnmet}
+use Rattle.am_first_sets.specs.Literals.{holds_at, hold_all, meets, IsMet, IsUnmet}
 use Rattle.am_first_sets.specs.Literals.{wanted_of, unwanted_of}
 use Rattle.am_first_sets.specs.PossibleChoices.{AreFound}
 use Rattle.am_first_sets.proofs.SolverLemmas.{some_choice}
 use Rattle.am_first_sets.specs.Meeting.{all_match, meets_cubes}
 use Rattle.am_first_sets.specs.Solving.{avoids, marked}
 use Rattle.am_first_sets.specs.Reason.{AreSameLiterals, AreFewer, AreNamedBefore}
-use Rattle.am_first_sets.specs.Reason.{renamed, without, kept, IsReason}
+use Rattle.am_first_sets.specs.Reason.{renamed, without, named_first, kept, IsReason}
+use Rattle.am_first_sets.specs.Reason.{FailsFirst, EachFailsFirst}
 
 -- each named literal from one position on and before another is needed: without it something is met
 abbrev pub AreNeededBefore : (List Candidate → Type 0) → ℕ → ℕ → List Candidate → Type 0
@@ -337,6 +339,117 @@ needed_more Is from i before after fewer here so j k at low lt named =
   where
     at_most : (j i : ℕ) → j < i + 1 → j ≤ i
     at_most j i lt = omega (arith, lt)
+
+-- ---- The same literals, whichever of them are named.
+
+pub same_through : (ks ls ms : List Candidate) → AreSameLiterals ks ls → AreSameLiterals ls ms
+    → AreSameLiterals ks ms
+same_through [] [] [] a b = tt
+same_through (k ∷ ks) (l ∷ ls) (m ∷ ms) a b =
+    ((a.0.0 ∙ b.0.0, a.0.1 ∙ b.0.1, a.0.2 ∙ b.0.2), same_through ks ls ms a.1 b.1)
+same_through [] [] ms a b = absurd b
+same_through (k ∷ ks) (l ∷ ls) [] a b = absurd b
+same_through ks ls ms a b = absurd a
+
+pub front_alike : (choice : List ℕ) (n : ℕ) (ks ls : List Candidate) → AreSameLiterals ks ls
+    → hold_all choice (take n ks) ≡ hold_all choice (take n ls)
+front_alike choice zero ks ls same = refl
+front_alike choice (suc n) [] [] same = refl
+front_alike choice (suc n) (k ∷ ks) (l ∷ ls) same =
+    λ i. cond (same.0.1 i) (matches (same.0.0 i).now choice) (not (matches (same.0.0 i).now choice))
+    && front_alike choice n ks ls same.1 i
+front_alike choice (suc n) ks ls same = absurd same
+
+pub first_same : (n : ℕ) (ks : List Candidate) → AreSameLiterals ks (named_first n ks)
+first_same zero ks = fewer_same ks ks (fewer_itself ks)
+first_same (suc n) [] = tt
+first_same (suc n) (k ∷ ks) = ((refl, refl, refl), first_same n ks)
+
+pub first_named : (n : ℕ) (ks : List Candidate)
+    → renamed n true (named_first n ks) ≡ named_first (suc n) ks
+first_named zero [] = refl
+first_named zero (k ∷ ks) = refl
+first_named (suc n) [] = refl
+first_named (suc n) (k ∷ ks) =
+    ap (λ rest. record k { named = true } ∷ rest) (first_named n ks)
+
+-- ---- A literal that is left out, while all before it are named.
+
+abbrev pub retried : ℕ → List Candidate → List Candidate
+retried i ks = without i (named_first i ks)
+
+pub retried_same : (i : ℕ) (ks : List Candidate) → AreSameLiterals ks (retried i ks)
+retried_same i ks =
+    same_through ks (named_first i ks) (retried i ks) (first_same i ks)
+    (fewer_same (named_first i ks) (retried i ks) (fewer_without i (named_first i ks)))
+
+pub retried_named : (n i : ℕ) (ks : List Candidate) → n ≤ i → AreNamedBefore n (retried i ks)
+retried_named n zero ks le j k at lt = absurd (omega (arith, le, lt))
+retried_named n (suc i) [] le j k at lt = cc
+retried_named n (suc i) (l ∷ ks) le zero k at lt = cc
+retried_named zero (suc i) (l ∷ ks) le (suc j) k at lt = absurd (omega (arith, lt))
+retried_named (suc n) (suc i) (l ∷ ks) le (suc j) k at lt =
+    retried_named n i ks (omega (arith, le)) j k at (omega (arith, lt))
+
+retried_behind : (i j : ℕ) (ks : List Candidate) → i < j
+    → slice_get (retried i ks) j ≡ slice_get ks j
+retried_behind zero zero ks lt = absurd (omega (arith, lt))
+retried_behind zero (suc j) [] lt = refl
+retried_behind zero (suc j) (k ∷ ks) lt = refl
+retried_behind (suc i) j [] lt = refl
+retried_behind (suc i) zero (k ∷ ks) lt = absurd (omega (arith, lt))
+retried_behind (suc i) (suc j) (k ∷ ks) lt = retried_behind i j ks (omega (arith, lt))
+
+-- a choice that meets these meets all before the literal, and not the literal itself
+retried_front : (c : List ℕ) (i : ℕ) (ks : List Candidate) → meets c (retried i ks) ≡ true
+    → hold_all c (take i ks) ≡ true
+retried_front c zero ks met = refl
+retried_front c (suc i) [] met = refl
+retried_front c (suc i) (k ∷ ks) met =
+    grind (arith, common_steps, and_parts, and_from, retried_front c i ks)
+
+retried_whole : (c : List ℕ) (i : ℕ) (ks : List Candidate) → meets c (retried i ks) ≡ true
+    → hold_all c (take (suc i) ks) ≡ true → meets c ks ≡ true
+retried_whole c i [] met all = refl
+retried_whole c zero (k ∷ ks) met all = grind (arith, common_steps, and_parts, and_from)
+retried_whole c (suc i) (k ∷ ks) met all =
+    grind (arith, common_steps, and_parts, and_from, retried_whole c i ks)
+
+pub fails_first : (Is : List ℕ → Type 0) (i : ℕ) (ks : List Candidate) → IsUnmet Is ks
+    → IsMet Is (retried i ks) → FailsFirst Is i ks
+fails_first Is i ks none met = (
+  met.0,
+  met.1,
+  retried_front met.0 i ks met.2,
+  false_from_ne_true (hold_all met.0 (take (i + 1) ks)) (λ all.
+      both_ways (meets met.0 ks) (none met.0 met.1) (retried_whole met.0 i ks met.2
+      (subst (λ n. hold_all met.0 (take n ks) ≡ true) (add-one i) all))),
+)
+
+pub one_more_fails : (Is : List ℕ → Type 0) (i : ℕ) (ks : List Candidate)
+    → ((k : Candidate) → slice_get ks i ≡ Some k → IsTrue k.named → FailsFirst Is i ks)
+    → EachFailsFirst Is (i + 1) ks → EachFailsFirst Is i ks
+one_more_fails Is i ks here later j k at le named = elim (eq-or-lt_of_le le) [
+  | inl is ↦
+      subst (λ n. FailsFirst Is n ks) is
+      (here k (subst (λ n. slice_get ks n ≡ Some k) (sym is) at) named)
+  | inr lt ↦ later j k at (omega (arith, lt)) named
+]
+
+-- those behind it that stay named still fail first, and it is not named itself
+pub others_fail : (Is : List ℕ → Type 0) (i : ℕ) (ks ls : List Candidate)
+    → AreFewer (retried i ks) ls → EachFailsFirst Is (i + 1) ks → EachFailsFirst Is i ls
+others_fail Is i ks ls fewer later =
+    let same = same_through ks (retried i ks) ls (retried_same i ks) (fewer_same _ _ fewer) in
+    one_more_fails Is i ls (λ k at named. unnamed_at i (named_first i ks) ls k fewer at named)
+    (λ j k at le named.
+    let r = fewer_at (retried i ks) ls j k fewer at in
+    let f = later j r.0 (sym (retried_behind i j ks (omega (arith, le))) ∙ r.1) le (r.2 named) in (
+      f.0,
+      f.1,
+      sym (front_alike f.0 j ks ls same) ∙ f.2,
+      sym (front_alike f.0 (j + 1) ks ls same) ∙ f.3,
+    ))
 
 -- ---- The same choices.
 

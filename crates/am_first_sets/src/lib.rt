@@ -34,7 +34,7 @@ pub use meeting::{first_meeting, some_meeting};
 // The search for the literals that are to blame.
 mod reason;
 
-pub use reason::leave_out;
+pub use reason::{leave_out, leave_out_idle};
 
 // Pairs of label sets that share values.
 mod pairs;

@@ -4,13 +4,14 @@
 //! literal after literal is left out as long as a search still finds no choice. It then keeps only
 //! what that search used. So most literals need no search of their own.
 
-ghost use Rattle.std.specs.Prelude.{◌≡◌, ◌<◌, ◌≤◌, ℕ, List, length, slice_get, Some, None};
+ghost use Rattle.std.specs.Prelude.{◌≡◌, ◌<◌, ◌≤◌, ◌+◌, ℕ, List, length, slice_get, Some, None};
 ghost use Rattle.std.specs.Prelude.{IfOk, OnOk, IsTrue, IsFalse, get_or, false};
 ghost use Rattle.am_first_sets.specs.declared.candidate.Candidate.{Candidate};
 ghost use Rattle.am_first_sets.specs.Literals.{IsMet, IsUnmet};
 ghost use Rattle.am_first_sets.specs.PossibleChoices.{IsPossible};
 ghost use Rattle.am_first_sets.specs.Reason.{AreSameLiterals, AreFewer, AreNamedBefore};
-ghost use Rattle.am_first_sets.specs.Reason.{renamed, without, kept, IsReason};
+ghost use Rattle.am_first_sets.specs.Reason.{renamed, without, named_first, kept, IsReason};
+ghost use Rattle.am_first_sets.specs.Reason.{EachFailsFirst};
 
 use crate::candidate::Candidate;
 use crate::meeting::refute_meeting;
@@ -43,6 +44,70 @@ pub fn leave_out(
         leave_out_those(alloc, possible, candidates, from, Some(labels + 1))?;
     }
     leave_out_those(alloc, possible, candidates, from, None)
+}
+
+/// Takes names off as `leave_out` does, under the same conditions, and also off each literal from
+/// the position on that is idle: no possible choice fails it *first*, after it met all literals
+/// before it. Fails only if memory runs out.
+pub fn leave_out_idle(
+    alloc: Global,
+    possible: &PossibleChoices,
+    candidates: &mut [Candidate<'_>],
+    from: usize,
+) -> Result<(), AllocError>
+    requires first { AreNamedBefore from candidates.old }
+    requires enough { IsUnmet (IsPossible possible.now) candidates.old }
+    ensures same { OnOk result (AreSameLiterals candidates.old candidates.new) }
+    ensures reason { OnOk result (IsReason (IsPossible possible.now) from candidates.new) }
+    ensures each { OnOk result (EachFailsFirst (IsPossible possible.now) from candidates.new) }
+{
+    leave_out(alloc, possible, candidates, from)?;
+    for i in (from..candidates.len()).rev() {
+        replace_idle(alloc, possible, candidates, from, i)?;
+    }
+    Ok(())
+}
+
+/// Looks for a reason without the literal at a position, if that is named; those before it may be
+/// named in its place. If there is none, nothing changes, and the literal is not idle. Fails only
+/// if memory runs out.
+fn replace_idle(
+    alloc: Global,
+    possible: &PossibleChoices,
+    candidates: &mut [Candidate<'_>],
+    from: usize,
+    i: usize,
+) -> Result<(), AllocError>
+    requires there { i < length candidates.old }
+    requires behind { from ≤ i }
+    requires reason { IsReason (IsPossible possible.now) from candidates.old }
+    requires later { EachFailsFirst (IsPossible possible.now) (i + 1) candidates.old }
+    ensures same { OnOk result (AreSameLiterals candidates.old candidates.new) }
+    ensures reason { OnOk result (IsReason (IsPossible possible.now) from candidates.new) }
+    ensures each { OnOk result (EachFailsFirst (IsPossible possible.now) i candidates.new) }
+{
+    if !candidates[i].named {
+        return Ok(());
+    }
+    let mut copy = candidates.to_vec(alloc)?;
+    let others = copy.as_mut_slice();
+    name_first(others, i);
+    set_named(others, i, false);
+    if refute(alloc, possible, others, from)? {
+        leave_out_those(alloc, possible, others, from, None)?;
+        candidates.copy_from_slice(others);
+    }
+    Ok(())
+}
+
+/// Names the first `n` literals.
+fn name_first(candidates: &mut [Candidate<'_>], n: usize)
+    requires { n ≤ length candidates.old }
+    ensures { candidates.new ≡ named_first n candidates.old }
+{
+    for i in 0..n {
+        set_named(candidates, i, true);
+    }
 }
 
 /// The fewest and the most labels that a named literal asks about.
