@@ -10,13 +10,14 @@ use Rattle.am_lint.specs.declared.literals.Literals.{Literals}
 use Rattle.am_lint.specs.declared.literals.Part.TheVariants.{Way, Before, Children}
 use Rattle.am_lint.specs.declared.table.TableRoute.{TableRoute}
 use Rattle.am_lint.specs.Table.{IsTableOf, IsRoute}
-use Rattle.am_lint.specs.Literals.{AreLiterals}
+use Rattle.am_lint.specs.Literals.{AreLiterals, AreBlamed, AreTakers}
 use Rattle.am_eval.specs.Reaching.{EndsAt, Enters, SomeIs, IsSetOf}
 use Rattle.am_lint.specs.Reasons.{IsReasonWhy, MatchesWay, Misses, IsExcludedBy, IsTakenBy}
-use Rattle.am_lint.specs.Reasons.{IsHandedTo}
+use Rattle.am_lint.specs.Reasons.{IsHandedTo, EachTakesSome}
 use Rattle.am_lint.proofs.EnteringLemmas.{way_exactly, enters_exactly, ends_exactly}
 use Rattle.am_lint.proofs.LiteralTruth.{AreFront, nothing_said, more_said}
-use Rattle.am_lint.proofs.NamedReasons.{AreNamedFrom, IsOfPart, part_reason}
+use Rattle.am_lint.proofs.NamedReasons.{IsOfPart, part_reason}
+use Rattle.am_lint.proofs.Takers.{each_takes, before_taking, children_taking}
 
 -- what is known of the literals for a route, and of the first of them
 pub record AreKnown (s : Space) (c : Configuration) (routes : List TableRoute) (path : List ℕ)
@@ -24,11 +25,11 @@ pub record AreKnown (s : Space) (c : Configuration) (routes : List TableRoute) (
   pub ending : AreFront s all (EndsAt c path)
   pub entering : AreFront s (take to_enter all) (Enters c path)
   pub matching : AreFront s (take on_way all) (MatchesWay c path)
-  pub handed : (paths : List (List ℕ)) → AreNamedFrom s routes to_enter all paths
+  pub handed : (paths : List (List ℕ)) → AreTakers s routes to_enter all paths
       → IsHandedTo (IsSetOf s) c path paths
-  pub taken : (paths : List (List ℕ)) → AreNamedFrom s routes on_way (take to_enter all) paths
+  pub taken : (paths : List (List ℕ)) → AreTakers s routes on_way (take to_enter all) paths
       → SomeIs (IsSetOf s) (MatchesWay c path) → IsTakenBy (IsSetOf s) c path paths
-  pub excluded : (paths : List (List ℕ)) → AreNamedFrom s routes 0 (take on_way all) paths
+  pub excluded : (paths : List (List ℕ)) → AreBlamed s routes 0 (take on_way all) paths
       → IsExcludedBy (IsSetOf s) c path paths
 
 module _ (s : Space) (c : Configuration) (routes : List TableRoute)
@@ -67,13 +68,16 @@ module _ (s : Space) (c : Configuration) (routes : List TableRoute)
 
   taken_by : (paths : List (List ℕ))
       → IsReasonWhy (IsSetOf s) (IsOfPart c path Before) (MatchesWay c path) (Misses c) paths
-      → SomeIs (IsSetOf s) (MatchesWay c path) → IsTakenBy (IsSetOf s) c path paths
-  taken_by paths why some = (
+      → SomeIs (IsSetOf s) (MatchesWay c path)
+      → EachTakesSome (IsSetOf s) c (MatchesWay c path) paths
+      → IsTakenBy (IsSetOf s) c path paths
+  taken_by paths why some each = (
     λ none. why.enough some.0 some.1 (
       some.2,
       λ q among. absurd (IsIn-from_Contains [] q (rw none at among)),
     ),
     why,
+    each,
   )
 
   pub known_of : AreKnown s c routes path found.on_way found.to_enter found.all.items
@@ -82,11 +86,18 @@ module _ (s : Space) (c : Configuration) (routes : List TableRoute)
     entering = rw enter_first to_enter;
     matching = rw way_first on_way;
     handed = λ paths named.
-        part_reason s c routes known path Children are.to_enter found.all.items are.children
-        (Enters c path) to_enter.say paths (rw are.many_to_enter at named);
-    taken = λ paths named.
+        let at = rw are.many_to_enter at named in (
+          part_reason s c routes known path Children are.to_enter found.all.items are.children
+              (Enters c path) to_enter.say paths at.0,
+          each_takes s c routes known path Children are.to_enter found.all.items are.children
+              (Enters c path) to_enter.say (children_taking c path) paths at,
+        );
+    taken = λ paths named some.
+        let at = rw (enter_first, are.many_on_way) at named in
         taken_by paths (part_reason s c routes known path Before are.on_way are.to_enter are.before
-        (MatchesWay c path) on_way.say paths (rw (enter_first, are.many_on_way) at named));
+        (MatchesWay c path) on_way.say paths at.0) some
+        (each_takes s c routes known path Before are.on_way are.to_enter are.before
+        (MatchesWay c path) on_way.say (before_taking c path) paths at);
     excluded = λ paths named.
         part_reason s c routes known path Way [] are.on_way are.way (λ set. ⊤)
         (nothing_said s).say paths (rw way_first at named);

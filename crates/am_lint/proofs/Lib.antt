@@ -8,6 +8,7 @@ pub mod PlaceSteps
 pub mod EnteringLemmas
 pub mod LiteralTruth
 pub mod NamedReasons
+pub mod Takers
 pub mod ArrivalSteps
 pub mod ReportSteps
 pub mod LineLaws

@@ -90,9 +90,33 @@ module _ (s : Space) (c : Configuration) (routes : List TableRoute)
       }
 
   module _ (old new : List Candidate) (adds : AddsPart routes part path routes old new) where
-    about_each : (k : Candidate) → IsIn adds.more k → IsAbout routes part path k
+    pub about_each : (k : Candidate) → IsIn adds.more k → IsAbout routes part path k
     about_each k there =
         AllByRecursion-at (IsAbout routes part path) adds.more k adds.each there
+
+    -- the literal about a route of the part, and what it says if it is true
+    pub its_literal : (q : List ℕ) (u : RouteTree) → route_at c.root q ≡ Some u
+        → IsTrue (stands_in part path q (continues_of u))
+        → (k : Candidate) × IsIn adds.more k × (path_of routes k ≡ q)
+    its_literal q u at stands =
+        let place = its_place s.labels c routes known q u at in
+        let has : IsTrue (has_route part path place.0) =
+        (λ i. stands_in part path (place.2.0 i) (place.2.1 i)) ∙ stands in
+        let among = subst (λ (qs : List (List ℕ)). IsIn qs place.0.path) (sym adds.paths)
+        (IsIn-map (λ (r : TableRoute). r.path) (filter (has_route part path) routes) place.0
+        (kept_from_passes (has_route part path) routes place.0 place.1 has)) in
+        let k = IsIn-unmap (path_of routes) adds.more place.0.path among in
+        (k.0, k.1, k.2 ∙ place.2.0)
+
+    pub its_truth : (choice : List ℕ) → IsChoiceOf s choice → (k : Candidate) → IsIn adds.more k
+        → (u : RouteTree) → route_at c.root (path_of routes k) ≡ Some u
+        → holds_at choice k ≡ true
+        → all_hold (label_set_of s.labels choice) (matchers_of u) ≡ is_wanted part
+    its_truth choice possible k there u at holds =
+        let of = saying k (about_each k there) in
+        ap (λ (v : RouteTree). all_hold (label_set_of s.labels choice) (matchers_of v))
+        (sym (same_Some of.tree u (sym of.at ∙ at)))
+        ∙ (of.says choice possible).0 holds
 
     -- a choice meets them exactly if its label set meets what the part asks
     pub part_said : AreSaying s adds.more (λ set. Meets set c.root path part)
@@ -100,19 +124,8 @@ module _ (s : Space) (c : Configuration) (routes : List TableRoute)
         let each = all_exactly (holds_at choice) (λ k. holds_at choice k ≡ true)
         (λ k. (λ h. h, λ h. h)) adds.more in (
           λ h q u at stands.
-              let place = its_place s.labels c routes known q u at in
-              let has : IsTrue (has_route part path place.0) =
-              (λ i. stands_in part path (place.2.0 i) (place.2.1 i)) ∙ stands in
-              let among = subst (λ (qs : List (List ℕ)). IsIn qs place.0.path) (sym adds.paths)
-              (IsIn-map (λ (r : TableRoute). r.path) (filter (has_route part path) routes) place.0
-              (kept_from_passes (has_route part path) routes place.0 place.1 has)) in
-              let k = IsIn-unmap (path_of routes) adds.more place.0.path among in
-              let of = saying k.0 (about_each k.0 k.1) in
-              let same = same_Some of.tree u
-              (sym of.at ∙ ap (route_at c.root) (k.2 ∙ place.2.0) ∙ at) in
-              ap (λ (v : RouteTree). all_hold (label_set_of s.labels choice) (matchers_of v))
-              (sym same)
-              ∙ (of.says choice possible).0
+              let k = its_literal q u at stands in
+              its_truth choice possible k.0 k.1 u (ap (route_at c.root) k.2 ∙ at)
               (AllByRecursion-at (λ l. holds_at choice l ≡ true) adds.more k.0 (each.0 h) k.1),
           λ m. each.1 (AllByRecursion-each (λ k. holds_at choice k ≡ true) adds.more (λ k there.
               let of = saying k (about_each k there) in

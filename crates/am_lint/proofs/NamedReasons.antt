@@ -1,11 +1,11 @@
 -- The routes whose literals are named are a reason.
-use Rattle.std.proofs.Common.{◌≡◌, ◌↔◌, ◌≤◌, ℕ, zero, suc, List, [], ◌∷◌, length, drop}
+use Rattle.std.proofs.Common.{◌≡◌, ◌↔◌, ◌≤◌, ◌-◌, ℕ, zero, suc, List, [], ◌∷◌, length, drop}
 use Rattle.std.proofs.Common.{map, take, Some, Bor, Bool, true, false, not, ◌||◌, cond, refl, sym, ap}
-use Rattle.std.proofs.Common.{◌∙◌, subst, slice_get, IsTrue, inl, inr, arith, ◌&&◌}
+use Rattle.std.proofs.Common.{◌∙◌, subst, slice_get, IsTrue, inl, inr, arith, length-drop}
 use Rattle.std.specs.List.{AllByRecursion, filter}
 use Rattle.std.proofs.lemmas.Bool.{both_ways, and_parts, and_from, cases_Bool, not-true}
 use Rattle.std.proofs.lemmas.Bool.{false_from_ne_true}
-use Rattle.std.proofs.lemmas.List.{take_at, drop_at}
+use Rattle.std.proofs.lemmas.List.{take_at, take_all, drop_at}
 use Rattle.std.proofs.lemmas.Option.{same_Some}
 use Rattle.am_universe.proofs.ListLemmas.{IsIn, IsIn-from_Contains, IsIn-map, IsIn-unmap}
 use Rattle.am_universe.proofs.ListLemmas.{AllByRecursion-at, AllByRecursion-each}
@@ -20,7 +20,7 @@ use Rattle.am_config.specs.Path.{leads_through, route_at}
 use Rattle.am_first_sets.specs.declared.candidate.Candidate.{Candidate}
 use Rattle.am_first_sets.specs.Literals.{holds_at, hold_all, meets}
 use Rattle.am_first_sets.specs.Reason.{AreSameLiterals, AreNamedBefore, without, IsReason}
-use Rattle.am_first_sets.proofs.ReasonLemmas.{met_at}
+use Rattle.am_first_sets.proofs.ReasonLemmas.{front_alike, met_at}
 use Rattle.am_judged_lists.specs.Cube.{MaskedLabels, matches}
 use Rattle.am_lint.specs.declared.literals.Part.{Part}
 use Rattle.am_lint.specs.declared.literals.Part.TheVariants.{Way, Before, Children}
@@ -28,7 +28,7 @@ use Rattle.am_lint.specs.declared.table.TableRoute.{TableRoute}
 use Rattle.am_lint.specs.Places.{stands_before, is_child_of}
 use Rattle.am_lint.specs.Table.{IsTableOf}
 use Rattle.am_lint.specs.Literals.{is_wanted, stands_in, path_if_any, path_of, IsAbout, AddsPart}
-use Rattle.am_lint.specs.Literals.{named_paths}
+use Rattle.am_lint.specs.Literals.{named_paths, AreBlamed}
 use Rattle.am_eval.specs.Reaching.{IsSetOf}
 use Rattle.am_lint.specs.Reasons.{IsReasonWhy, Matches, Misses, LacksContinue}
 use Rattle.am_lint.proofs.LiteralTruth.{AreSaying, saying}
@@ -36,12 +36,16 @@ use Rattle.am_lint.proofs.PathOrder.{Ascend, kept_ascend, part_ascends, paths_al
 
 -- ---- Lists of literals, of which the first `n` are given.
 
-behind : {X : Type 0} (n : ℕ) (xs : List X) (x : X) → IsIn (drop n xs) x
+pub behind : {X : Type 0} (n : ℕ) (xs : List X) (x : X) → IsIn (drop n xs) x
     → (i : ℕ) × (slice_get xs i ≡ Some x) × (n ≤ i)
 behind zero xs x there = let r = at_in xs x there in (r.0, r.1, omega arith)
 behind (suc n) [] x there = absurd there
 behind (suc n) (y ∷ xs) x there =
     let r = behind n xs x there in (suc r.0, r.1, omega (arith, r.2))
+
+-- what `&literals[n..]` has
+pub left : (n : ℕ) (ks : List Candidate) → take (length ks - n) (drop n ks) ≡ drop n ks
+left n ks = take_all (length ks - n) (drop n ks) (omega (arith, length-drop n ks))
 
 -- all named literals are met if the first ones are and the named ones behind them
 all_met : (choice : List ℕ) (n : ℕ) (ks : List Candidate) → hold_all choice (take n ks) ≡ true
@@ -85,15 +89,6 @@ others (suc i) (suc j) (k ∷ ks) other = others i j ks (λ same. other (ap suc 
 
 -- ---- The same literals, whichever of them are named.
 
-front_alike : (choice : List ℕ) (n : ℕ) (ks ls : List Candidate) → AreSameLiterals ks ls
-    → hold_all choice (take n ks) ≡ hold_all choice (take n ls)
-front_alike choice zero ks ls same = refl
-front_alike choice (suc n) [] [] same = refl
-front_alike choice (suc n) (k ∷ ks) (l ∷ ls) same =
-    λ i. cond (same.0.1 i) (matches (same.0.0 i).now choice) (not (matches (same.0.0 i).now choice))
-    && front_alike choice n ks ls same.1 i
-front_alike choice (suc n) ks ls same = absurd same
-
 rest_alike : (P : Candidate → Type 0)
     → ((k l : Candidate) → k.cube ≡ l.cube → k.wanted ≡ l.wanted → k.tag ≡ l.tag → P k → P l)
     → (n : ℕ) (ks ls : List Candidate) → AreSameLiterals ks ls → AllByRecursion P (drop n ks)
@@ -107,12 +102,14 @@ rest_alike P alike n ks ls same all = absurd same
 
 -- ---- The reason.
 
--- the literals are the given ones, whichever of them are named; the named ones are a reason, and
--- the paths are those of the named ones behind the first `n`
-abbrev pub AreNamedFrom : Space → List TableRoute → ℕ → List Candidate → List (List ℕ) → Type 0
-AreNamedFrom s routes n all paths =
-    (ks : List Candidate) × AreSameLiterals all ks × IsReason (IsChoiceOf s) n ks
-    × (paths ≡ named_paths routes (drop n ks))
+-- the literal of a route that is to blame
+pub blamed_at : (routes : List TableRoute) (n : ℕ) (ks : List Candidate) (q : List ℕ)
+    → IsIn (named_paths routes (drop n ks)) q
+    → (k : Candidate) × IsIn (drop n ks) k × IsTrue k.named × (path_of routes k ≡ q)
+blamed_at routes n ks q there =
+    let r = IsIn-unmap (path_of routes) (filter (λ k. k.named) (drop n ks)) q there in
+    let kept = passes_from_kept (λ k. k.named) (drop n ks) r.0 r.1 in
+    (r.0, kept.0, kept.1, r.2)
 
 module _ (s : Space) (routes : List TableRoute) (IsOfKind : List ℕ → Type 0)
     (First : LabelMap → Type 0) (Does : List ℕ → LabelMap → Type 0) where
@@ -145,18 +142,10 @@ module _ (s : Space) (routes : List TableRoute) (IsOfKind : List ℕ → Type 0)
         AllByRecursion-at IsAsked (drop n ks) k (rest_alike IsAsked asked_alike n all ks same rest)
         there
 
-    -- the literal of a route that is to blame
-    blamed_at : (q : List ℕ) → IsIn blamed q
-        → (k : Candidate) × IsIn (drop n ks) k × IsTrue k.named × (path_of routes k ≡ q)
-    blamed_at q there =
-        let r = IsIn-unmap (path_of routes) (filter (λ k. k.named) (drop n ks)) q there in
-        let kept = passes_from_kept (λ k. k.named) (drop n ks) r.0 r.1 in
-        (r.0, kept.0, kept.1, r.2)
-
     is_reason : IsReasonWhy (IsSetOf s) IsOfKind First Does blamed
     is_reason = record {
       kind = AllByRecursion-each IsOfKind blamed (λ q there.
-          let l = blamed_at q there in subst IsOfKind l.3 (asked l.0 l.1).0);
+          let l = blamed_at routes n ks q there in subst IsOfKind l.3 (asked l.0 l.1).0);
       ordered = kept_ascend (path_of routes) (λ k. k.named) (drop n ks)
           (subst Ascend (paths_alike routes n all ks same) ascend);
       enough = λ set occurs does.
@@ -171,7 +160,7 @@ module _ (s : Space) (routes : List TableRoute) (IsOfKind : List ℕ → Type 0)
           (IsIn-map (path_of routes) (filter (λ l. l.named) (drop n ks)) k
           (kept_from_passes (λ l. l.named) (drop n ks) k there named)))))));
       needed = λ q there.
-          let k = blamed_at q (IsIn-from_Contains blamed q there) in
+          let k = blamed_at routes n ks q (IsIn-from_Contains blamed q there) in
           let place = behind n ks k.0 k.1 in
           let met = reason.needed place.0 k.0 place.1 place.2 k.2 in (
             label_set_of s.labels met.0,
@@ -180,7 +169,7 @@ module _ (s : Space) (routes : List TableRoute) (IsOfKind : List ℕ → Type 0)
               (say met.0 met.1).0 (front_alike met.0 n all ks same
                   ∙ first_met met.0 n place.0 ks place.2 reason.first met.2),
               λ o among other.
-                  let l = blamed_at o (IsIn-from_Contains blamed o among) in
+                  let l = blamed_at routes n ks o (IsIn-from_Contains blamed o among) in
                   let at = behind n ks l.0 l.1 in
                   let apart : place.0 ≡ at.0 → ⊥ = λ same.
                   let alike = same_Some l.0 k.0
@@ -245,7 +234,7 @@ pub part_reason : (s : Space) (c : Configuration) (routes : List TableRoute)
     → IsTableOf s.labels c routes → (path : List ℕ) (part : Part) (old new : List Candidate)
     (adds : AddsPart routes part path routes old new) (First : LabelMap → Type 0)
     → AreSaying s old First → (paths : List (List ℕ))
-    → AreNamedFrom s routes (length old) new paths
+    → AreBlamed s routes (length old) new paths
     → IsReasonWhy (IsSetOf s) (IsOfPart c path part) First (DoesAt c part) paths
 part_reason s c routes known path part old new adds First say paths found =
     let Asked = IsAsked s routes (IsOfPart c path part) First (DoesAt c part) in

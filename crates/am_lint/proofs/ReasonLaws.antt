@@ -44,5 +44,5 @@ module _ (Occurs : LabelMap → Type 0) (c : Configuration) (path : List ℕ)
   pub handed_none : IsHandedTo Occurs c path routes → IsDead Occurs c path
   handed_none by set is ends =
       let met = (ends_exactly c path set).1 ends in
-      none (λ q. IsTrue (is_child_of path q)) (Enters c path) (Misses c) by set is met.0
+      none (λ q. IsTrue (is_child_of path q)) (Enters c path) (Misses c) by.0 set is met.0
       (λ q child m. both_ways (all_hold set (matchers_of m.0)) (met.1 q m.0 m.1 child) m.2)

@@ -22,6 +22,7 @@ use Rattle.am_lint.specs.declared.arrival.Arrival.{Arrival}
 use Rattle.am_lint.specs.declared.arrival.Arrival.TheVariants as arrival_is
 use Rattle.am_eval.specs.Reaching.{EndsAt, Enters, NoneIs, IsSetOf}
 use Rattle.am_lint.specs.Reasons.{IsReasonWhy, Matches, Misses, MatchesWay, IsHandedTo}
+use Rattle.am_lint.specs.Reasons.{EachTakesSome}
 use Rattle.am_lint.specs.Arrival.{IsSeenBy, IsReasonFor, IsArrival}
 
 -- ---- What meets the same of the matchers of all routes.
@@ -90,10 +91,18 @@ module _ (a : Alphabet) (s : Space) (c : Configuration) (h : StandsForAlerts a s
     needed = λ q there. some_over a s (routes c) h _ (by.needed q there);
   }
 
+  taken_over : (First : LabelMap → Type 0) (blamed : List (List ℕ))
+      → EachTakesSome (IsSetOf s) c First blamed → EachTakesSome (IsAlertOf a s) c First blamed
+  taken_over First [] each = tt
+  taken_over First (q ∷ blamed) each =
+      (some_over a s (routes c) h _ each.0, taken_over First blamed each.1)
+
   pub handed_over : (path : List ℕ) (children : List (List ℕ))
       → IsHandedTo (IsSetOf s) c path children → IsHandedTo (IsAlertOf a s) c path children
-  handed_over path children =
-      why_over _ (Enters c path) (Misses c) children (enters_told c path) (misses_told c)
+  handed_over path children by = (
+    why_over _ (Enters c path) (Misses c) children (enters_told c path) (misses_told c) by.0,
+    taken_over (Enters c path) children by.1,
+  )
 
   pub reason_over : (path : List ℕ) (cause : Cause) (blamed : List (List ℕ))
       → IsReasonFor (IsSetOf s) c path cause blamed
@@ -103,6 +112,7 @@ module _ (a : Alphabet) (s : Space) (c : Configuration) (h : StandsForAlerts a s
   reason_over path cause_is.Taken blamed by = (
     by.0,
     why_over _ (MatchesWay c path) (Misses c) blamed (way_told c path) (misses_told c) by.1,
+    taken_over (MatchesWay c path) blamed by.2,
   )
 
   -- ---- How a route stands.

@@ -1,9 +1,11 @@
 -- The literals for a route. Each of them is about a route of the table.
 use Rattle.std.specs.Prelude.{◌≡◌, ℕ, List, [], ◌++◌, map, length, Bool, true, false, not}
-use Rattle.std.specs.Prelude.{◌&&◌, Option, Some, None, IsTrue, slice_get}
+use Rattle.std.specs.Prelude.{◌&&◌, Option, Some, None, IsTrue, slice_get, drop}
 use Rattle.std.specs.List.{AllByRecursion, filter}
+use Rattle.am_labels.specs.Space.{Space, IsChoiceOf}
 use Rattle.am_config.specs.Path.{leads_through}
 use Rattle.am_first_sets.specs.declared.candidate.Candidate.{Candidate}
+use Rattle.am_first_sets.specs.Reason.{AreSameLiterals, IsReason, EachFailsFirst}
 use Rattle.am_lint.specs.declared.literals.Part.{Part}
 use Rattle.am_lint.specs.declared.literals.Part.TheVariants.{Way, Before, Children}
 use Rattle.am_lint.specs.declared.literals.Literals.{Literals}
@@ -63,3 +65,15 @@ pub record AreLiterals (routes : List TableRoute) (path : List ℕ) (found : Lit
 -- The paths of the routes whose literals are named.
 abbrev pub named_paths : List TableRoute → List Candidate → List (List ℕ)
 named_paths routes ks = map (path_of routes) (filter (λ k. k.named) ks)
+
+-- No choice of a space meets some literals, and these are the paths of the routes to blame: their
+-- literals, and the first `n` before them, are a reason. And each of these routes takes something:
+-- some choice fails its literal first.
+abbrev pub AreBlamed : Space → List TableRoute → ℕ → List Candidate → List (List ℕ) → Type 0
+AreBlamed s routes n all paths =
+    (ks : List Candidate) × AreSameLiterals all ks × IsReason (IsChoiceOf s) n ks
+    × (paths ≡ named_paths routes (drop n ks))
+
+abbrev pub AreTakers : Space → List TableRoute → ℕ → List Candidate → List (List ℕ) → Type 0
+AreTakers s routes n all paths =
+    (blamed : AreBlamed s routes n all paths) × EachFailsFirst (IsChoiceOf s) n blamed.0

@@ -47,6 +47,15 @@ abbrev pub LacksContinue : Configuration → List ℕ → Type 0
 LacksContinue c path =
     (t : RouteTree) × (route_at c.root path ≡ Some t) × (continues_of t ≡ false)
 
+-- Each of some routes takes something: some alert that meets a condition enters it. So no earlier
+-- sibling without `continue` takes this alert away.
+-- Source: Alertmanager configuration reference 0.25, "<route>"; own choice.
+-- Example: `/1` with `team="db"` takes nothing if `/0` has `team=~"d.*"` and no `continue`.
+abbrev pub EachTakesSome :
+    (LabelMap → Type 0) → Configuration → (LabelMap → Type 0) → List (List ℕ) → Type 0
+EachTakesSome Occurs c First =
+    AllByRecursion (λ q. SomeIs Occurs (λ set. First set × Enters c q set))
+
 -- Routes on the way exclude each other: no alert matches all of them, but without any one of them
 -- some alert matches the rest.
 -- Source: own choice.
@@ -60,7 +69,8 @@ IsExcludedBy Occurs c path =
 -- Each alert that matches the way is taken by one of these siblings first. Each sibling stands
 -- before the route, or before a route on the way, and lacks `continue`. Each alert that matches the
 -- way matches one of them. Without any one of them, some alert that matches the way matches none of
--- the rest. There is at least one sibling, so some alert does match the way.
+-- the rest. There is at least one sibling, so some alert does match the way. And each sibling is
+-- entered by some alert that matches the way.
 -- Source: own choice.
 -- Example: `/2` with `team="db"` is taken by `/1` if that has `team=~"d.*"` and no `continue`.
 abbrev pub IsTakenBy : (LabelMap → Type 0) → Configuration → List ℕ → List (List ℕ) → Type 0
@@ -68,12 +78,15 @@ IsTakenBy Occurs c path siblings =
     (siblings ≢ [])
     × IsReasonWhy Occurs (λ q. IsTrue (stands_before path q) × LacksContinue c q)
     (MatchesWay c path) (Misses c) siblings
+    × EachTakesSome Occurs c (MatchesWay c path) siblings
 
 -- Children take every alert that enters the route: each such alert matches one of them, and without
--- any one of them some alert enters the route and matches none of the rest.
+-- any one of them some alert enters the route and matches none of the rest. And each child is
+-- entered by some alert, which enters the route then.
 -- Source: Alertmanager configuration reference 0.25, "<route>"; own choice.
 -- Example: a route hands on to its two children if one has `severity="critical"` and the other has
 -- `severity!="critical"`.
 abbrev pub IsHandedTo : (LabelMap → Type 0) → Configuration → List ℕ → List (List ℕ) → Type 0
-IsHandedTo Occurs c path =
-    IsReasonWhy Occurs (λ q. IsTrue (is_child_of path q)) (Enters c path) (Misses c)
+IsHandedTo Occurs c path children =
+    IsReasonWhy Occurs (λ q. IsTrue (is_child_of path q)) (Enters c path) (Misses c) children
+    × EachTakesSome Occurs c (Enters c path) children

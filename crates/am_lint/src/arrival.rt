@@ -10,22 +10,21 @@
 //!
 //! If label sets enter the route and none ends there, its children are to blame. If none enters it,
 //! the siblings are, or the way itself if no label set matches that. `leave_out` names which of
-//! them.
+//! them, and `leave_out_idle` only such children or siblings as take some label set.
 
-ghost use Rattle.std.specs.Prelude.{◌≡◌, ◌≤◌, List, length, drop, IfOk};
+ghost use Rattle.std.specs.Prelude.{◌≡◌, ◌≤◌, length, IfOk};
 ghost use Rattle.am_labels.specs.Space.{IsChoiceOf};
-ghost use Rattle.am_first_sets.specs.declared.candidate.Candidate.{Candidate};
 ghost use Rattle.am_first_sets.specs.Literals.{IsUnmet};
-ghost use Rattle.am_first_sets.specs.Reason.{AreSameLiterals, AreNamedBefore, IsReason};
+ghost use Rattle.am_first_sets.specs.Reason.{AreNamedBefore};
 ghost use Rattle.am_lint.specs.Table.{KnowsRoutes, table_space, table_config, IsRoute};
-ghost use Rattle.am_lint.specs.Literals.{named_paths};
+ghost use Rattle.am_lint.specs.Literals.{named_paths, AreBlamed, AreTakers};
 ghost use Rattle.am_eval.specs.Reaching.{IsSetOf};
 ghost use Rattle.am_lint.specs.Arrival.{IsArrival};
 
 use crate::literals::literals_of;
 use crate::table::Table;
 use am_config::Path;
-use am_first_sets::{Candidate, first_meeting, leave_out};
+use am_first_sets::{Candidate, first_meeting, leave_out, leave_out_idle};
 use am_universe::Choice;
 use std::alloc::{AllocError, Global};
 
@@ -78,13 +77,13 @@ pub(crate) fn arrival_of(
         return Ok(Arrival::Ends(choice));
     }
     if let Some(entry) = first_meeting(alloc, &table.possible, &all[..to_enter])? {
-        let children = named_by_reason(alloc, table, all, to_enter)?;
+        let children = named_takers(alloc, table, all, to_enter)?;
         return Ok(Arrival::HandsOn { entry, children });
     }
     match first_meeting(alloc, &table.possible, &all[..on_way])? {
         Some(_) => Ok(Arrival::NeverEntered(Reason {
             cause: Cause::Taken,
-            routes: named_by_reason(alloc, table, &mut all[..to_enter], on_way)?,
+            routes: named_takers(alloc, table, &mut all[..to_enter], on_way)?,
         })),
         None => Ok(Arrival::NeverEntered(Reason {
             cause: Cause::Excluded,
@@ -105,12 +104,28 @@ fn named_by_reason(
     requires named { AreNamedBefore (length literals.old) literals.old }
     requires none { IsUnmet (IsChoiceOf (table_space table.now)) literals.old }
     requires within { fixed ≤ length literals.old }
-    ensures reason { IfOk result (λ routes. (ks : List Candidate)
-        × AreSameLiterals literals.old ks
-        × IsReason (IsChoiceOf (table_space table.now)) fixed ks
-        × (routes.items ≡ named_paths table.now.routes.items (drop fixed ks))) }
+    ensures blamed { IfOk result (λ routes. AreBlamed (table_space table.now)
+        table.now.routes.items fixed literals.old routes.items) }
 {
     leave_out(alloc, table.possible.choices(), literals, fixed)?;
+    named_routes(alloc, table, &literals[fixed..])
+}
+
+/// The same for literals that ask for no match. Each route that is to blame matches some label set
+/// that meets all literals before its own.
+fn named_takers(
+    alloc: Global,
+    table: &Table<'_>,
+    literals: &mut [Candidate<'_>],
+    fixed: usize,
+) -> Result<Vec<Path>, AllocError>
+    requires named { AreNamedBefore (length literals.old) literals.old }
+    requires none { IsUnmet (IsChoiceOf (table_space table.now)) literals.old }
+    requires within { fixed ≤ length literals.old }
+    ensures takers { IfOk result (λ routes. AreTakers (table_space table.now)
+        table.now.routes.items fixed literals.old routes.items) }
+{
+    leave_out_idle(alloc, table.possible.choices(), literals, fixed)?;
     named_routes(alloc, table, &literals[fixed..])
 }
 

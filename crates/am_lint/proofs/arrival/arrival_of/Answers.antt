@@ -22,14 +22,14 @@ returns-in-Some c = record {
       c.in_ok-choice.ensures.first c.in-Some.choice c.in-Some.is;
 }
 
-pub named_by_reason-requires-clause-none : goal.named_by_reason-requires-clause-none
-named_by_reason-requires-clause-none c =
-    none_met _ _ _ (known (goal.at.named_by_reason-requires-clause-none c).After-as_mut_slice-all).ending _
+pub named_takers-requires-clause-none : goal.named_takers-requires-clause-none
+named_takers-requires-clause-none c =
+    none_met _ _ _ (known (goal.at.named_takers-requires-clause-none c).After-as_mut_slice-all).ending _
     c.in_ok-choice.ensures.first c.in_default.is
 
-pub named_by_reason-requires-clause-named : goal.named_by_reason-requires-clause-named
-named_by_reason-requires-clause-named c =
-    all_named _ _ _ _ (known (goal.at.named_by_reason-requires-clause-named c).After-as_mut_slice-all).ending
+pub named_takers-requires-clause-named : goal.named_takers-requires-clause-named
+named_takers-requires-clause-named c =
+    all_named _ _ _ _ (known (goal.at.named_takers-requires-clause-named c).After-as_mut_slice-all).ending
 
 pub returns-in-Some-2 : goal.returns-in-Some-2
 returns-in-Some-2 c =
@@ -38,18 +38,18 @@ returns-in-Some-2 c =
       arrival = (
         seen _ _ _ are.entering _ c.in_ok-entry.ensures.first c.in-Some-2.entry c.in-Some-2.is,
         none_seen _ _ _ are.ending _ c.in_ok-choice.ensures.first c.in_default.is,
-        are.handed _ c.in_ok-children.ensures.reason,
+        are.handed _ c.in_ok-children.ensures.takers,
       );
     }
 
-pub named_by_reason-requires-in-Some-3-clause-none : goal.named_by_reason-requires-in-Some-3-clause-none
-named_by_reason-requires-in-Some-3-clause-none c =
-    none_met _ _ _ (known (goal.at.named_by_reason-requires-in-Some-3-clause-none c).After-as_mut_slice-all).entering _
+pub named_takers-requires-in-Some-3-clause-none : goal.named_takers-requires-in-Some-3-clause-none
+named_takers-requires-in-Some-3-clause-none c =
+    none_met _ _ _ (known (goal.at.named_takers-requires-in-Some-3-clause-none c).After-as_mut_slice-all).entering _
     c.in_ok-entry.ensures.first c.in_default-2.is
 
-pub named_by_reason-requires-in-Some-3-clause-named : goal.named_by_reason-requires-in-Some-3-clause-named
-named_by_reason-requires-in-Some-3-clause-named c =
-    all_named _ _ _ _ (known (goal.at.named_by_reason-requires-in-Some-3-clause-named c).After-as_mut_slice-all).entering
+pub named_takers-requires-in-Some-3-clause-named : goal.named_takers-requires-in-Some-3-clause-named
+named_takers-requires-in-Some-3-clause-named c =
+    all_named _ _ _ _ (known (goal.at.named_takers-requires-in-Some-3-clause-named c).After-as_mut_slice-all).entering
 
 pub returns-in-Some-3 : goal.returns-in-Some-3
 returns-in-Some-3 c =
@@ -59,19 +59,19 @@ returns-in-Some-3 c =
     record {
       arrival = (
         none_seen _ _ _ are.entering _ c.in_ok-entry.ensures.first c.in_default-2.is,
-        are.taken _ c.in_ok-named_by_reason-in-Some-3.ensures.reason
+        are.taken _ c.in_ok-named_takers-in-Some-3.ensures.takers
             (label_set_of (table_space c.args.table.now).labels c.in-Some-3.field-0, way.1, way.2),
       );
     }
 
-pub named_by_reason-requires-in-None-clause-none : goal.named_by_reason-requires-in-None-clause-none
-named_by_reason-requires-in-None-clause-none c =
-    none_met _ _ _ (known (goal.at.named_by_reason-requires-in-None-clause-none c).After-as_mut_slice-all).matching _
+pub named_by_reason-requires-clause-none : goal.named_by_reason-requires-clause-none
+named_by_reason-requires-clause-none c =
+    none_met _ _ _ (known (goal.at.named_by_reason-requires-clause-none c).After-as_mut_slice-all).matching _
     c.in_ok-first_meeting.ensures.first c.in-None.is
 
-pub named_by_reason-requires-in-None-clause-named : goal.named_by_reason-requires-in-None-clause-named
-named_by_reason-requires-in-None-clause-named c =
-    all_named _ _ _ _ (known (goal.at.named_by_reason-requires-in-None-clause-named c).After-as_mut_slice-all).matching
+pub named_by_reason-requires-clause-named : goal.named_by_reason-requires-clause-named
+named_by_reason-requires-clause-named c =
+    all_named _ _ _ _ (known (goal.at.named_by_reason-requires-clause-named c).After-as_mut_slice-all).matching
 
 pub returns : goal.returns
 returns c =
@@ -79,6 +79,6 @@ returns c =
     record {
       arrival = (
         none_seen _ _ _ are.entering _ c.in_ok-entry.ensures.first c.in_default-2.is,
-        are.excluded _ c.in_ok-named_by_reason-in-None.ensures.reason,
+        are.excluded _ c.in_ok-named_by_reason-in-None.ensures.blamed,
       );
     }

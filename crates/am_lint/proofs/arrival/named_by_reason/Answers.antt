@@ -1,18 +1,13 @@
 -- The literals behind the first ones.
-use Rattle.std.proofs.Common.{◌≡◌, ◌-◌, ℕ, length, take, drop, List, ap, ◌∙◌}
-use Rattle.std.proofs.Common.{arith, length-drop}
-use Rattle.std.proofs.lemmas.List.{take_all}
+use Rattle.std.proofs.Common.{ap, ◌∙◌, arith}
 use Rattle.am_labels.specs.Space.{IsChoiceOf}
 use Rattle.am_first_sets.specs.PossibleChoices.{IsPossible}
 use Rattle.am_first_sets.proofs.MeetingLemmas.{if_ok_more}
 use Rattle.am_first_sets.proofs.ReasonLemmas.{reason_alike}
-use Rattle.am_first_sets.specs.declared.candidate.Candidate.{Candidate}
 use Rattle.am_lint.specs.Literals.{named_paths}
 use Rattle.am_lint.specs.Table.{table_space}
+use Rattle.am_lint.proofs.NamedReasons.{left}
 use Rattle.am_lint.proofs.arrival.named_by_reason.Goals as goal
-
-left : (n : ℕ) (ks : List Candidate) → take (length ks - n) (drop n ks) ≡ drop n ks
-left n ks = take_all (length ks - n) (drop n ks) (omega (arith, length-drop n ks))
 
 pub leave_out-requires-clause-first : goal.leave_out-requires-clause-first
 leave_out-requires-clause-first c = λ i k at lt.
@@ -29,7 +24,7 @@ returns c =
     let ks = c.leave_out.new.candidates in
     let n = c.args.fixed in
     record {
-      reason = if_ok_more c.named_routes.result _ _ (λ found is. (
+      blamed = if_ok_more c.named_routes.result _ _ (λ found is. (
         ks,
         c.leave_out.ensures.same,
         reason_alike (IsPossible c.choices.result.now)
