@@ -4,6 +4,7 @@ use Rattle.std.specs.Prelude.{◌≡◌, ℕ, List, [], Bool, false, Some, slice
 use Rattle.am_universe.specs.declared.kind.Kind.TheVariants as kinds
 use Rattle.am_universe.specs.declared.place.Place.{Place}
 use Rattle.am_universe.specs.declared.place.Place.TheVariants as places
+use Rattle.am_universe.specs.LabelSet.{LabelMap}
 use Rattle.am_universe.specs.Universe.{Label, IsUniverse}
 use Rattle.am_labels.specs.Matcher.{Matcher}
 use Rattle.am_labels.specs.Space.{Space}
@@ -13,6 +14,7 @@ use Rattle.am_complete.specs.AskedLabel.{AskedLabel}
 use Rattle.am_complete.specs.Complete.{IsSpaceComplete}
 use Rattle.am_complete.specs.Covering.{CoversEachBut, KeepsLabels, AddsNeeded, AddsInOrder}
 use Rattle.am_complete.specs.Covering.{HasTextsOver}
+use Rattle.am_complete.specs.Representatives.{AddsRepresentatives}
 use Rattle.am_complete.specs.Room.{HaveNoRoom, AreUnproved}
 use Rattle.am_asked.specs.OriginPointer.{origin_pointer}
 
@@ -23,18 +25,20 @@ undeclared s = record { labels = []; impossible = s.impossible }
 -- A universe is made for matchers, and for the labels that they ask about, from the labels of a
 -- space. With the impossible lists of the space it is complete for the matchers, unless it may lack
 -- values. It keeps the labels and values of the space, and adds only what is needed. The labels
--- that it adds are in the order in which they are asked about. If the texts of the space are over
--- the alphabet, so are its own.
+-- that it adds are in the order in which they are asked about, and its new texts may stand for
+-- their classes, as those of alerts may. If the texts of the space are over the alphabet, so are
+-- its own.
 -- Source: own choice.
 -- Example: from a space without labels, for `team="db"`, it has `team` with absence and `db`.
 pub record IsMadeBeside (a : Alphabet) (may_lack : Bool) (s : Space) (asked : List AskedLabel)
-    (ms : List Matcher) (u : List Label) : Type 0 where
+    (alerts : List LabelMap) (ms : List Matcher) (u : List Label) : Type 0 where
   pub universe : IsUniverse u
   pub complete : may_lack ≡ false
       → IsSpaceComplete a (record { labels = u; impossible = s.impossible }) ms
   pub keeps : KeepsLabels s.labels u
   pub adds : AddsNeeded a s ms u
   pub order : AddsInOrder s.labels asked u
+  pub representatives : AddsRepresentatives may_lack a s alerts ms u
   pub over : HasTextsOver a s.labels → HasTextsOver a u
 
 -- ---- Why no universe is made.

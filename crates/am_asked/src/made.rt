@@ -3,6 +3,7 @@
 ghost use Rattle.std.specs.Prelude.{◌≡◌, ◌≢◌, ◌<◌, ℕ, List, [], Some, IfOk, IfErr, IfSome, IfNone};
 ghost use Rattle.std.specs.Prelude.{false, length, slice_get};
 ghost use Rattle.std.specs.List.{AllByRecursion};
+ghost use Rattle.std.specs.Option.{option_map_or};
 ghost use Rattle.am_universe.specs.declared.kind.Kind.TheVariants as kinds;
 ghost use Rattle.am_labels.specs.Matcher.{Matcher};
 ghost use Rattle.am_json.specs.Reading.{refusal_of};
@@ -35,8 +36,8 @@ pub fn universe_for<'a, 'm>(
     requires { (ms : List Matcher) × IsAskedOf asked.now ms
         × AreAmong (impossible_matchers space.now.impossible) ms }
     ensures made { IfOk result (λ found. IfOk found (λ universe. (ms : List Matcher)
-        → IsAskedOf asked.now ms
-        → IsMadeBeside alphabet may_lack space.now asked.now ms universe)) }
+        → IsAskedOf asked.now ms → IsMadeBeside alphabet may_lack space.now asked.now
+        (option_map_or (λ a. a.now) alerts.entry []) ms universe)) }
     ensures unproved { IfOk result (λ found. IfErr found (λ label. (may_lack ≡ false)
         × IsFirstUnproved alphabet space.now asked.now label.now)) }
     ensures refused { IfErr result (λ fault. fault.kind ≢ kinds.Memory

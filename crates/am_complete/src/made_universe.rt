@@ -59,7 +59,7 @@ pub struct MadeUniverse {
 /// The labels of the space come first, each with its own values first. Then come the labels that
 /// have to be declared, in the order in which they are asked about. Such a label has absence first,
 /// if that is possible; then the values that matchers name, in their order; then a value for each
-/// other class: the one that most of the alerts have, or else `other`, or else a short one; and
+/// other class: the one that most of the alerts have, or else `other`, or else a shortest one; and
 /// last values with a line feed. A label of the space gets those of these that it lacks.
 ///
 /// A label whose classes could not be computed gets values that were found, and may lack some. A

@@ -1,5 +1,5 @@
 -- What is made is complete, unless a label is unproved.
-use Rattle.std.proofs.Common.{sym, ◌∙◌}
+use Rattle.std.proofs.Common.{◌≡◌, [], false, sym, ◌∙◌}
 use Rattle.am_asked.proofs.made.universe_for.Goals as goal
 
 pub returns-in-Some-clause-unproved : goal.returns-in-Some-clause-unproved
@@ -21,12 +21,14 @@ returns-in-Some-clause-unproved c =
 pub returns-clause-made : goal.returns-clause-made
 returns-clause-made c = λ ms asked.
     let is = c.in-Ok.ensures in
+    let none : c.args.may_lack ≡ false → c.in-Ok.made.unproved.items ≡ [] =
+    λ closed. sym c.as_slice.ensures.value ∙ c.in-None.ensures.none closed in
     record {
       universe = is.universe;
-      complete = λ closed. is.complete
-          (sym c.as_slice.ensures.value ∙ c.in-None.ensures.none closed) ms asked;
+      complete = λ closed. is.complete (none closed) ms asked;
       keeps = is.keeps;
       adds = is.adds ms asked;
       order = is.order;
+      representatives = is.representatives ms c.args.may_lack asked none;
       over = is.over;
     }
