@@ -1,4 +1,4 @@
--- Why something was refused: a word for each kind of refusal.
+-- Why something was refused: a number and a word for each kind of refusal.
 use Rattle.std.specs.Prelude.{ℕ, List, codes}
 use Rattle.am_universe.specs.declared.kind.Kind.{Kind}
 use Rattle.am_universe.specs.declared.kind.Kind.TheVariants.{NotJson, Shape, UnknownField}
@@ -9,6 +9,32 @@ use Rattle.am_universe.specs.declared.kind.Kind.TheVariants.{QuestionSyntax, Unk
 use Rattle.am_universe.specs.declared.kind.Kind.TheVariants.{UnknownRoute, BadToken, OtherInputs}
 use Rattle.am_universe.specs.declared.kind.Kind.TheVariants.{NeedAt, Write, Memory, Read, Unproved}
 use Rattle.am_universe.specs.declared.kind.Kind.TheVariants.{Incomplete}
+
+-- The number of a kind.
+abbrev pub kind_number : Kind → ℕ
+kind_number NotJson = 1
+kind_number Shape = 2
+kind_number UnknownField = 3
+kind_number BadMatcher = 4
+kind_number PatternProfile = 5
+kind_number Pattern = 6
+kind_number Duplicate = 7
+kind_number Empty = 8
+kind_number UndefinedReceiver = 9
+kind_number RootMatchers = 10
+kind_number BadTime = 11
+kind_number Limit = 12
+kind_number QuestionSyntax = 13
+kind_number UnknownReceiver = 14
+kind_number UnknownRoute = 15
+kind_number BadToken = 16
+kind_number NeedAt = 17
+kind_number Write = 18
+kind_number Memory = 19
+kind_number Read = 20
+kind_number OtherInputs = 21
+kind_number Unproved = 22
+kind_number Incomplete = 23
 
 -- The word for a kind that the program prints.
 abbrev pub kind_text : Kind → List ℕ

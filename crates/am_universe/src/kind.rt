@@ -1,14 +1,14 @@
 ghost use Rattle.std.specs.Prelude.{◌≡◌};
-ghost use Rattle.am_universe.specs.Kind.{kind_text};
+ghost use Rattle.am_universe.specs.Kind.{kind_number, kind_text};
 ghost use Rattle.am_universe.specs.declared.kind.Kind.TheVariants.{Memory};
 
 use std::alloc::{AllocError, AllocFailed};
 
-/// Why something was refused. Each kind has a word that the program prints.
+/// Why something was refused. Each kind has a number, and a word that the program prints.
 #[derive(Clone, Copy, Debug, PartialEq, Eq)]
 pub enum Kind {
     /// The bytes are not JSON (RFC 8259), are not UTF-8, or nest too deep.
-    NotJson,
+    NotJson = 1,
     /// A value is of the wrong kind, a required field is missing, or a name is not a label name.
     Shape,
     /// An object has a field that its form does not have.
@@ -41,9 +41,9 @@ pub enum Kind {
     /// The text is not a token of this universe.
     BadToken,
     /// The token was made from other inputs.
-    OtherInputs,
+    OtherInputs = 21,
     /// Silences were given without an instant.
-    NeedAt,
+    NeedAt = 17,
     /// The writer failed, or took nothing.
     Write,
     /// Memory ran out.
@@ -51,12 +51,19 @@ pub enum Kind {
     /// A file could not be read.
     Read,
     /// The program could not find out which values of a label its matchers tell apart.
-    Unproved,
+    Unproved = 22,
     /// A label of a universe lacks a value that alerts may have.
     Incomplete,
 }
 
 impl Kind {
+    /// The number of the kind, 1 to 23.
+    pub fn number(self) -> u8
+        ensures number { result ≡ kind_number self }
+    {
+        self as u8
+    }
+
     /// The word for the kind that the program prints, as `not-json`.
     pub fn text(self) -> &'static str
         ensures text { result.now ≡ kind_text self }
