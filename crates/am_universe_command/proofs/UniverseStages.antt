@@ -1,5 +1,5 @@
 -- The stage of the first fault of making a universe, or of checking one.
-use Rattle.std.proofs.Common.{◌∷◌, List, inl, inr, sym, subst}
+use Rattle.std.proofs.Common.{ℕ, ◌∷◌, List, inl, inr, sym, subst}
 use Rattle.am_universe.specs.declared.place.Place.{Place}
 use Rattle.am_universe.proofs.ListLemmas.{IsIn}
 use Rattle.am_labels.specs.Space.{Space}
@@ -13,23 +13,24 @@ use Rattle.am_asked.specs.OriginPointer.{matcher_places}
 use Rattle.am_asked.proofs.MatcherPlaces.{origin_in}
 use Rattle.am_universe_command.specs.declared.universe_form.UniverseForm.{UniverseForm}
 use Rattle.am_universe_command.specs.UniverseInputs.{UniverseInputs, AcceptsUniverseInputs}
-use Rattle.am_universe_command.specs.UniverseInputs.{questions_stage}
+use Rattle.am_universe_command.specs.UniverseInputs.{HasListsIfAny, questions_stage}
 use Rattle.am_universe_command.specs.Universes.{IsMakingRefusal, RefusesMaking, universe_promise}
 
-making_in : (form : UniverseForm) (s : Space) (w : World) (questions : List Question)
-    (place : Place) (r : Refusal) → IsMakingRefusal form s w questions place r
-    → IsIn matcher_places place
-making_in form s w questions place r (inl full) = inl (sym full.0)
-making_in form s w questions place r (inr (inl unproved)) =
+making_in : (form : UniverseForm) (s : Space) (lists : List (List ℕ)) (w : World)
+    (questions : List Question) (place : Place) (r : Refusal)
+    → IsMakingRefusal form s lists w questions place r → IsIn matcher_places place
+making_in form s lists w questions place r (inl full) = inl (sym full.0)
+making_in form s lists w questions place r (inr (inl unproved)) =
     subst (IsIn matcher_places) (sym unproved.1.2) (origin_in unproved.1.0.first)
-making_in form s w questions place r (inr (inr long)) = inl (sym long.stands)
+making_in form s lists w questions place r (inr (inr long)) = inl (sym long.stands)
 
 -- no universe file is made
-pub making_refused : (inputs : UniverseInputs) (form : UniverseForm) (s : Space) (w : World)
-    (questions : List Question) (place : Place) (r : Refusal)
-    → AcceptsUniverseInputs inputs s w questions → IsMakingRefusal form s w questions place r
+pub making_refused : (inputs : UniverseInputs) (form : UniverseForm) (s : Space)
+    (lists : List (List ℕ)) (w : World) (questions : List Question) (place : Place) (r : Refusal)
+    → AcceptsUniverseInputs inputs s w questions → HasListsIfAny inputs.universe lists
+    → IsMakingRefusal form s lists w questions place r
     → IsFirstFaultOfCall (universe_promise inputs form).stages place r
-making_refused inputs form s w questions place r accepts refused =
+making_refused inputs form s lists w questions place r accepts has refused =
     let later = later_stages matcher_places (RefusesMaking inputs form) in
     inr (
       (s, accepts.says_universe),
@@ -38,7 +39,8 @@ making_refused inputs form s w questions place r accepts refused =
           accepts.accepts_files
           (inr (
             (w.config, accepts.accepts_files.says_config, questions, accepts.reads),
-            refused_later (RefusesMaking inputs form) place r (s, w, questions, accepts, refused)
-                matcher_places (making_in form s w questions place r refused),
+            refused_later (RefusesMaking inputs form) place r
+                (s, lists, w, questions, accepts, has, refused)
+                matcher_places (making_in form s lists w questions place r refused),
           )),
     )

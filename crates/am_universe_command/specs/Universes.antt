@@ -11,8 +11,7 @@ use Rattle.am_labels.specs.Matcher.{Matcher}
 use Rattle.am_labels.specs.Space.{Space, all_choices}
 use Rattle.am_json.specs.declared.limits.TheConstants.{MAX_FILE_BYTES}
 use Rattle.am_json.specs.Pointer.{Refusal, refusal_here}
-use Rattle.am_list_files.specs.UniverseFile.{FileSaysUniverse, AreTextsOfLists}
-use Rattle.am_list_files.specs.UniverseFile.{FileHasImpossibleTexts}
+use Rattle.am_list_files.specs.UniverseFile.{FileSaysUniverse, FileHasImpossibleTexts}
 use Rattle.am_eval.specs.World.{World}
 use Rattle.am_eval.specs.Question.{Question}
 use Rattle.am_files.specs.Faults.{later_stages}
@@ -64,7 +63,7 @@ deciding_labels routes w questions impossible =
 abbrev pub IsMadeFor : UniverseForm → Space → World → List Question → List Label → Type 0
 IsMadeFor form s w questions u =
     IsMadeBeside form.alphabet form.open s (deciding_labels form.routes w questions s.impossible)
-    (deciding_matchers form.routes w questions s.impossible) u
+    w.alerts (deciding_matchers form.routes w questions s.impossible) u
 
 -- The text is the one that is written for a universe that is made from a space, for a world and for
 -- questions. `lists` are the texts of the impossible lists of the space. As a file the text says
@@ -96,37 +95,37 @@ pub record MakesUniverse (inputs : UniverseInputs) (form : UniverseForm) (text :
 
 -- ---- Why no universe is made.
 
--- The file of the universe would have more bytes than a file may have. This is checked last.
+-- The file of the universe would have more bytes than a file may have. `lists` are the texts of the
+-- impossible lists of the space. This is checked last.
 -- Source: own choice.
 -- Example: this is so if a matcher of a question names a text of 20 megabytes.
-pub record TooLongFor (form : UniverseForm) (s : Space) (w : World) (questions : List Question)
-    (place : Place) (r : Refusal) : Type 0 where
+pub record TooLongFor (form : UniverseForm) (s : Space) (lists : List (List ℕ)) (w : World)
+    (questions : List Question) (place : Place) (r : Refusal) : Type 0 where
   pub stands : place ≡ places.Universe
   pub labels : List Label
   pub made : IsMadeFor form s w questions labels
-  pub texts : List (List ℕ)
-  pub of_lists : AreTextsOfLists texts s.impossible
-  pub long : MAX_FILE_BYTES < length (universe_text labels texts)
+  pub long : MAX_FILE_BYTES < length (universe_text labels lists)
   pub refusal : r ≡ refusal_here kinds.Limit
 
 -- No universe file is made for a world and questions, from a space: there is no room, a label is
 -- unproved and the universe may not be open, or the file is too long.
 -- Source: own choice.
 -- Example: if a label is unproved and there is no room for the others, it is the `limit`.
-abbrev pub IsMakingRefusal :
-    UniverseForm → Space → World → List Question → Place → Refusal → Type 0
-IsMakingRefusal form s w questions place r =
+abbrev pub IsMakingRefusal : UniverseForm → Space → List (List ℕ) → World → List Question → Place
+    → Refusal → Type 0
+IsMakingRefusal form s lists w questions place r =
     let asked = deciding_labels form.routes w questions s.impossible in
     NoRoomFor form.alphabet s asked place r
     ⊎ (((form.open ≡ false)
     × UnprovedFor form.alphabet s asked (λ l. origin_place l.first) place r)
-    ⊎ TooLongFor form s w questions place r)
+    ⊎ TooLongFor form s lists w questions place r)
 
 -- The inputs are accepted, and no universe file is made for what they say.
 abbrev pub RefusesMaking : UniverseInputs → UniverseForm → Place → Refusal → Type 0
 RefusesMaking inputs form place r =
-    (s : Space) × (w : World) × (questions : List Question)
-    × AcceptsUniverseInputs inputs s w questions × IsMakingRefusal form s w questions place r
+    (s : Space) × (lists : List (List ℕ)) × (w : World) × (questions : List Question)
+    × AcceptsUniverseInputs inputs s w questions × HasListsIfAny inputs.universe lists
+    × IsMakingRefusal form s lists w questions place r
 
 -- What `universe` owes.
 -- Source: own choice.

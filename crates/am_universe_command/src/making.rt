@@ -59,7 +59,7 @@ pub fn universe<W: Sink>(
 ) -> Result<(), Fault>
     // The file says a universe that keeps the given labels and values and, unless it is open, is
     // complete for the matchers that decide, with the same impossible lists. No value is added that
-    // is not needed.
+    // is not needed, or that may not stand for its class.
     ensures kept { IsKept (universe_promise inputs.now form)
         W.taken W.failures out.old out.new result }
 {
@@ -75,8 +75,9 @@ fn made_text(alloc: Global, read: &ReadInputs, form: UniverseForm) -> Result<Str
         (map string_bytes read.now.texts.items) read.now.world
         (map question_view read.now.questions.items) (string_bytes text)) }
     ensures refused { IfErr result (λ fault. fault.kind ≢ kinds.Memory
-        → IsMakingRefusal form read.now.space read.now.world
-        (map question_view read.now.questions.items) fault.place (refusal_of fault)) }
+        → IsMakingRefusal form read.now.space (map string_bytes read.now.texts.items)
+        read.now.world (map question_view read.now.questions.items) fault.place
+        (refusal_of fault)) }
 {
     let universe = made_universe(alloc, read, form)?;
     let Ok(text) = universe_text(alloc, &universe, read.texts.as_slice()) else {
@@ -93,8 +94,9 @@ fn made_universe(alloc: Global, read: &ReadInputs, form: UniverseForm) -> Result
     ensures made { IfOk result (IsMadeFor form read.now.space read.now.world
         (map question_view read.now.questions.items)) }
     ensures refused { IfErr result (λ fault. fault.kind ≢ kinds.Memory
-        → IsMakingRefusal form read.now.space read.now.world
-        (map question_view read.now.questions.items) fault.place (refusal_of fault)) }
+        → IsMakingRefusal form read.now.space (map string_bytes read.now.texts.items)
+        read.now.world (map question_view read.now.questions.items) fault.place
+        (refusal_of fault)) }
 {
     let world = &read.world;
     let Ok(equal) = equal_matchers_of(alloc, world) else {

@@ -35,8 +35,6 @@ returns-then-as_str-gt-MAX_FILE_BYTES-clause-refused c = λ remembered.
       stands = c.at.ensures.place (λ e. cc e) (λ e. cc e);
       labels = u;
       made = c.in_ok-universe.ensures.made;
-      texts = lists;
-      of_lists = c.requires;
       long = subst (λ (t : List ℕ). MAX_FILE_BYTES < length t)
           (c.as_str.ensures.value ∙ c.in-Ok.ensures.text
           ∙ ap (λ ts. universe_text u (map string_bytes ts)) c.as_slice.ensures.value)

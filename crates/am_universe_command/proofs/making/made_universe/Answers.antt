@@ -1,5 +1,5 @@
 -- What is made for the labels that are asked about, and the faults.
-use Rattle.std.proofs.Common.{◌≡◌, ◌≢◌, inl, inr, map, ◌∙◌}
+use Rattle.std.proofs.Common.{◌≡◌, ◌≢◌, inl, inr, map, string_bytes, ◌∙◌, subst}
 use Rattle.am_eval.specs.QuestionView.{question_view}
 use Rattle.am_json.specs.Reading.{refusal_of}
 use Rattle.am_universe.specs.declared.kind.Kind.TheVariants as kinds
@@ -7,6 +7,7 @@ use Rattle.am_files.proofs.FirstFaults.{handed_on}
 use Rattle.am_complete.specs.AskedLabel.{IsAskedOf}
 use Rattle.am_universe_command.specs.Universes.{deciding_matchers, deciding_labels}
 use Rattle.am_universe_command.specs.Universes.{IsMakingRefusal}
+use Rattle.am_asked.specs.Made.{IsMadeBeside}
 use Rattle.am_universe_command.proofs.AskedFacts.{lists_decide}
 use Rattle.am_universe_command.proofs.making.made_universe.Goals as goal
 use Rattle.am_universe_command.proofs.making.made_universe.Goals.{After-as_slice-labels}
@@ -35,8 +36,9 @@ pub returns-in_err-found-clause-refused : goal.returns-in_err-found-clause-refus
 returns-in_err-found-clause-refused c =
     let read = c.args.read.now in
     let at = (goal.at.returns-in_err-found-clause-refused c).After-as_slice-labels in
-    handed_on (λ f. f.kind ≢ kinds.Memory → IsMakingRefusal c.args.form read.space read.world
-    (map question_view read.questions.items) f.place (refusal_of f)) c.in_err-found.field-0.0
+    handed_on (λ f. f.kind ≢ kinds.Memory → IsMakingRefusal c.args.form read.space
+    (map string_bytes read.texts.items) read.world (map question_view read.questions.items) f.place
+    (refusal_of f)) c.in_err-found.field-0.0
     c.from_residual.result c.from_residual.ensures.1
     (λ remembered. inl (rw (are_asked at) at (c.in_err-found.ensures.refused remembered)))
 
@@ -54,6 +56,9 @@ pub returns-in-Ok-found-clause-made : goal.returns-in-Ok-found-clause-made
 returns-in-Ok-found-clause-made c =
     let read = c.args.read.now in
     let at = (goal.at.returns-in-Ok-found-clause-made c).After-as_slice-labels in
-    rw (are_asked at) at ((rw c.in-Ok-found.is at c.in_ok-found.ensures.made)
-    (deciding_matchers c.args.form.routes read.world (map question_view read.questions.items)
-    read.space.impossible) (is_asked at))
+    let questions = map question_view read.questions.items in
+    let ms = deciding_matchers c.args.form.routes read.world questions read.space.impossible in
+    subst (λ alerts. IsMadeBeside c.args.form.alphabet c.args.form.open read.space
+    (deciding_labels c.args.form.routes read.world questions read.space.impossible) alerts ms
+    c.in-Ok-found.universe) c.alerts.ensures.alerts
+    (rw (are_asked at) at ((rw c.in-Ok-found.is at c.in_ok-found.ensures.made) ms (is_asked at)))

@@ -31,9 +31,10 @@ returns-in_err-text g c =
     record {
       kept = refused (universe_promise inputs c.args.form) fault
           c.from_residual-in_err-text.result refl c.from_residual-in_err-text.ensures.1
-          (λ remembered. making_refused inputs c.args.form read.space read.world
-          (map question_view read.questions.items) fault.place (refusal_of fault)
-          c.in_ok-read.ensures.accepts (c.in_err-text.ensures.refused remembered));
+          (λ remembered. making_refused inputs c.args.form read.space
+          (map string_bytes read.texts.items) read.world (map question_view read.questions.items)
+          fault.place (refusal_of fault) c.in_ok-read.ensures.accepts c.in_ok-read.ensures.lists
+          (c.in_err-text.ensures.refused remembered));
     }
 
 pub returns : goal.returns
