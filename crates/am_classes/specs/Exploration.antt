@@ -68,7 +68,7 @@ byte_at place =
 -- No text leads out of what is listed, from the states before position `at`.
 -- Source: own choice; the term is that of finite automata, whose states are closed under steps.
 -- Example: over Unicode, if nothing is asked about a text, a list with one state for each tail is
--- closed.
+-- closed, whatever the position is.
 pub record IsClosed (q : Questions) (listed : List ReachedState) (at : ℕ) : Type 0 where
   pub first : HasState q listed 0 []
   pub leads : (k byte : ℕ) (item : ReachedState) → k < at → slice_get listed k ≡ Some item
