@@ -19,7 +19,7 @@ use Rattle.am_labels.proofs.Passing.{any_in, in_any, passes_from_kept, kept_from
 use Rattle.am_classes.specs.Alike.{HasOtherPattern}
 use Rattle.am_classes.specs.declared.alphabet.Alphabet.{Alphabet}
 use Rattle.am_classes.specs.Alphabet.{is_over}
-use Rattle.am_classes.specs.Alternation.{is_alternation}
+use Rattle.am_labels.specs.Wildcards.{is_alternation}
 use Rattle.am_classes.specs.Named.{AreEachOnce, names_with, text_with, alternatives_with}
 use Rattle.am_classes.specs.Named.{names_texts, text_of, alternatives_of, named_by, named_over}
 use Rattle.am_classes.specs.Named.{other_pattern, other_patterns}

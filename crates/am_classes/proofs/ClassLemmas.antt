@@ -37,7 +37,7 @@ use Rattle.am_classes.specs.ClassTexts.{IsClassText, IsShortest, Names, others}
 use Rattle.am_classes.specs.Truths.{AreNewIn}
 use Rattle.am_classes.specs.declared.limits.TheConstants.{MAX_SAMPLE_NUMBERS}
 use Rattle.am_classes.proofs.AlikeLemmas.{alike_turned}
-use Rattle.am_classes.proofs.AlternationMatches.{finds_alternatives}
+use Rattle.am_labels.proofs.WildcardMatches.{finds_alternatives}
 use Rattle.am_classes.proofs.AskedLemmas.{among_cases, has_other, named_in, named_from}
 use Rattle.am_classes.proofs.AskedLemmas.{other_in, other_from}
 use Rattle.am_classes.proofs.AutomataLemmas.{get_under}

@@ -1,6 +1,4 @@
 pub mod BoolLemmas
-mod AlternationReading
-pub mod AlternationMatches
 pub mod TailLemmas
 pub mod OverLemmas
 pub mod Utf8Lemmas

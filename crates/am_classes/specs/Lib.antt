@@ -1,5 +1,4 @@
 pub mod Alphabet
-pub mod Alternation
 pub mod Alike
 pub mod Utf8
 pub mod Automata

@@ -7,7 +7,7 @@ use Rattle.am_labels.specs.declared.op.Comparison.TheVariants.{Text, Pattern}
 use Rattle.am_labels.specs.Matcher.{Matcher, comparison}
 use Rattle.am_classes.specs.declared.alphabet.Alphabet.{Alphabet}
 use Rattle.am_classes.specs.Alphabet.{is_over}
-use Rattle.am_classes.specs.Alternation.{is_alternation, alternatives}
+use Rattle.am_labels.specs.Wildcards.{is_alternation, alternatives}
 
 -- A comparison with a value names texts: the value is a text, or it is a pattern that is an
 -- alternation of plain texts.

@@ -7,12 +7,11 @@ ghost use Rattle.std.specs.Prelude.{◌≡◌, ◌↔◌, ◌∷◌, ◌++◌, [
 ghost use Rattle.std.specs.Prelude.{map, slice_get, string_bytes};
 ghost use Rattle.std.specs.List.{filter, flat_map};
 ghost use Rattle.am_classes.specs.Alphabet.{is_over};
-ghost use Rattle.am_classes.specs.Alternation.{is_alternation, is_plain};
 ghost use Rattle.am_classes.specs.Named.{AreEachOnce, names_texts, named_over};
 ghost use Rattle.am_classes.specs.Named.{alternatives_of, other_patterns, text_of};
 
 use crate::Alphabet;
-use am_labels::{Comparison, Matcher};
+use am_labels::{Comparison, Matcher, is_alternation};
 use std::alloc::{AllocError, Global};
 
 /// Returns the texts over an alphabet that matchers name, each once: first those that they compare
@@ -97,23 +96,6 @@ fn names_texts(matcher: &Matcher) -> bool
         Comparison::Text => true,
         Comparison::Pattern => is_alternation(matcher.value()),
     }
-}
-
-/// Whether a pattern is an alternation of plain texts.
-fn is_alternation(pattern: &str) -> bool
-    ensures { result ≡ is_alternation pattern.now }
-{
-    pattern
-        .as_bytes()
-        .iter()
-        .all(|byte| *byte == b'|' || is_plain(*byte))
-}
-
-/// Whether a byte is a character that stands for itself in a pattern.
-fn is_plain(byte: u8) -> bool
-    ensures { result ≡ is_plain byte }
-{
-    byte.is_ascii() && !b"\\.+*?()|[]{}^$".contains(&byte)
 }
 
 /// Adds those of some texts that are over an alphabet and not there yet.

@@ -15,3 +15,5 @@ pub mod RowLawLemmas
 pub mod Passing
 pub mod OperatorLemmas
 pub mod SpaceLaws
+pub mod WildcardReading
+pub mod WildcardMatches

@@ -27,6 +27,11 @@ mod pattern_profile;
 pub use op::{Comparison, Op};
 pub use pattern::compile_pattern;
 
+// Patterns whose meaning needs no grammar.
+mod wildcards;
+
+pub use wildcards::{WildcardPiece, is_alternation, is_wildcards, wildcard_alternatives};
+
 // A matcher, a list of them, and the test of one label set after another.
 mod matcher;
 mod matchers;

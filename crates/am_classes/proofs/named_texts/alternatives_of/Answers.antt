@@ -5,7 +5,7 @@ use Rattle.std.proofs.lemmas.Result.{IfOk-weaker}
 use Rattle.am_labels.specs.declared.op.Comparison.{Comparison}
 use Rattle.am_labels.specs.declared.op.Comparison.TheVariants.{Text, Pattern}
 use Rattle.am_labels.specs.Matcher.{comparison}
-use Rattle.am_classes.specs.Alternation.{alternatives, is_alternation}
+use Rattle.am_labels.specs.Wildcards.{alternatives, is_alternation}
 use Rattle.am_classes.specs.Named.{alternatives_with}
 use Rattle.am_classes.proofs.named_texts.alternatives_of.Goals as goal
 

@@ -18,7 +18,7 @@ use Rattle.regex_syntax.specs.Verdict.{default_config}
 use Rattle.regex_syntax.proofs.BranchLemmas.{repetitions_end}
 use Rattle.regex_syntax.proofs.ReadingLemmas.{skip-false}
 use Rattle.regex_syntax.proofs.Written.{grammar}
-use Rattle.am_classes.specs.Alternation.{is_plain}
+use Rattle.am_labels.specs.Wildcards.{is_plain}
 
 -- A place with the default options, where no group was opened.
 abbrev at_text : Text → Place

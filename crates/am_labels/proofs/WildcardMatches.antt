@@ -31,9 +31,8 @@ use Rattle.am_universe.specs.Text.{same_text}
 use Rattle.am_universe.proofs.ListLemmas.{IsIn}
 use Rattle.am_labels.specs.Pattern.{pattern_reading, anchored_pattern, finds}
 use Rattle.am_labels.proofs.Passing.{any_in, in_any}
-use Rattle.am_scan.proofs.Places.{get_within}
-use Rattle.am_classes.specs.Alternation.{is_plain, is_alternation, alternatives}
-use Rattle.am_classes.proofs.AlternationReading.{word, one_of_words, anchored, anchored_read}
+use Rattle.am_labels.specs.Wildcards.{is_plain, is_alternation, alternatives}
+use Rattle.am_labels.proofs.WildcardReading.{word, one_of_words, anchored, anchored_read}
 
 -- ---- What the tree matches.
 
@@ -81,9 +80,13 @@ unfolding holds holds_between byte_before
 at_start hay zero h e = refl
 at_start hay (suc i) h e =
     let next : suc i ≡ i + 1 = omega arith in
-    let there = get_within hay i (omega (arith, h)) in
-    absurd (both_ways (not (is_some (byte_before hay (suc i))))
-    (ap (λ o. not (is_some o)) (ap (byte_before hay) next ∙ byte_before-add-one hay i ∙ there.1)) e)
+    elim (slice_get_cases hay i).1 [
+      | inl there ↦
+          absurd (both_ways (not (is_some (byte_before hay (suc i))))
+          (ap (λ o. not (is_some o)) (ap (byte_before hay) next ∙ byte_before-add-one hay i ∙ there.2))
+          e)
+      | inr past ↦ absurd (omega (arith, h, past.0))
+    ]
 
 at_end : (hay : List ℕ) (i : ℕ) → holds End hay i ≡ true → drop i hay ≡ []
 unfolding holds holds_between
