@@ -3,6 +3,7 @@
 //! What such a pattern finds can be said without the grammar of patterns, and without an engine.
 
 ghost use Rattle.std.specs.Prelude.{◌≡◌, IfOk, map};
+ghost use Rattle.std.specs.List.{list_all};
 ghost use Rattle.am_labels.specs.Wildcards.{alternatives, is_alternation, is_fine_piece, is_plain};
 ghost use Rattle.am_labels.specs.Wildcards.{is_wildcards, pieces_of};
 
@@ -38,12 +39,15 @@ fn is_plain(byte: u8) -> bool
 pub fn is_wildcards(alloc: Global, pattern: &str) -> Result<bool, AllocError>
     ensures { IfOk result (λ is. is ≡ is_wildcards pattern.now) }
 {
-    for alternative in wildcard_alternatives(alloc, pattern)? {
-        if !alternative.iter().all(|piece| is_fine_piece(*piece)) {
-            return Ok(false);
-        }
-    }
-    Ok(true)
+    let alternatives = wildcard_alternatives(alloc, pattern)?;
+    Ok(alternatives.iter().all(|pieces| are_fine_pieces(pieces)))
+}
+
+/// Whether each piece is `.*`, or a character that stands for itself.
+fn are_fine_pieces(pieces: &[WildcardPiece]) -> bool
+    ensures { result ≡ list_all is_fine_piece pieces.now }
+{
+    pieces.iter().all(|piece| is_fine_piece(*piece))
 }
 
 /// Whether a piece is `.*`, or a character that stands for itself.
