@@ -1,15 +1,17 @@
--- An alternation of plain texts finds exactly these texts.
-use Rattle.std.proofs.Common.{◌≡◌, ℕ, zero, suc, ◌+◌, ◌≤◌, true, not, cond, ◌||◌, ◌==◌}
-use Rattle.std.proofs.Common.{List, [], ◌∷◌, ◌++◌, length, drop, Some, None, is_some, slice_get}
-use Rattle.std.proofs.Common.{if◌then◌else◌, inl, inr, refl, sym, ap, ◌∙◌, subst, arith, codes}
+-- A pattern that has wildcards alone finds what its pieces match.
+use Rattle.std.proofs.Common.{◌≡◌, ◌≢◌, ℕ, zero, suc, ◌+◌, ◌<◌, ◌≤◌, Bool, true, not, cond, ◌&&◌, ◌||◌, ◌==◌, ◌⊎◌}
+use Rattle.std.proofs.Common.{List, [], ◌∷◌, ◌++◌, length, drop, get_or, map, Some, None, is_some, slice_get}
+use Rattle.std.proofs.Common.{if◌then◌else◌, inl, inr, refl, sym, ap, ap₂, ◌∙◌, subst, arith, codes}
 use Rattle.std.proofs.Common.{append-nil, length-drop, option_map}
-use Rattle.std.specs.Str.{chars}
-use Rattle.std.specs.Char.{is_ascii}
+use Rattle.std.specs.Prelude.{nat_le, encode_utf8, encode_utf8_all}
+use Rattle.std.specs.Str.{chars, IsUtf8, IsAscii, all_scalars}
+use Rattle.std.specs.Char.{is_ascii, IsScalar, len_utf8}
 use Rattle.std.specs.List.{list_all, list_any, join_with_byte, onto_first}
-use Rattle.std.proofs.lemmas.Bool.{and_parts, both_ways, ltb-true, cases_Bool, eqb-true, and_from, false_from_ne_true}
-use Rattle.std.proofs.lemmas.Bool.Decides.{nat_tests}
+use Rattle.std.proofs.lemmas.Bool.{and_parts, both_ways, ltb-true, cases_Bool, cases_lt, eqb-true, eqb-false, eq-eqb, ne_eqb, and_from, or_left, or_right, or_cases, not-true, not_from_false, lt-ltb, le-leb}
+use Rattle.std.proofs.lemmas.Bool.Decides.{nat_tests, same_from_decides}
+use Rattle.std.proofs.lemmas.Str.{encode_ascii, inside_one, drop_past_char, IsUtf8-past_char, IsUtf8-nil, IsUtf8-from_ascii, chars-IsAscii, IsCharBoundary-start}
 use Rattle.std.proofs.lemmas.List.{drop-drop, nil_from_length}
-use Rattle.std.proofs.lemmas.List.Folds.{list_all-append}
+use Rattle.std.proofs.lemmas.List.Folds.{list_all-append, list_all-map}
 use Rattle.std.proofs.lemmas.List.Splits.{join_with_byte-slice_split, length-slice_split}
 use Rattle.std.proofs.lemmas.Option.{slice_get_past, slice_get_cases}
 use Rattle.std.proofs.lemmas.Slice.Eq.{bytes_eq-Decides}
@@ -20,58 +22,201 @@ use Rattle.regex_hir.specs.Looks.{holds, holds_between}
 use Rattle.regex_hir.specs.declared.look.Look.TheVariants.{Start, End}
 use Rattle.regex_hir.specs.Re.{Rest, byte_in, accept, attempt}
 use Rattle.regex_hir.specs.Find.{find_str}
-use Rattle.regex_hir.specs.Matches.{Matches}
-use Rattle.regex_hir.proofs.TextLemmas.{has_bytes_at_parts, has_bytes_at_from, byte_before-add-one}
+use Rattle.regex_hir.specs.Matches.{Matches, Rounds, one_round, next_round}
+use Rattle.regex_hir.proofs.TextLemmas.{has_bytes_at_parts, has_bytes_at_from, byte_before-add-one, char_at_parts, char_at_from}
 use Rattle.regex_hir.proofs.OptionLemmas.{value_of_IsSome}
 use Rattle.regex_hir.proofs.AttemptLemmas.{attempt_sound, attempt_complete, cond_some}
 use Rattle.regex_hir.proofs.FindLemmas.{IsFirst-of_first_between, first_between_here}
+use Rattle.regex_syntax.specs.Sets.{members}
+use Rattle.regex_syntax.proofs.SetLemmas.{in_ranges-members}
 use Rattle.regex_syntax.specs.Verdict.{default_config}
 use Rattle.regex_syntax.specs.Grammar.{read}
+use Rattle.am_labels.specs.declared.wildcards.WildcardPiece.{WildcardPiece}
+use Rattle.am_labels.specs.declared.wildcards.WildcardPiece.TheVariants.{Byte, AnyText}
+use Rattle.am_labels.specs.Wildcards.{is_plain, is_fine_piece, is_nothing, after_any, matches, pieces_of, alternatives, is_alternation, is_wildcards, wildcards_find}
 use Rattle.am_universe.specs.Text.{same_text}
-use Rattle.am_universe.proofs.ListLemmas.{IsIn}
+use Rattle.am_universe.proofs.UniverseLemmas.{list_any-map}
 use Rattle.am_labels.specs.Pattern.{pattern_reading, anchored_pattern, finds}
-use Rattle.am_labels.proofs.Passing.{any_in, in_any}
-use Rattle.am_labels.specs.Wildcards.{is_plain, is_alternation, alternatives}
-use Rattle.am_labels.proofs.WildcardReading.{word, one_of_words, anchored, anchored_read}
+use Rattle.am_labels.proofs.WildcardReading.{any_char, all_of, one_of_all, anchored, anchored_read, spelled, differs}
 
--- ---- What the tree matches.
+-- ---- A tree that matches up to the end of a text.
 
--- A text matches where it stands, and there alone.
-word_parts : (hay w : List ℕ) (i j : ℕ) → Matches hay (word w).value i j
-    → (drop i hay ≡ w ++ drop j hay) × (j ≡ i + length w)
-word_parts hay [] i j e = (ap (λ n. drop n hay) (sym e), omega (arith, e))
-word_parts hay (c ∷ w) i j m =
-    let more = word_parts hay w m.0 j m.2 in (
-      has_bytes_at_parts hay i (c ∷ []) m.1.0
-          ∙ ap (λ n. c ∷ drop n hay) (sym m.1.1) ∙ ap (λ t. c ∷ t) more.0,
-      omega (arith, m.1.1, more.1),
-    )
+-- What `.*` matches begins at a text that the rest matches, or at bytes without a line feed.
+any_here : (rest : List ℕ → Bool) (t : List ℕ) → rest t ≡ true → after_any rest t ≡ true
+any_here rest [] h = h
+any_here rest (b ∷ t) h = or_left (rest (b ∷ t)) _ h
 
-word_at : (hay w rest : List ℕ) (i : ℕ) → drop i hay ≡ w ++ rest
-    → Matches hay (word w).value i (i + length w)
-word_at hay [] rest i e = omega arith
-word_at hay (c ∷ w) rest i e =
-    let next : i + 1 + length w ≡ i + length (c ∷ w) = omega arith in (
-      i + 1,
-      (has_bytes_at_from hay i (c ∷ []) (w ++ rest) e, refl),
-      subst (λ j. Matches hay (word w).value (i + 1) j) next
-          (word_at hay w rest (i + 1) (sym (drop-drop 1 i hay) ∙ ap (drop 1) e)),
-    )
+any_past : (rest : List ℕ → Bool) (bs t : List ℕ)
+    → ((k : ℕ) → k < length bs → get_or bs k 0 ≢ 10)
+    → after_any rest t ≡ true → after_any rest (bs ++ t) ≡ true
+any_past rest [] t other h = h
+any_past rest (b ∷ bs) t other h =
+    let own = not_from_false (b == 10) (ne_eqb b 10 (other 0 (omega arith))) in
+    let later = any_past rest bs t (λ k l. other (suc k) (omega arith)) h in
+    or_right (rest (b ∷ (bs ++ t))) _ (and_from _ _ own later)
+
+-- The dot matches a character that is no line feed.
+dot_other : (c : ℕ) → in_ranges (members (λ d. nat_le d 0x10_FFFF && not (d == 10))) c ≡ true → c ≢ 10
+dot_other c h =
+    let parts = and_parts _ _ (sym (in_ranges-members _ c) ∙ h) in
+    eqb-false c 10 (not-true _ (and_parts (nat_le c 0x10_FFFF) _ parts.1).1)
+
+char_past : (hay : List ℕ) (rest : List ℕ → Bool) (i j : ℕ) → Matches hay any_char i j
+    → after_any rest (drop j hay) ≡ true → after_any rest (drop i hay) ≡ true
+char_past hay rest i j m h =
+    let bs = encode_utf8 m.0 in
+    let other : (k : ℕ) → k < length bs → get_or bs k 0 ≢ 10 =
+    λ k l ten. dot_other m.0 m.2
+    (inside_one m.0 [] bs k (sym (append-nil bs)) l (omega (arith, ten)) ∙ ten) in
+    rw (char_at_parts hay i m.0 m.1).1
+    (any_past rest bs _ other (subst (λ n. after_any rest (drop n hay) ≡ true) m.3 h))
+
+rounds_past : (hay : List ℕ) (rest : List ℕ → Bool) (i j : ℕ) → Rounds (Matches hay any_char) i j
+    → after_any rest (drop j hay) ≡ true → after_any rest (drop i hay) ≡ true
+rounds_past hay rest i j (one_round _ m) h = char_past hay rest i j m h
+rounds_past hay rest i j (next_round l _ ms m) h = rounds_past hay rest i l ms (char_past hay rest l j m h)
+
+all_sound : (hay : List ℕ) (ps : List WildcardPiece) (i j : ℕ) → Matches hay (all_of ps).value i j
+    → drop j hay ≡ [] → matches ps (drop i hay) ≡ true
+all_sound hay [] i j m none = ap (λ n. is_nothing (drop n hay)) (sym m) ∙ ap is_nothing none
+all_sound hay (Byte c ∷ ps) i j m none =
+    let rest = all_sound hay ps m.0 j m.2 none in
+    rw (has_bytes_at_parts hay i (c ∷ []) m.1.0)
+    (and_from _ _ (eq-eqb c c refl) (subst (λ n. matches ps (drop n hay) ≡ true) m.1.1 rest))
+all_sound hay (AnyText ∷ ps) i j m none =
+    let rest = all_sound hay ps m.0 j m.2 none in
+    elim m.1 [
+      | inl rounds ↦ rounds_past hay (matches ps) i m.0 rounds (any_here (matches ps) _ rest)
+      | inr e ↦ any_here (matches ps) _ (subst (λ n. matches ps (drop n hay) ≡ true) e rest)
+    ]
 
 no_byte : {X : Type 0} (hay : List ℕ) (i j : ℕ) → Matches hay (byte_in []) i j → X
 no_byte hay i j m = absurd (both_ways (in_ranges [] m.0) (in_ranges-nil m.0) m.2)
 
-one_parts : (hay : List ℕ) (ws : List (List ℕ)) (i j : ℕ) → Matches hay (one_of_words ws) i j
-    → (w : List ℕ) × IsIn ws w × Matches hay (word w).value i j
-one_parts hay [] i j m = no_byte hay i j m
-one_parts hay (w ∷ ws) i j (inl m) = (w, inl refl, m)
-one_parts hay (w ∷ ws) i j (inr m) = let later = one_parts hay ws i j m in (later.0, inr later.1, later.2)
+one_sound : (hay : List ℕ) (pss : List (List WildcardPiece)) (i j : ℕ)
+    → Matches hay (one_of_all pss) i j → drop j hay ≡ []
+    → list_any (λ ps. matches ps (drop i hay)) pss ≡ true
+one_sound hay [] i j m none = no_byte hay i j m
+one_sound hay (ps ∷ pss) i j (inl m) none = or_left _ _ (all_sound hay ps i j m none)
+one_sound hay (ps ∷ pss) i j (inr m) none =
+    or_right (matches ps (drop i hay)) _ (one_sound hay pss i j m none)
 
-one_at : (hay : List ℕ) (ws : List (List ℕ)) (w : List ℕ) (i j : ℕ) → IsIn ws w
-    → Matches hay (word w).value i j → Matches hay (one_of_words ws) i j
-one_at hay [] w i j h m = absurd h
-one_at hay (v ∷ ws) w i j (inl same) m = inl (subst (λ x. Matches hay (word x).value i j) (sym same) m)
-one_at hay (v ∷ ws) w i j (inr h) m = inr (one_at hay ws w i j h m)
+-- ---- A text that pieces match.
+
+-- No piece but `.*` begins inside a character.
+high_past : (ps : List WildcardPiece) (b : ℕ) (t : List ℕ) → list_all is_fine_piece ps ≡ true
+    → 128 ≤ b → matches ps (b ∷ t) ≡ true → matches ps t ≡ true
+high_past [] b t fine high h = absurd (cc)
+high_past (Byte c ∷ ps) b t fine high h =
+    let small = and_parts (is_ascii c) _ (and_parts (is_plain c) _ fine).0 in
+    absurd (omega (arith, ltb-true c 128 small.0, eqb-true c b (and_parts _ _ h).0))
+high_past (AnyText ∷ ps) b t fine high h = elim (or_cases (matches ps (b ∷ t)) _ h) [
+  | inl e ↦ any_here (matches ps) t (high_past ps b t fine high e)
+  | inr e ↦ (and_parts _ _ e).1
+]
+
+all_high_past : (ps : List WildcardPiece) (bs t : List ℕ) → list_all is_fine_piece ps ≡ true
+    → ((k : ℕ) → k < length bs → 128 ≤ get_or bs k 0)
+    → matches ps (bs ++ t) ≡ true → matches ps t ≡ true
+all_high_past ps [] t fine high h = h
+all_high_past ps (b ∷ bs) t fine high h =
+    all_high_past ps bs t fine (λ k l. high (suc k) (omega arith))
+    (high_past ps b (bs ++ t) fine (high 0 (omega arith)) h)
+
+-- At a character, the rest matches, or the character is no line feed and the rest matches behind.
+char_cases : (ps : List WildcardPiece) (c : ℕ) (t : List ℕ) → list_all is_fine_piece ps ≡ true
+    → after_any (matches ps) (encode_utf8 c ++ t) ≡ true
+    → (matches ps (encode_utf8 c ++ t) ≡ true)
+    ⊎ ((c ≢ 10) × (after_any (matches ps) t ≡ true))
+char_cases ps c t fine h = elim (cases_lt c 128) [
+  | inl small ↦
+      let e = ap (λ bs. bs ++ t) (encode_ascii c small) in
+      elim (or_cases (matches ps (c ∷ t)) _ (rw e at h)) [
+        | inl now ↦ inl (ap (matches ps) e ∙ now)
+        | inr later ↦
+            let parts = and_parts _ _ later in
+            inr (eqb-false c 10 (not-true _ parts.0), parts.1)
+      ]
+  | inr large ↦
+      let bs = encode_utf8 c in
+      let high : (k : ℕ) → k < length bs → 128 ≤ get_or bs k 0 =
+      λ k l. elim (cases_lt (get_or bs k 0) 128) [
+        | inl small ↦ absurd (omega (arith, inside_one c [] bs k (sym (append-nil bs)) l small))
+        | inr is ↦ is
+      ] in
+      inr (λ ten. omega (arith, ten), all_high_past (AnyText ∷ ps) bs t fine high h)
+]
+
+-- Pieces lead from a place to the end of a text.
+abbrev LeadsToEnd : List ℕ → List WildcardPiece → ℕ → Type 0
+LeadsToEnd hay ps i = (j : ℕ) × Matches hay (all_of ps).value i j × (drop j hay ≡ [])
+
+first_round : (R : ℕ → ℕ → Type 0) (i l j : ℕ) → R i l → Rounds R l j → Rounds R i j
+first_round R i l j r (one_round _ s) = next_round l j (one_round l r) s
+first_round R i l j r (next_round m _ rs s) = next_round m j (first_round R i l m r rs) s
+
+dot_in : (c : ℕ) → IsScalar c → c ≢ 10
+    → in_ranges (members (λ d. nat_le d 0x10_FFFF && not (d == 10))) c ≡ true
+dot_in c scalar other =
+    let within : c ≤ 0x10_FFFF = grind (arith, nat_tests) in
+    in_ranges-members _ c ∙ and_from _ _ (lt-ltb c 0x11_0000 (omega arith))
+    (and_from _ _ (le-leb c 0x10_FFFF within) (not_from_false _ (ne_eqb c 10 other)))
+
+any_leads : (hay : List ℕ) (ps : List WildcardPiece) (cs : List ℕ) (i : ℕ)
+    → list_all is_fine_piece ps ≡ true
+    → ((i : ℕ) (t : List ℕ) → drop i hay ≡ t → IsUtf8 t → matches ps t ≡ true → LeadsToEnd hay ps i)
+    → drop i hay ≡ encode_utf8_all cs → all_scalars cs ≡ true
+    → after_any (matches ps) (encode_utf8_all cs) ≡ true → LeadsToEnd hay (AnyText ∷ ps) i
+any_leads hay ps [] i fine rest e scalars h =
+    let now = rest i [] e IsUtf8-nil h in (now.0, (i, inr refl, now.1), now.2)
+any_leads hay ps (c ∷ cs) i fine rest e scalars h =
+    let t = encode_utf8_all cs in
+    let own = and_parts _ _ scalars in
+    elim (char_cases ps c t fine h) [
+      | inl is ↦
+          let now = rest i _ e (c ∷ cs, (scalars, refl)) is in
+          (now.0, (i, inr refl, now.1), now.2)
+      | inr more ↦
+          let k = i + len_utf8 c in
+          let behind = drop_past_char hay t i c e in
+          let later = any_leads hay ps cs k fine rest behind own.1 more.1 in
+          let one : Matches hay any_char i k =
+          (c, char_at_from hay i c t own.0 e, dot_in c own.0 more.0, refl) in
+          let rounds : Rounds (Matches hay any_char) i later.1.0 = elim later.1.1 [
+            | inl rs ↦ first_round (Matches hay any_char) i k _ one rs
+            | inr none ↦ subst (Rounds (Matches hay any_char) i) (sym none) (one_round k one)
+          ] in
+          (later.0, (later.1.0, inl rounds, later.1.2), later.2)
+    ]
+
+all_lead : (hay : List ℕ) (ps : List WildcardPiece) (i : ℕ) (t : List ℕ)
+    → list_all is_fine_piece ps ≡ true → drop i hay ≡ t → IsUtf8 t → matches ps t ≡ true
+    → LeadsToEnd hay ps i
+all_lead hay [] i [] fine e utf8 h = (i, refl, e)
+all_lead hay [] i (b ∷ t) fine e utf8 h = absurd (cc)
+all_lead hay (Byte c ∷ ps) i [] fine e utf8 h = absurd (cc)
+all_lead hay (Byte c ∷ ps) i (b ∷ t) fine e utf8 h =
+    let own = and_parts (is_plain c) _ fine in
+    let same = and_parts (c == b) _ h in
+    let is : b ∷ t ≡ c ∷ t = ap (λ x. x ∷ t) (sym (eqb-true c b same.0)) in
+    let small = ltb-true c 128 (and_parts (is_ascii c) _ own.0).0 in
+    let behind = IsUtf8-past_char (b ∷ t) t c utf8 (is ∙ ap (λ bs. bs ++ t) (sym (encode_ascii c small))) in
+    let later = all_lead hay ps (i + 1) t own.1 (sym (drop-drop 1 i hay) ∙ ap (drop 1) e) behind same.1 in
+    (later.0, (i + 1, (has_bytes_at_from hay i (c ∷ []) t (e ∙ is), refl), later.1), later.2)
+all_lead hay (AnyText ∷ ps) i t fine e utf8 h =
+    any_leads hay ps utf8.0 i fine (λ k u. all_lead hay ps k u fine) (e ∙ sym utf8.1.1) utf8.1.0
+    (ap (after_any (matches ps)) utf8.1.1 ∙ h)
+
+one_leads : (hay : List ℕ) (pss : List (List WildcardPiece)) → list_all (list_all is_fine_piece) pss ≡ true
+    → IsUtf8 hay → list_any (λ ps. matches ps hay) pss ≡ true
+    → (j : ℕ) × Matches hay (one_of_all pss) 0 j × (drop j hay ≡ [])
+one_leads hay [] fine utf8 h = absurd (cc)
+one_leads hay (ps ∷ pss) fine utf8 h =
+    let parts = and_parts _ _ fine in
+    elim (or_cases (matches ps hay) _ h) [
+      | inl is ↦ let now = all_lead hay ps 0 hay parts.0 refl utf8 is in (now.0, inl now.1, now.2)
+      | inr more ↦ let later = one_leads hay pss parts.1 utf8 more in (later.0, inr later.1, later.2)
+    ]
 
 -- ---- The anchors.
 
@@ -100,133 +245,182 @@ starts : (hay : List ℕ) → holds Start hay 0 ≡ true
 unfolding holds holds_between byte_before
 starts hay = refl
 
-ends : (hay : List ℕ) → holds End hay (length hay) ≡ true
+ends : (hay : List ℕ) (j : ℕ) → drop j hay ≡ [] → holds End hay j ≡ true
 unfolding holds holds_between
-ends hay = ap (λ o. not (is_some o)) (slice_get_past hay (length hay) (omega arith))
-
--- What the anchored texts match is one of them.
-whole_parts : (hay : List ℕ) (ws : List (List ℕ)) (i j : ℕ) → i ≤ length hay
-    → Matches hay (anchored ws) i j → IsIn ws hay
-whole_parts hay ws i j h (inr none) = no_byte hay i j none
-whole_parts hay ws i j h (inl m) =
-    let zero_is = at_start hay i h m.1.0 in
-    let one = one_parts hay ws m.0 m.2.0 m.2.1 in
-    let parts = word_parts hay one.0 m.0 m.2.0 one.2 in
-    let none = at_end hay m.2.0 m.2.2.1.0 in
-    let first : m.0 ≡ 0 = m.1.1 ∙ zero_is in
-    let same : hay ≡ one.0 =
-    ap (λ n. drop n hay) (sym first) ∙ parts.0 ∙ ap (λ t. one.0 ++ t) none ∙ append-nil one.0 in
-    subst (IsIn ws) (sym same) one.1
-
-whole_at : (hay : List ℕ) (ws : List (List ℕ)) → IsIn ws hay → Matches hay (anchored ws) 0 (length hay)
-whole_at hay ws h =
-    let n = length hay in
-    let behind : 0 + n ≡ n = omega arith in
-    let whole = subst (λ j. Matches hay (word hay).value 0 j) behind
-    (word_at hay hay [] 0 (sym (append-nil hay))) in
-    inl (
-      0,
-      (starts hay, refl),
-      (n, one_at hay ws hay 0 n h whole, (n, (ends hay, refl), refl)),
-    )
+ends hay j none =
+    ap (λ o. not (is_some o)) (slice_get_past hay j (omega (arith, length-drop j hay, ap length none)))
 
 -- ---- The search.
 
-plain_boundary : (hay : List ℕ) → list_all is_plain hay ≡ true → is_boundary hay 0 ≡ true
+starts_char : (hay : List ℕ) → IsUtf8 hay → is_boundary hay 0 ≡ true
 unfolding is_boundary
-plain_boundary [] plain = refl
-plain_boundary (c ∷ hay) plain =
-    let small = ltb-true c 128 (and_parts (is_ascii c) _ (and_parts (is_plain c) _ plain).0).0 in
-    grind (arith, nat_tests)
+starts_char [] utf8 = refl
+starts_char (b ∷ hay) utf8 =
+    let lead = (IsCharBoundary-start (b ∷ hay) utf8).1 (omega arith) in grind (arith, nat_tests)
 
-found_one : (ws : List (List ℕ)) (hay : List ℕ) → is_some (find_str (anchored ws) hay 0) ≡ true
-    → IsIn ws hay
+found_sound : (pss : List (List WildcardPiece)) (hay : List ℕ)
+    → is_some (find_str (anchored pss) hay 0) ≡ true → list_any (λ ps. matches ps hay) pss ≡ true
 unfolding find_str
-found_one ws hay e =
+found_sound pss hay e =
     let m = value_of_IsSome _ e in
     let first = IsFirst-of_first_between _ 0 (length hay) m.0 m.1 in
     let here = cond_some (is_boundary hay m.0.start) _ m.0.trace first.here in
-    let match = attempt_sound hay (anchored ws) accept m.0.start m.0.trace here.1 in
-    whole_parts hay ws m.0.start match.at first.to match.leads
+    let match = attempt_sound hay (anchored pss) accept m.0.start m.0.trace here.1 in
+    elim match.leads [
+      | inl m ↦
+          let from : m.0 ≡ 0 = m.1.1 ∙ at_start hay _ first.to m.1.0 in
+          subst (λ i. list_any (λ ps. matches ps (drop i hay)) pss ≡ true) from
+          (one_sound hay pss m.0 m.2.0 m.2.1 (at_end hay m.2.0 m.2.2.1.0))
+      | inr none ↦ no_byte hay _ _ none
+    ]
 
-found_each : (ws : List (List ℕ)) (hay : List ℕ) → list_all is_plain hay ≡ true → IsIn ws hay
-    → is_some (find_str (anchored ws) hay 0) ≡ true
+found_complete : (pss : List (List WildcardPiece)) (hay : List ℕ)
+    → list_all (list_all is_fine_piece) pss ≡ true → IsUtf8 hay
+    → list_any (λ ps. matches ps hay) pss ≡ true → is_some (find_str (anchored pss) hay 0) ≡ true
 unfolding find_str
-found_each ws hay plain h =
-    let m = value_of_IsSome (attempt hay (anchored ws) accept 0)
-    (attempt_complete hay (anchored ws) accept 0 (length hay) (whole_at hay ws h) refl) in
-    let at : Rest = λ i. if is_boundary hay i then attempt hay (anchored ws) accept i else None in
+found_complete pss hay fine utf8 h =
+    let one = one_leads hay pss fine utf8 h in
+    let whole : Matches hay (anchored pss) 0 one.0 =
+    inl (0, (starts hay, refl), (one.0, one.1, (one.0, (ends hay one.0 one.2, refl), refl))) in
+    let m = value_of_IsSome (attempt hay (anchored pss) accept 0)
+    (attempt_complete hay (anchored pss) accept 0 one.0 whole refl) in
+    let at : Rest = λ i. if is_boundary hay i then attempt hay (anchored pss) accept i else None in
     let here : at 0 ≡ Some m.0 =
-    ap (λ b. cond b (attempt hay (anchored ws) accept 0) None) (plain_boundary hay plain) ∙ m.1 in
+    ap (λ b. cond b (attempt hay (anchored pss) accept 0) None) (starts_char hay utf8) ∙ m.1 in
     ap is_some (first_between_here at 0 (length hay) m.0 (omega arith) here)
 
 -- ---- The pattern.
 
-ascii_chars : (c : ℕ) (t : List ℕ) → list_all is_ascii (c ∷ t) ≡ true → chars (c ∷ t) ≡ c ∷ t
-unfolding chars
-ascii_chars c [] small = rw (and_parts (is_ascii c) _ small).0
-ascii_chars c (d ∷ t) small =
-    let parts = and_parts (is_ascii c) _ small in
-    rw parts.0 (ap (λ rest. c ∷ rest) (ascii_chars d t parts.1))
+pieces_ascii : (ps : List WildcardPiece) → list_all is_fine_piece ps ≡ true
+    → list_all is_ascii (spelled ps) ≡ true
+pieces_ascii [] fine = refl
+pieces_ascii (Byte c ∷ ps) fine =
+    let own = and_parts (is_plain c) _ fine in
+    and_from (is_ascii c) _ (and_parts (is_ascii c) _ own.0).0 (pieces_ascii ps own.1)
+pieces_ascii (AnyText ∷ ps) fine = pieces_ascii ps fine
+
+joined_ascii : (pss : List (List WildcardPiece)) → list_all (list_all is_fine_piece) pss ≡ true
+    → list_all is_ascii (join_with_byte 124 (map spelled pss)) ≡ true
+joined_ascii [] fine = refl
+joined_ascii (ps ∷ []) fine = pieces_ascii ps (and_parts _ _ fine).0
+joined_ascii (ps ∷ qs ∷ pss) fine =
+    let own = and_parts _ _ fine in
+    list_all-append is_ascii (spelled ps) _
+    ∙ and_from _ _ (pieces_ascii ps own.0) (joined_ascii (qs ∷ pss) own.1)
+
+ascii : (t : List ℕ) → list_all is_ascii t ≡ true → IsAscii t
+ascii [] small i = omega arith
+ascii (c ∷ t) small zero = ltb-true c 128 (and_parts (is_ascii c) _ small).0
+ascii (c ∷ t) small (suc i) = ascii t (and_parts (is_ascii c) _ small).1 i
+
+-- The pieces of a text spell it.
+spelled_back : (a : List ℕ) → spelled (pieces_of a) ≡ a
+spelled_back [] = refl
+spelled_back (c ∷ []) = refl
+spelled_back (c ∷ d ∷ a) = elim (cases_Bool (c == 46 && d == 42)) [
+  | inl any ↦
+      let parts = and_parts (c == 46) _ any in
+      rw (any, eqb-true c 46 parts.0, eqb-true d 42 parts.1, spelled_back a)
+  | inr other ↦ rw (other, spelled_back (d ∷ a))
+]
+
+all_spelled_back : (ws : List (List ℕ)) → map spelled (map pieces_of ws) ≡ ws
+all_spelled_back [] = refl
+all_spelled_back (a ∷ ws) = rw (spelled_back a, all_spelled_back ws)
+
+-- The pattern is read ws the pieces of its alternatives.
+read_wildcards : (p : List ℕ) (ws : List (List ℕ)) → alternatives p ≡ ws
+    → list_all (list_all is_fine_piece) (map pieces_of ws) ≡ true
+    → pattern_reading p ≡ Some (anchored (map pieces_of ws))
+unfolding pattern_reading
+read_wildcards p [] e fine = absurd (omega (arith, ap length e, length-slice_split (λ c. c == 124) p))
+read_wildcards p (a ∷ ws) e fine =
+    let inside = join_with_byte 124 (map spelled (map pieces_of (a ∷ ws))) in
+    let joined : inside ≡ p = ap (join_with_byte 124) (all_spelled_back (a ∷ ws) ∙ sym e)
+    ∙ join_with_byte-slice_split 124 p in
+    let whole = anchored_pattern inside in
+    let small : list_all is_ascii whole ≡ true =
+    list_all-append is_ascii inside (codes ")$")
+    ∙ and_from _ _ (joined_ascii (map pieces_of (a ∷ ws)) fine) refl in
+    ap (λ t. option_map (λ (found, _). found.value) (read default_config t))
+    (ap (λ t. chars (anchored_pattern t)) (sym joined)
+    ∙ chars-IsAscii whole (ascii whole small))
+    ∙ anchored_read (pieces_of a) (map pieces_of ws) fine
+
+found_by_pieces : (p text : List ℕ) → is_wildcards p ≡ true
+    → (wildcards_find p text ≡ true → IsUtf8 text) → finds p text ≡ wildcards_find p text
+found_by_pieces p text is utf8 =
+    let pss = map pieces_of (alternatives p) in
+    let fine = list_all-map (list_all is_fine_piece) pieces_of (alternatives p) ∙ is in
+    let same = list_any-map (λ ps. matches ps text) pieces_of (alternatives p) in
+    let tree : finds p text ≡ is_some (find_str (anchored pss) text 0) =
+    ap (λ o. is_some_and o (λ re. is_some (find_str re text 0))) (read_wildcards p _ refl fine) in
+    tree ∙ same_from_decides _ _ (
+      λ e. sym same ∙ found_sound pss text e,
+      λ e. found_complete pss text fine (utf8 e) (same ∙ e),
+    ) (λ e. e, λ e. e)
+
+pub finds_wildcards : (p text : List ℕ) → is_wildcards p ≡ true → IsUtf8 text
+    → finds p text ≡ wildcards_find p text
+finds_wildcards p text is utf8 = found_by_pieces p text is (λ _. utf8)
+
+-- ---- An alternation of plain texts.
 
 first_plain : (c : ℕ) (ws : List (List ℕ)) → is_plain c ≡ true
     → list_all (list_all is_plain) ws ≡ true → list_all (list_all is_plain) (onto_first c ws) ≡ true
 first_plain c [] plain rest = rw plain
 first_plain c (w ∷ ws) plain rest = rw plain rest
 
--- Each alternative is plain, and the pattern is ASCII.
 parts_plain : (p : List ℕ) → is_alternation p ≡ true
-    → (list_all (list_all is_plain) (alternatives p) ≡ true) × (list_all is_ascii p ≡ true)
-parts_plain [] is = (refl, refl)
+    → list_all (list_all is_plain) (alternatives p) ≡ true
+parts_plain [] is = refl
 parts_plain (c ∷ p) is =
     let own = and_parts (c == 124 || is_plain c) _ is in
     let rest = parts_plain p own.1 in
     elim (cases_Bool (c == 124)) [
-      | inl bar ↦
-          (rw bar rest.0, and_from (is_ascii c) _ (ap is_ascii (eqb-true c 124 bar)) rest.1)
+      | inl bar ↦ rw bar rest
       | inr other ↦
-          let plain : is_plain c ≡ true = rw other at own.0 in (
-            rw other (first_plain c (alternatives p) plain rest.0),
-            and_from (is_ascii c) _ (and_parts (is_ascii c) _ plain).0 rest.1,
-          )
+          let plain : is_plain c ≡ true = rw other at own.0 in
+          rw other (first_plain c (alternatives p) plain rest)
     ]
 
--- The pattern is read as its alternatives.
-read_alternatives : (p : List ℕ) (ws : List (List ℕ)) → is_alternation p ≡ true
-    → alternatives p ≡ ws → pattern_reading p ≡ Some (anchored ws)
-unfolding pattern_reading
-read_alternatives p [] is e = absurd (omega (arith, ap length e, length-slice_split (λ c. c == 124) p))
-read_alternatives p (w ∷ ws) is e =
-    let plain = parts_plain p is in
-    let joined : join_with_byte 124 (w ∷ ws) ≡ p =
-    ap (join_with_byte 124) (sym e) ∙ join_with_byte-slice_split 124 p in
-    let small : list_all is_ascii (anchored_pattern p) ≡ true =
-    list_all-append is_ascii p (codes ")$") ∙ and_from _ _ plain.1 refl in
-    let whole : chars (anchored_pattern p) ≡ codes "^(?:" ++ join_with_byte 124 (w ∷ ws) ++ codes ")$" =
-    ascii_chars _ _ small ∙ ap anchored_pattern (sym joined) in
-    ap (λ t. option_map (λ (found, _). found.value) (read default_config t)) whole
-    ∙ anchored_read w ws (subst (λ xs. list_all (list_all is_plain) xs ≡ true) e plain.0)
+plain_pieces : (a : List ℕ) → list_all is_plain a ≡ true → pieces_of a ≡ map Byte a
+plain_pieces [] plain = refl
+plain_pieces (c ∷ []) plain = refl
+plain_pieces (c ∷ d ∷ a) plain =
+    let own = and_parts (is_plain c) _ plain in
+    rw (differs c 46 own.0 refl, plain_pieces (d ∷ a) own.1)
 
-plain_one : (ws : List (List ℕ)) (w : List ℕ) → list_all (list_all is_plain) ws ≡ true → IsIn ws w
-    → list_all is_plain w ≡ true
-plain_one [] w plain h = absurd h
-plain_one (v ∷ ws) w plain (inl same) = ap (list_all is_plain) (sym same) ∙ (and_parts _ _ plain).0
-plain_one (v ∷ ws) w plain (inr h) = plain_one ws w (and_parts _ _ plain).1 h
+bytes_match : (a text : List ℕ) → matches (map Byte a) text ≡ same_text text a
+bytes_match [] [] = refl
+bytes_match [] (b ∷ text) = refl
+bytes_match (c ∷ a) [] = refl
+bytes_match (c ∷ a) (b ∷ text) =
+    let same : (c == b) ≡ (b == c) = grind (arith, nat_tests) in
+    ap₂ ◌&&◌ same (bytes_match a text)
+
+-- They have wildcards alone, and what they find is one of them, and ASCII.
+plain_found : (ws : List (List ℕ)) (text : List ℕ) → list_all (list_all is_plain) ws ≡ true
+    → (list_all (λ a. list_all is_fine_piece (pieces_of a)) ws ≡ true)
+    × (list_any (λ a. matches (pieces_of a) text) ws ≡ list_any (same_text text) ws)
+    × (list_any (same_text text) ws ≡ true → IsUtf8 text)
+plain_found [] text plain = (refl, refl, λ e. absurd (cc))
+plain_found (a ∷ ws) text plain =
+    let own = and_parts (list_all is_plain a) _ plain in
+    let pieces = plain_pieces a own.0 in
+    let fine = ap (list_all is_fine_piece) pieces ∙ list_all-map is_fine_piece Byte a ∙ own.0 in
+    let small = ascii a (ap (list_all is_ascii) (sym (spelled_back a)) ∙ pieces_ascii (pieces_of a) fine) in
+    let rest = plain_found ws text own.1 in (
+      and_from _ _ fine rest.0,
+      ap₂ ◌||◌ (ap (λ ps. matches ps text) pieces ∙ bytes_match a text) rest.1,
+      λ e. elim (or_cases (same_text text a) _ e) [
+        | inl is ↦ subst IsUtf8 (sym ((bytes_eq-Decides text a).0 is)) (IsUtf8-from_ascii a small)
+        | inr more ↦ rest.2 more
+      ],
+    )
 
 pub finds_alternatives : (p text : List ℕ) → is_alternation p ≡ true
     → finds p text ≡ list_any (same_text text) (alternatives p)
 finds_alternatives p text is =
-    let ws = alternatives p in
-    let tree : finds p text ≡ is_some (find_str (anchored ws) text 0) =
-    ap (λ o. is_some_and o (λ re. is_some (find_str re text 0))) (read_alternatives p ws is refl) in
-    elim (cases_Bool (list_any (same_text text) ws)) [
-      | inl some ↦
-          let one = any_in (same_text text) ws some in
-          let is_one : IsIn ws text = subst (IsIn ws) (sym ((bytes_eq-Decides text one.0).0 one.2)) one.1 in
-          tree ∙ found_each ws text (plain_one ws text (parts_plain p is).0 is_one) is_one ∙ sym some
-      | inr none ↦
-          tree ∙ false_from_ne_true _ (λ e.
-          both_ways (list_any (same_text text) ws) none
-          (in_any (same_text text) ws text (found_one ws text e) ((bytes_eq-Decides text text).1 refl)))
-          ∙ sym none
-    ]
+    let plain = plain_found (alternatives p) text (parts_plain p is) in
+    found_by_pieces p text plain.0 (λ e. plain.2 (sym plain.1 ∙ e)) ∙ plain.1

@@ -1,16 +1,22 @@
 //! Facts about the definitions alone: each is the contract of a function with an empty body.
-ghost use Rattle.std.specs.Prelude.{◌≡◌, ◌↔◌, ℕ, List, [], ◌∷◌, Some, map, false, IsTrue, Contains};
+ghost use Rattle.std.specs.Prelude.{◌≡◌, ◌↔◌, ℕ, List, [], ◌∷◌, Some, map, true, false};
+ghost use Rattle.std.specs.Prelude.{IsTrue, Contains};
+ghost use Rattle.std.specs.Str.{IsUtf8};
+ghost use Rattle.std.specs.List.{list_any};
 ghost use Rattle.std.specs.List.Sorted.{IsStrictlySortedBy};
 ghost use Rattle.std.specs.Ordering.{nat_cmp};
 ghost use Rattle.std.specs.Cmp.Lexicographic.{slice_cmp};
 ghost use Rattle.am_universe.specs.Universe.{Label, IsUniverse, sizes};
 ghost use Rattle.am_universe.specs.Choice.{IsWhole, choices};
 ghost use Rattle.am_universe.specs.LabelSet.{label_set_of, value_of};
+ghost use Rattle.am_universe.specs.Text.{same_text};
 ghost use Rattle.am_labels.specs.Space.{Space, all_choices, IsChoiceOf};
 ghost use Rattle.am_labels.specs.declared.limits.TheConstants.{MAX_MATCHERS, MAX_IMPOSSIBLE};
 ghost use Rattle.am_labels.specs.Matcher.{Matcher, condition_holds, all_hold};
 ghost use Rattle.am_labels.specs.declared.pattern_profile.Piece.{Piece};
 ghost use Rattle.am_labels.specs.PatternProfile.{IsJoinOf, IsInProfile, in_profile};
+ghost use Rattle.am_labels.specs.Pattern.{finds};
+ghost use Rattle.am_labels.specs.Wildcards.{alternatives, is_alternation, is_wildcards, wildcards_find};
 ghost use Rattle.am_labels.specs.Row.{row_of, row_holds, rows_hold};
 ghost use Rattle.am_labels.specs.MatcherText.{Spells, WordsSpell};
 ghost use Rattle.am_labels.specs.MatcherReading.{read_list};
@@ -114,4 +120,18 @@ pub fn an_impossible_list_takes_away_what_it_matches()
     ensures all { (labels : List Label) → all_choices (record { labels = labels; impossible = [] })
         ≡ choices (sizes labels) }
     ensures none { (s : Space) → Contains s.impossible [] → all_choices s ≡ [] }
+{}
+
+/// A pattern that has wildcards alone finds a text exactly if one of its alternatives matches it.
+#[tactic(auto, using(crate::proofs::WildcardMatches::finds_wildcards))]
+pub fn wildcards_are_found()
+    ensures exactly { (p text : List ℕ) → is_wildcards p ≡ true → IsUtf8 text
+        → finds p text ≡ wildcards_find p text }
+{}
+
+/// An alternation of plain texts finds exactly these texts.
+#[tactic(auto, using(crate::proofs::WildcardMatches::finds_alternatives))]
+pub fn alternatives_are_found()
+    ensures exactly { (p text : List ℕ) → is_alternation p ≡ true
+        → finds p text ≡ list_any (same_text text) (alternatives p) }
 {}
