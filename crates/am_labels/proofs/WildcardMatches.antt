@@ -1,26 +1,26 @@
 -- A pattern that has wildcards alone finds what its pieces match.
-use Rattle.std.proofs.Common.{◌≡◌, ◌≢◌, ℕ, zero, suc, ◌+◌, ◌<◌, ◌≤◌, Bool, true, not, cond, ◌&&◌, ◌||◌, ◌==◌, ◌⊎◌}
-use Rattle.std.proofs.Common.{List, [], ◌∷◌, ◌++◌, length, drop, get_or, map, Some, None, is_some, slice_get}
-use Rattle.std.proofs.Common.{if◌then◌else◌, inl, inr, refl, sym, ap, ap₂, ◌∙◌, subst, arith, codes}
+use Rattle.std.proofs.Common.{◌≡◌, ◌≢◌, ℕ, zero, suc, ◌+◌, ◌<◌, ◌≤◌, Bool, true, not, ◌&&◌, ◌||◌, ◌==◌, ◌⊎◌}
+use Rattle.std.proofs.Common.{List, [], ◌∷◌, ◌++◌, length, drop, get_or, map, Some, None, is_some}
+use Rattle.std.proofs.Common.{inl, inr, refl, sym, ap, ap₂, ◌∙◌, subst, arith, codes}
 use Rattle.std.proofs.Common.{append-nil, length-drop, option_map}
-use Rattle.std.specs.Prelude.{nat_le, encode_utf8, encode_utf8_all}
+use Rattle.std.specs.Prelude.{encode_utf8, encode_utf8_all}
 use Rattle.std.specs.Str.{chars, IsUtf8, IsAscii, all_scalars}
 use Rattle.std.specs.Char.{is_ascii, IsScalar, len_utf8}
 use Rattle.std.specs.List.{list_all, list_any, join_with_byte, onto_first}
-use Rattle.std.proofs.lemmas.Bool.{and_parts, both_ways, ltb-true, cases_Bool, cases_lt, eqb-true, eqb-false, eq-eqb, ne_eqb, and_from, or_left, or_right, or_cases, not-true, not_from_false, lt-ltb, le-leb}
+use Rattle.std.proofs.lemmas.Bool.{true≢false, cond-true, and_parts, both_ways, ltb-true, cases_Bool, cases_lt, eqb-true, eqb-false, eq-eqb, ne_eqb, and_from, or_left, or_right, or_cases, not-true, not_from_false, lt-ltb, le-leb}
 use Rattle.std.proofs.lemmas.Bool.Decides.{nat_tests, same_from_decides}
 use Rattle.std.proofs.lemmas.Str.{encode_ascii, inside_one, drop_past_char, IsUtf8-past_char, IsUtf8-nil, IsUtf8-from_ascii, chars-IsAscii, IsCharBoundary-start}
 use Rattle.std.proofs.lemmas.List.{drop-drop, nil_from_length}
 use Rattle.std.proofs.lemmas.List.Folds.{list_all-append, list_all-map}
 use Rattle.std.proofs.lemmas.List.Splits.{join_with_byte-slice_split, length-slice_split}
-use Rattle.std.proofs.lemmas.Option.{slice_get_past, slice_get_cases}
+use Rattle.std.proofs.lemmas.Option.{slice_get_past, slice_get-get_or}
 use Rattle.std.proofs.lemmas.Slice.Eq.{bytes_eq-Decides}
 use Rattle.regex_class.specs.Ranges.{in_ranges}
 use Rattle.regex_class.proofs.RangesLemmas.{in_ranges-nil}
 use Rattle.regex_hir.specs.Text.{is_some_and, is_boundary, byte_before}
 use Rattle.regex_hir.specs.Looks.{holds, holds_between}
 use Rattle.regex_hir.specs.declared.look.Look.TheVariants.{Start, End}
-use Rattle.regex_hir.specs.Re.{Rest, byte_in, accept, attempt}
+use Rattle.regex_hir.specs.Re.{Re, byte_in, accept}
 use Rattle.regex_hir.specs.Find.{find_str}
 use Rattle.regex_hir.specs.Matches.{Matches, Rounds, one_round, next_round}
 use Rattle.regex_hir.proofs.TextLemmas.{has_bytes_at_parts, has_bytes_at_from, byte_before-add-one, char_at_parts, char_at_from}
@@ -37,11 +37,11 @@ use Rattle.am_labels.specs.Wildcards.{is_plain, is_fine_piece, is_nothing, after
 use Rattle.am_universe.specs.Text.{same_text}
 use Rattle.am_universe.proofs.UniverseLemmas.{list_any-map}
 use Rattle.am_labels.specs.Pattern.{pattern_reading, anchored_pattern, finds}
-use Rattle.am_labels.proofs.WildcardReading.{any_char, all_of, one_of_all, anchored, anchored_read, spelled, differs}
+use Rattle.am_labels.proofs.WildcardReading.{no_line_feed, any_char, part, all_of, one_of_all, anchored, anchored_read, spelled, differs}
 
 -- ---- A tree that matches up to the end of a text.
 
--- What `.*` matches begins at a text that the rest matches, or at bytes without a line feed.
+-- What `.*` matches begins where the rest matches, or with bytes that are no line feeds.
 any_here : (rest : List ℕ → Bool) (t : List ℕ) → rest t ≡ true → after_any rest t ≡ true
 any_here rest [] h = h
 any_here rest (b ∷ t) h = or_left (rest (b ∷ t)) _ h
@@ -52,205 +52,169 @@ any_past : (rest : List ℕ → Bool) (bs t : List ℕ)
 any_past rest [] t other h = h
 any_past rest (b ∷ bs) t other h =
     let own = not_from_false (b == 10) (ne_eqb b 10 (other 0 (omega arith))) in
-    let later = any_past rest bs t (λ k l. other (suc k) (omega arith)) h in
-    or_right (rest (b ∷ (bs ++ t))) _ (and_from _ _ own later)
+    or_right (rest (b ∷ (bs ++ t))) _ (and_from _ _ own
+    (any_past rest bs t (λ k l. other (suc k) (omega arith)) h))
 
 -- The dot matches a character that is no line feed.
-dot_other : (c : ℕ) → in_ranges (members (λ d. nat_le d 0x10_FFFF && not (d == 10))) c ≡ true → c ≢ 10
-dot_other c h =
-    let parts = and_parts _ _ (sym (in_ranges-members _ c) ∙ h) in
-    eqb-false c 10 (not-true _ (and_parts (nat_le c 0x10_FFFF) _ parts.1).1)
+dot_matches : (c : ℕ) → IsScalar c → in_ranges (members no_line_feed) c ≡ not (c == 10)
+dot_matches c scalar =
+    let within : c ≤ 0x10_FFFF = grind (arith, nat_tests) in
+    in_ranges-members _ c ∙ rw (lt-ltb c 0x11_0000 (omega arith), le-leb c 0x10_FFFF within)
 
-char_past : (hay : List ℕ) (rest : List ℕ → Bool) (i j : ℕ) → Matches hay any_char i j
-    → after_any rest (drop j hay) ≡ true → after_any rest (drop i hay) ≡ true
-char_past hay rest i j m h =
-    let bs = encode_utf8 m.0 in
-    let other : (k : ℕ) → k < length bs → get_or bs k 0 ≢ 10 =
-    λ k l ten. dot_other m.0 m.2
-    (inside_one m.0 [] bs k (sym (append-nil bs)) l (omega (arith, ten)) ∙ ten) in
-    rw (char_at_parts hay i m.0 m.1).1
-    (any_past rest bs _ other (subst (λ n. after_any rest (drop n hay) ≡ true) m.3 h))
+-- A byte of ASCII is no part of another character.
+alone : (c k : ℕ) → k < length (encode_utf8 c) → get_or (encode_utf8 c) k 0 < 128
+    → c ≡ get_or (encode_utf8 c) k 0
+alone c k within small = inside_one c [] (encode_utf8 c) k (sym (append-nil _)) within small
 
-rounds_past : (hay : List ℕ) (rest : List ℕ → Bool) (i j : ℕ) → Rounds (Matches hay any_char) i j
-    → after_any rest (drop j hay) ≡ true → after_any rest (drop i hay) ≡ true
-rounds_past hay rest i j (one_round _ m) h = char_past hay rest i j m h
-rounds_past hay rest i j (next_round l _ ms m) h = rounds_past hay rest i l ms (char_past hay rest l j m h)
+module _ (hay : List ℕ) where
+  char_past : (rest : List ℕ → Bool) (i j : ℕ) → Matches hay any_char i j
+      → after_any rest (drop j hay) ≡ true → after_any rest (drop i hay) ≡ true
+  char_past rest i j m h =
+      let parts = char_at_parts hay i m.0 m.1 in
+      let other = not-true _ (sym (dot_matches m.0 parts.0) ∙ m.2) in
+      rw parts.1 (any_past rest (encode_utf8 m.0) _
+      (λ k l ten. eqb-false m.0 10 other (alone m.0 k l (omega (arith, ten)) ∙ ten))
+      (subst (λ n. after_any rest (drop n hay) ≡ true) m.3 h))
 
-all_sound : (hay : List ℕ) (ps : List WildcardPiece) (i j : ℕ) → Matches hay (all_of ps).value i j
-    → drop j hay ≡ [] → matches ps (drop i hay) ≡ true
-all_sound hay [] i j m none = ap (λ n. is_nothing (drop n hay)) (sym m) ∙ ap is_nothing none
-all_sound hay (Byte c ∷ ps) i j m none =
-    let rest = all_sound hay ps m.0 j m.2 none in
-    rw (has_bytes_at_parts hay i (c ∷ []) m.1.0)
-    (and_from _ _ (eq-eqb c c refl) (subst (λ n. matches ps (drop n hay) ≡ true) m.1.1 rest))
-all_sound hay (AnyText ∷ ps) i j m none =
-    let rest = all_sound hay ps m.0 j m.2 none in
-    elim m.1 [
-      | inl rounds ↦ rounds_past hay (matches ps) i m.0 rounds (any_here (matches ps) _ rest)
-      | inr e ↦ any_here (matches ps) _ (subst (λ n. matches ps (drop n hay) ≡ true) e rest)
-    ]
+  rounds_past : (rest : List ℕ → Bool) (i j : ℕ) → Rounds (Matches hay any_char) i j
+      → after_any rest (drop j hay) ≡ true → after_any rest (drop i hay) ≡ true
+  rounds_past rest i j (one_round _ m) h = char_past rest i j m h
+  rounds_past rest i j (next_round l _ ms m) h = rounds_past rest i l ms (char_past rest l j m h)
 
-no_byte : {X : Type 0} (hay : List ℕ) (i j : ℕ) → Matches hay (byte_in []) i j → X
-no_byte hay i j m = absurd (both_ways (in_ranges [] m.0) (in_ranges-nil m.0) m.2)
+  all_sound : (ps : List WildcardPiece) (i j : ℕ) → Matches hay (all_of ps).value i j
+      → drop j hay ≡ [] → matches ps (drop i hay) ≡ true
+  all_sound [] i j m none = ap (λ n. is_nothing (drop n hay)) (sym m) ∙ ap is_nothing none
+  all_sound (Byte c ∷ ps) i j m none =
+      let rest = all_sound ps m.0 j m.2 none in
+      rw (has_bytes_at_parts hay i (c ∷ []) m.1.0)
+      (and_from _ _ (eq-eqb c c refl) (subst (λ n. matches ps (drop n hay) ≡ true) m.1.1 rest))
+  all_sound (AnyText ∷ ps) i j m none =
+      let rest = any_here (matches ps) _ (all_sound ps m.0 j m.2 none) in
+      elim m.1 [
+        | inl rounds ↦ rounds_past (matches ps) i m.0 rounds rest
+        | inr e ↦ subst (λ n. after_any (matches ps) (drop n hay) ≡ true) e rest
+      ]
 
-one_sound : (hay : List ℕ) (pss : List (List WildcardPiece)) (i j : ℕ)
-    → Matches hay (one_of_all pss) i j → drop j hay ≡ []
-    → list_any (λ ps. matches ps (drop i hay)) pss ≡ true
-one_sound hay [] i j m none = no_byte hay i j m
-one_sound hay (ps ∷ pss) i j (inl m) none = or_left _ _ (all_sound hay ps i j m none)
-one_sound hay (ps ∷ pss) i j (inr m) none =
-    or_right (matches ps (drop i hay)) _ (one_sound hay pss i j m none)
+  no_byte : {X : Type 0} (i j : ℕ) → Matches hay (byte_in []) i j → X
+  no_byte i j m = absurd (both_ways (in_ranges [] m.0) (in_ranges-nil m.0) m.2)
+
+  one_sound : (pss : List (List WildcardPiece)) (i j : ℕ) → Matches hay (one_of_all pss) i j
+      → drop j hay ≡ [] → list_any (λ ps. matches ps (drop i hay)) pss ≡ true
+  one_sound [] i j m none = no_byte i j m
+  one_sound (ps ∷ pss) i j (inl m) none = or_left _ _ (all_sound ps i j m none)
+  one_sound (ps ∷ pss) i j (inr m) none =
+      or_right (matches ps (drop i hay)) _ (one_sound pss i j m none)
 
 -- ---- A text that pieces match.
 
+small_byte : (c : ℕ) → is_plain c ≡ true → c < 128
+small_byte c plain = ltb-true c 128 (and_parts (is_ascii c) _ plain).0
+
 -- No piece but `.*` begins inside a character.
-high_past : (ps : List WildcardPiece) (b : ℕ) (t : List ℕ) → list_all is_fine_piece ps ≡ true
+inside_past : (ps : List WildcardPiece) (b : ℕ) (t : List ℕ) → list_all is_fine_piece ps ≡ true
     → 128 ≤ b → matches ps (b ∷ t) ≡ true → matches ps t ≡ true
-high_past [] b t fine high h = absurd (cc)
-high_past (Byte c ∷ ps) b t fine high h =
-    let small = and_parts (is_ascii c) _ (and_parts (is_plain c) _ fine).0 in
-    absurd (omega (arith, ltb-true c 128 small.0, eqb-true c b (and_parts _ _ h).0))
-high_past (AnyText ∷ ps) b t fine high h = elim (or_cases (matches ps (b ∷ t)) _ h) [
-  | inl e ↦ any_here (matches ps) t (high_past ps b t fine high e)
+inside_past [] b t fine high h = absurd (cc)
+inside_past (Byte c ∷ ps) b t fine high h =
+    let small = small_byte c (and_parts (is_plain c) _ fine).0 in
+    absurd (omega (arith, eqb-true c b (and_parts _ _ h).0))
+inside_past (AnyText ∷ ps) b t fine high h = elim (or_cases (matches ps (b ∷ t)) _ h) [
+  | inl e ↦ any_here (matches ps) t (inside_past ps b t fine high e)
   | inr e ↦ (and_parts _ _ e).1
 ]
 
-all_high_past : (ps : List WildcardPiece) (bs t : List ℕ) → list_all is_fine_piece ps ≡ true
+all_past : (ps : List WildcardPiece) (bs t : List ℕ) → list_all is_fine_piece ps ≡ true
     → ((k : ℕ) → k < length bs → 128 ≤ get_or bs k 0)
     → matches ps (bs ++ t) ≡ true → matches ps t ≡ true
-all_high_past ps [] t fine high h = h
-all_high_past ps (b ∷ bs) t fine high h =
-    all_high_past ps bs t fine (λ k l. high (suc k) (omega arith))
-    (high_past ps b (bs ++ t) fine (high 0 (omega arith)) h)
+all_past ps [] t fine high h = h
+all_past ps (b ∷ bs) t fine high h =
+    all_past ps bs t fine (λ k l. high (suc k) (omega arith))
+    (inside_past ps b (bs ++ t) fine (high 0 (omega arith)) h)
 
 -- At a character, the rest matches, or the character is no line feed and the rest matches behind.
 char_cases : (ps : List WildcardPiece) (c : ℕ) (t : List ℕ) → list_all is_fine_piece ps ≡ true
     → after_any (matches ps) (encode_utf8 c ++ t) ≡ true
     → (matches ps (encode_utf8 c ++ t) ≡ true)
-    ⊎ ((c ≢ 10) × (after_any (matches ps) t ≡ true))
+    ⊎ ((not (c == 10) ≡ true) × (after_any (matches ps) t ≡ true))
 char_cases ps c t fine h = elim (cases_lt c 128) [
   | inl small ↦
-      let e = ap (λ bs. bs ++ t) (encode_ascii c small) in
+      let e = encode_ascii c small in
       elim (or_cases (matches ps (c ∷ t)) _ (rw e at h)) [
-        | inl now ↦ inl (ap (matches ps) e ∙ now)
-        | inr later ↦
-            let parts = and_parts _ _ later in
-            inr (eqb-false c 10 (not-true _ parts.0), parts.1)
+        | inl now ↦ inl (rw e now)
+        | inr later ↦ inr (and_parts _ _ later)
       ]
   | inr large ↦
-      let bs = encode_utf8 c in
-      let high : (k : ℕ) → k < length bs → 128 ≤ get_or bs k 0 =
-      λ k l. elim (cases_lt (get_or bs k 0) 128) [
-        | inl small ↦ absurd (omega (arith, inside_one c [] bs k (sym (append-nil bs)) l small))
+      let high = λ (k : ℕ) (l : k < length (encode_utf8 c)).
+      elim (cases_lt (get_or (encode_utf8 c) k 0) 128) as (λ x. 128 ≤ get_or (encode_utf8 c) k 0) [
+        | inl small ↦ absurd (omega (arith, alone c k l small))
         | inr is ↦ is
       ] in
-      inr (λ ten. omega (arith, ten), all_high_past (AnyText ∷ ps) bs t fine high h)
+      inr (
+        not_from_false _ (ne_eqb c 10 (λ ten. omega (arith, ten))),
+        all_past (AnyText ∷ ps) (encode_utf8 c) t fine high h,
+      )
 ]
 
--- Pieces lead from a place to the end of a text.
-abbrev LeadsToEnd : List ℕ → List WildcardPiece → ℕ → Type 0
-LeadsToEnd hay ps i = (j : ℕ) × Matches hay (all_of ps).value i j × (drop j hay ≡ [])
+module _ (hay : List ℕ) where
+  -- A tree leads from a place to the end of the text.
+  abbrev LeadsToEnd : Re → ℕ → Type 0
+  LeadsToEnd re i = (j : ℕ) × Matches hay re i j × (drop j hay ≡ [])
 
-first_round : (R : ℕ → ℕ → Type 0) (i l j : ℕ) → R i l → Rounds R l j → Rounds R i j
-first_round R i l j r (one_round _ s) = next_round l j (one_round l r) s
-first_round R i l j r (next_round m _ rs s) = next_round m j (first_round R i l m r rs) s
+  -- What `.*` matches goes on from a place, character by character.
+  any_leads : (ps : List WildcardPiece) (cs : List ℕ) (start i : ℕ) → list_all is_fine_piece ps ≡ true
+      → ((i : ℕ) (t : List ℕ) → drop i hay ≡ t → IsUtf8 t → matches ps t ≡ true
+      → LeadsToEnd (all_of ps).value i)
+      → Matches hay (part AnyText).value start i
+      → drop i hay ≡ encode_utf8_all cs → all_scalars cs ≡ true
+      → after_any (matches ps) (encode_utf8_all cs) ≡ true
+      → LeadsToEnd (all_of (AnyText ∷ ps)).value start
+  any_leads ps [] start i fine rest front e scalars h =
+      let now = rest i [] e IsUtf8-nil h in (now.0, (i, front, now.1), now.2)
+  any_leads ps (c ∷ cs) start i fine rest front e scalars h =
+      let t = encode_utf8_all cs in
+      let own = and_parts _ _ scalars in
+      elim (char_cases ps c t fine h) [
+        | inl is ↦
+            let now = rest i _ e (c ∷ cs, (scalars, refl)) is in
+            (now.0, (i, front, now.1), now.2)
+        | inr more ↦
+            let k = i + len_utf8 c in
+            let one : Matches hay any_char i k =
+            (c, char_at_from hay i c t own.0 e, dot_matches c own.0 ∙ more.0, refl) in
+            let rounds : Rounds (Matches hay any_char) start k = elim front [
+              | inl rs ↦ next_round i k rs one
+              | inr none ↦ one_round k (subst (λ n. Matches hay any_char n k) none one)
+            ] in
+            any_leads ps cs start k fine rest (inl rounds) (drop_past_char hay t i c e) own.1 more.1
+      ]
 
-dot_in : (c : ℕ) → IsScalar c → c ≢ 10
-    → in_ranges (members (λ d. nat_le d 0x10_FFFF && not (d == 10))) c ≡ true
-dot_in c scalar other =
-    let within : c ≤ 0x10_FFFF = grind (arith, nat_tests) in
-    in_ranges-members _ c ∙ and_from _ _ (lt-ltb c 0x11_0000 (omega arith))
-    (and_from _ _ (le-leb c 0x10_FFFF within) (not_from_false _ (ne_eqb c 10 other)))
+  all_lead : (ps : List WildcardPiece) (i : ℕ) (t : List ℕ) → list_all is_fine_piece ps ≡ true
+      → drop i hay ≡ t → IsUtf8 t → matches ps t ≡ true → LeadsToEnd (all_of ps).value i
+  all_lead [] i [] fine e utf8 h = (i, refl, e)
+  all_lead [] i (b ∷ t) fine e utf8 h = absurd (cc)
+  all_lead (Byte c ∷ ps) i [] fine e utf8 h = absurd (cc)
+  all_lead (Byte c ∷ ps) i (b ∷ t) fine e utf8 h =
+      let own = and_parts (is_plain c) _ fine in
+      let same = and_parts (c == b) _ h in
+      let is : b ∷ t ≡ c ∷ t = ap (λ x. x ∷ t) (sym (eqb-true c b same.0)) in
+      let char = is ∙ ap (λ bs. bs ++ t) (sym (encode_ascii c (small_byte c own.0))) in
+      let later = all_lead ps (i + 1) t own.1 (sym (drop-drop 1 i hay) ∙ ap (drop 1) e)
+      (IsUtf8-past_char (b ∷ t) t c utf8 char) same.1 in
+      (later.0, (i + 1, (has_bytes_at_from hay i (c ∷ []) t (e ∙ is), refl), later.1), later.2)
+  all_lead (AnyText ∷ ps) i t fine e utf8 h =
+      any_leads ps utf8.0 i i fine (λ k u. all_lead ps k u fine) (inr refl) (e ∙ sym utf8.1.1) utf8.1.0
+      (ap (after_any (matches ps)) utf8.1.1 ∙ h)
 
-any_leads : (hay : List ℕ) (ps : List WildcardPiece) (cs : List ℕ) (i : ℕ)
-    → list_all is_fine_piece ps ≡ true
-    → ((i : ℕ) (t : List ℕ) → drop i hay ≡ t → IsUtf8 t → matches ps t ≡ true → LeadsToEnd hay ps i)
-    → drop i hay ≡ encode_utf8_all cs → all_scalars cs ≡ true
-    → after_any (matches ps) (encode_utf8_all cs) ≡ true → LeadsToEnd hay (AnyText ∷ ps) i
-any_leads hay ps [] i fine rest e scalars h =
-    let now = rest i [] e IsUtf8-nil h in (now.0, (i, inr refl, now.1), now.2)
-any_leads hay ps (c ∷ cs) i fine rest e scalars h =
-    let t = encode_utf8_all cs in
-    let own = and_parts _ _ scalars in
-    elim (char_cases ps c t fine h) [
-      | inl is ↦
-          let now = rest i _ e (c ∷ cs, (scalars, refl)) is in
-          (now.0, (i, inr refl, now.1), now.2)
-      | inr more ↦
-          let k = i + len_utf8 c in
-          let behind = drop_past_char hay t i c e in
-          let later = any_leads hay ps cs k fine rest behind own.1 more.1 in
-          let one : Matches hay any_char i k =
-          (c, char_at_from hay i c t own.0 e, dot_in c own.0 more.0, refl) in
-          let rounds : Rounds (Matches hay any_char) i later.1.0 = elim later.1.1 [
-            | inl rs ↦ first_round (Matches hay any_char) i k _ one rs
-            | inr none ↦ subst (Rounds (Matches hay any_char) i) (sym none) (one_round k one)
-          ] in
-          (later.0, (later.1.0, inl rounds, later.1.2), later.2)
-    ]
+  one_leads : (pss : List (List WildcardPiece)) → list_all (list_all is_fine_piece) pss ≡ true
+      → IsUtf8 hay → list_any (λ ps. matches ps hay) pss ≡ true → LeadsToEnd (one_of_all pss) 0
+  one_leads [] fine utf8 h = absurd (cc)
+  one_leads (ps ∷ pss) fine utf8 h =
+      let own = and_parts _ _ fine in
+      elim (or_cases (matches ps hay) _ h) [
+        | inl is ↦ let now = all_lead ps 0 hay own.0 refl utf8 is in (now.0, inl now.1, now.2)
+        | inr more ↦ let later = one_leads pss own.1 utf8 more in (later.0, inr later.1, later.2)
+      ]
 
-all_lead : (hay : List ℕ) (ps : List WildcardPiece) (i : ℕ) (t : List ℕ)
-    → list_all is_fine_piece ps ≡ true → drop i hay ≡ t → IsUtf8 t → matches ps t ≡ true
-    → LeadsToEnd hay ps i
-all_lead hay [] i [] fine e utf8 h = (i, refl, e)
-all_lead hay [] i (b ∷ t) fine e utf8 h = absurd (cc)
-all_lead hay (Byte c ∷ ps) i [] fine e utf8 h = absurd (cc)
-all_lead hay (Byte c ∷ ps) i (b ∷ t) fine e utf8 h =
-    let own = and_parts (is_plain c) _ fine in
-    let same = and_parts (c == b) _ h in
-    let is : b ∷ t ≡ c ∷ t = ap (λ x. x ∷ t) (sym (eqb-true c b same.0)) in
-    let small = ltb-true c 128 (and_parts (is_ascii c) _ own.0).0 in
-    let behind = IsUtf8-past_char (b ∷ t) t c utf8 (is ∙ ap (λ bs. bs ++ t) (sym (encode_ascii c small))) in
-    let later = all_lead hay ps (i + 1) t own.1 (sym (drop-drop 1 i hay) ∙ ap (drop 1) e) behind same.1 in
-    (later.0, (i + 1, (has_bytes_at_from hay i (c ∷ []) t (e ∙ is), refl), later.1), later.2)
-all_lead hay (AnyText ∷ ps) i t fine e utf8 h =
-    any_leads hay ps utf8.0 i fine (λ k u. all_lead hay ps k u fine) (e ∙ sym utf8.1.1) utf8.1.0
-    (ap (after_any (matches ps)) utf8.1.1 ∙ h)
-
-one_leads : (hay : List ℕ) (pss : List (List WildcardPiece)) → list_all (list_all is_fine_piece) pss ≡ true
-    → IsUtf8 hay → list_any (λ ps. matches ps hay) pss ≡ true
-    → (j : ℕ) × Matches hay (one_of_all pss) 0 j × (drop j hay ≡ [])
-one_leads hay [] fine utf8 h = absurd (cc)
-one_leads hay (ps ∷ pss) fine utf8 h =
-    let parts = and_parts _ _ fine in
-    elim (or_cases (matches ps hay) _ h) [
-      | inl is ↦ let now = all_lead hay ps 0 hay parts.0 refl utf8 is in (now.0, inl now.1, now.2)
-      | inr more ↦ let later = one_leads hay pss parts.1 utf8 more in (later.0, inr later.1, later.2)
-    ]
-
--- ---- The anchors.
-
-at_start : (hay : List ℕ) (i : ℕ) → i ≤ length hay → holds Start hay i ≡ true → i ≡ 0
-unfolding holds holds_between byte_before
-at_start hay zero h e = refl
-at_start hay (suc i) h e =
-    let next : suc i ≡ i + 1 = omega arith in
-    elim (slice_get_cases hay i).1 [
-      | inl there ↦
-          absurd (both_ways (not (is_some (byte_before hay (suc i))))
-          (ap (λ o. not (is_some o)) (ap (byte_before hay) next ∙ byte_before-add-one hay i ∙ there.2))
-          e)
-      | inr past ↦ absurd (omega (arith, h, past.0))
-    ]
-
-at_end : (hay : List ℕ) (i : ℕ) → holds End hay i ≡ true → drop i hay ≡ []
-unfolding holds holds_between
-at_end hay i e = elim (slice_get_cases hay i).1 [
-  | inl inside ↦
-      absurd (both_ways (not (is_some (slice_get hay i))) (ap (λ o. not (is_some o)) inside.2) e)
-  | inr past ↦ nil_from_length (drop i hay) (omega (arith, length-drop i hay, past.0))
-]
-
-starts : (hay : List ℕ) → holds Start hay 0 ≡ true
-unfolding holds holds_between byte_before
-starts hay = refl
-
-ends : (hay : List ℕ) (j : ℕ) → drop j hay ≡ [] → holds End hay j ≡ true
-unfolding holds holds_between
-ends hay j none =
-    ap (λ o. not (is_some o)) (slice_get_past hay j (omega (arith, length-drop j hay, ap length none)))
-
--- ---- The search.
+-- ---- The anchors, and the search.
 
 starts_char : (hay : List ℕ) → IsUtf8 hay → is_boundary hay 0 ≡ true
 unfolding is_boundary
@@ -258,36 +222,58 @@ starts_char [] utf8 = refl
 starts_char (b ∷ hay) utf8 =
     let lead = (IsCharBoundary-start (b ∷ hay) utf8).1 (omega arith) in grind (arith, nat_tests)
 
-found_sound : (pss : List (List WildcardPiece)) (hay : List ℕ)
-    → is_some (find_str (anchored pss) hay 0) ≡ true → list_any (λ ps. matches ps hay) pss ≡ true
-unfolding find_str
-found_sound pss hay e =
-    let m = value_of_IsSome _ e in
-    let first = IsFirst-of_first_between _ 0 (length hay) m.0 m.1 in
-    let here = cond_some (is_boundary hay m.0.start) _ m.0.trace first.here in
-    let match = attempt_sound hay (anchored pss) accept m.0.start m.0.trace here.1 in
-    elim match.leads [
-      | inl m ↦
-          let from : m.0 ≡ 0 = m.1.1 ∙ at_start hay _ first.to m.1.0 in
-          subst (λ i. list_any (λ ps. matches ps (drop i hay)) pss ≡ true) from
-          (one_sound hay pss m.0 m.2.0 m.2.1 (at_end hay m.2.0 m.2.2.1.0))
-      | inr none ↦ no_byte hay _ _ none
-    ]
+module _ (hay : List ℕ) where
+  at_start : (i : ℕ) → i ≤ length hay → holds Start hay i ≡ true → i ≡ 0
+  unfolding holds holds_between
+  at_start zero within h = refl
+  at_start (suc i) within h =
+      let next : suc i ≡ i + 1 = omega arith in
+      let there = slice_get-get_or hay i 0 (omega arith) in
+      absurd (true≢false (sym h ∙ rw (next, byte_before-add-one hay i, there)))
 
-found_complete : (pss : List (List WildcardPiece)) (hay : List ℕ)
-    → list_all (list_all is_fine_piece) pss ≡ true → IsUtf8 hay
-    → list_any (λ ps. matches ps hay) pss ≡ true → is_some (find_str (anchored pss) hay 0) ≡ true
-unfolding find_str
-found_complete pss hay fine utf8 h =
-    let one = one_leads hay pss fine utf8 h in
-    let whole : Matches hay (anchored pss) 0 one.0 =
-    inl (0, (starts hay, refl), (one.0, one.1, (one.0, (ends hay one.0 one.2, refl), refl))) in
-    let m = value_of_IsSome (attempt hay (anchored pss) accept 0)
-    (attempt_complete hay (anchored pss) accept 0 one.0 whole refl) in
-    let at : Rest = λ i. if is_boundary hay i then attempt hay (anchored pss) accept i else None in
-    let here : at 0 ≡ Some m.0 =
-    ap (λ b. cond b (attempt hay (anchored pss) accept 0) None) (starts_char hay utf8) ∙ m.1 in
-    ap is_some (first_between_here at 0 (length hay) m.0 (omega arith) here)
+  at_end : (i : ℕ) → holds End hay i ≡ true → drop i hay ≡ []
+  unfolding holds holds_between
+  at_end i h = elim (cases_lt i (length hay)) [
+    | inl l ↦ absurd (true≢false (sym h ∙ rw (slice_get-get_or hay i 0 l)))
+    | inr past ↦ nil_from_length (drop i hay) (omega (arith, length-drop i hay))
+  ]
+
+  starts : holds Start hay 0 ≡ true
+  unfolding holds holds_between byte_before
+  starts = refl
+
+  ends : (j : ℕ) → drop j hay ≡ [] → holds End hay j ≡ true
+  unfolding holds holds_between
+  ends j none = rw (slice_get_past hay j (omega (arith, length-drop j hay, ap length none)))
+
+  module _ (pss : List (List WildcardPiece)) where
+    found_sound : is_some (find_str (anchored pss) hay 0) ≡ true
+        → list_any (λ ps. matches ps hay) pss ≡ true
+    unfolding find_str
+    found_sound e =
+        let m = value_of_IsSome _ e in
+        let first = IsFirst-of_first_between _ 0 (length hay) m.0 m.1 in
+        let here = cond_some (is_boundary hay m.0.start) _ m.0.trace first.here in
+        let match = attempt_sound hay (anchored pss) accept m.0.start m.0.trace here.1 in
+        elim match.leads [
+          | inl m ↦
+              let from : m.0 ≡ 0 = m.1.1 ∙ at_start _ first.to m.1.0 in
+              subst (λ i. list_any (λ ps. matches ps (drop i hay)) pss ≡ true) from
+              (one_sound hay pss m.0 m.2.0 m.2.1 (at_end m.2.0 m.2.2.1.0))
+          | inr none ↦ no_byte hay _ _ none
+        ]
+
+    found_complete : list_all (list_all is_fine_piece) pss ≡ true → IsUtf8 hay
+        → list_any (λ ps. matches ps hay) pss ≡ true
+        → is_some (find_str (anchored pss) hay 0) ≡ true
+    unfolding find_str
+    found_complete fine utf8 h =
+        let one = one_leads hay pss fine utf8 h in
+        let whole : Matches hay (anchored pss) 0 one.0 =
+        inl (0, (starts, refl), (one.0, one.1, (one.0, (ends one.0 one.2, refl), refl))) in
+        let m = value_of_IsSome _ (attempt_complete hay (anchored pss) accept 0 one.0 whole refl) in
+        ap is_some (first_between_here _ 0 (length hay) m.0 (omega arith)
+        (cond-true _ _ None (starts_char hay utf8) ∙ m.1))
 
 -- ---- The pattern.
 
@@ -328,7 +314,7 @@ all_spelled_back : (ws : List (List ℕ)) → map spelled (map pieces_of ws) ≡
 all_spelled_back [] = refl
 all_spelled_back (a ∷ ws) = rw (spelled_back a, all_spelled_back ws)
 
--- The pattern is read ws the pieces of its alternatives.
+-- The pattern is read as the pieces of its alternatives.
 read_wildcards : (p : List ℕ) (ws : List (List ℕ)) → alternatives p ≡ ws
     → list_all (list_all is_fine_piece) (map pieces_of ws) ≡ true
     → pattern_reading p ≡ Some (anchored (map pieces_of ws))
@@ -356,8 +342,8 @@ found_by_pieces p text is utf8 =
     let tree : finds p text ≡ is_some (find_str (anchored pss) text 0) =
     ap (λ o. is_some_and o (λ re. is_some (find_str re text 0))) (read_wildcards p _ refl fine) in
     tree ∙ same_from_decides _ _ (
-      λ e. sym same ∙ found_sound pss text e,
-      λ e. found_complete pss text fine (utf8 e) (same ∙ e),
+      λ e. sym same ∙ found_sound text pss e,
+      λ e. found_complete text pss fine (utf8 e) (same ∙ e),
     ) (λ e. e, λ e. e)
 
 pub finds_wildcards : (p text : List ℕ) → is_wildcards p ≡ true → IsUtf8 text
@@ -399,7 +385,7 @@ bytes_match (c ∷ a) (b ∷ text) =
     let same : (c == b) ≡ (b == c) = grind (arith, nat_tests) in
     ap₂ ◌&&◌ same (bytes_match a text)
 
--- They have wildcards alone, and what they find is one of them, and ASCII.
+-- Plain texts have wildcards alone. What they find is one of them, and so it is ASCII.
 plain_found : (ws : List (List ℕ)) (text : List ℕ) → list_all (list_all is_plain) ws ≡ true
     → (list_all (λ a. list_all is_fine_piece (pieces_of a)) ws ≡ true)
     × (list_any (λ a. matches (pieces_of a) text) ws ≡ list_any (same_text text) ws)

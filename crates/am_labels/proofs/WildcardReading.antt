@@ -1,23 +1,21 @@
 -- What the grammar reads in an anchored pattern that has wildcards alone.
 use Rattle.std.proofs.Common.{◌≡◌, ℕ, zero, suc, ◌+◌, ◌-◌, ◌*◌, ◌<◌, Bool, true, false, not, ◌&&◌, ◌==◌}
 use Rattle.std.proofs.Common.{List, [], ◌∷◌, ◌++◌, length, map, Option, Some, None, option_map}
-use Rattle.std.proofs.Common.{refl, sym, ap, ◌∙◌, arith, codes, ne_eqb, append_assoc, length-append}
+use Rattle.std.proofs.Common.{refl, ap, ◌∙◌, arith, codes, ne_eqb, append_assoc, length-append}
 use Rattle.std.specs.Prelude.{nat_le}
 use Rattle.std.specs.Char.{is_ascii}
 use Rattle.std.specs.List.{list_all, list_any, join_with_byte}
 use Rattle.std.proofs.lemmas.Bool.{and_parts, or_parts, both_ways, not-true, ltb-true}
 use Rattle.std.proofs.lemmas.Str.{encode_ascii}
 use Rattle.regex_hir.specs.Re.{Re, empty, literal, byte_in, char_in, look, cat, alt, plus}
-use Rattle.regex_hir.specs.Meaning.{cat_all, alt_all, repeat}
+use Rattle.regex_hir.specs.Meaning.{cat_all, alt_all}
 use Rattle.regex_hir.specs.declared.look.Look.TheVariants.{Start, End}
 use Rattle.regex_syntax.specs.Brackets.{Nested, flat, join}
-use Rattle.regex_syntax.specs.Grammar.{Place, atom, bounds, char_meaning, item, items, branches, repetitions}
+use Rattle.regex_syntax.specs.Grammar.{Place, atom, char_meaning, item, items, branches, repetitions}
 use Rattle.regex_syntax.specs.Grammar.{with_repetitions, join_parts, read}
 use Rattle.regex_syntax.specs.Reading.{Text, first, skip, is_at, is_empty, ◌>>=◌}
-use Rattle.regex_syntax.specs.Sets.{verbatim, dot, one_of, negate, members}
+use Rattle.regex_syntax.specs.Sets.{verbatim, members}
 use Rattle.regex_syntax.specs.Verdict.{default_config}
-use Rattle.regex_syntax.proofs.BranchLemmas.{repetitions_end, repetitions_go}
-use Rattle.regex_syntax.proofs.ReadingLemmas.{skip-false}
 use Rattle.regex_syntax.proofs.Written.{grammar}
 use Rattle.am_labels.specs.declared.wildcards.WildcardPiece.{WildcardPiece}
 use Rattle.am_labels.specs.declared.wildcards.WildcardPiece.TheVariants.{Byte, AnyText}
@@ -27,10 +25,14 @@ use Rattle.am_labels.specs.Wildcards.{is_plain, is_fine_piece}
 abbrev at_text : Text → Place
 at_text t = record { config = default_config; names = None ∷ []; text = t }
 
--- What the dot, a piece, some pieces and some alternatives stand for.
-abbrev pub any_char : Re
-any_char = char_in (members (λ c. nat_le c 0x10_FFFF && not (c == 10)))
+-- What the dot stands for: a character that is no line feed.
+abbrev pub no_line_feed : ℕ → Bool
+no_line_feed c = nat_le c 0x10_FFFF && not (c == 10)
 
+abbrev pub any_char : Re
+any_char = char_in (members no_line_feed)
+
+-- What a piece, some pieces and some alternatives stand for.
 abbrev pub part : WildcardPiece → Nested Re
 part (Byte c) = flat (literal (c ∷ []))
 part AnyText = record { value = alt (plus true any_char) empty; depth = 1 }
@@ -60,14 +62,6 @@ differs c d plain special =
     let parts = and_parts (is_ascii c) _ plain in
     ne_eqb c d (λ e. both_ways (is_special c) (not-true _ parts.1) (ap is_special e ∙ special))
 
-no_group : (c : ℕ) (t : Text) → is_plain c ≡ true → is_at "(" (c ∷ t) ≡ false
-unfolding first
-no_group c t plain = differs c 40 plain refl
-
-no_end : (c : ℕ) (t : Text) → is_plain c ≡ true → is_at "|)" (c ∷ t) ≡ false
-unfolding first
-no_end c t plain = rw (differs c 124 plain refl, differs c 41 plain refl)
-
 abbrev no_operator : Text → Type 0
 no_operator t = is_at "?*+{" t ≡ false
 
@@ -90,15 +84,10 @@ no_operator_behind (AnyText ∷ ps) more d fine none = refl
 item_of_atom : (inner : Place → Option (Nested Re × Place)) (t rest : Text) (part : Nested Re)
     → is_at "(" t ≡ false → atom default_config t ≡ Some (part, rest) → no_operator rest
     → item inner (at_text t) ≡ Some (part, at_text rest)
-unfolding item with_repetitions
+unfolding item with_repetitions repetitions skip
 item_of_atom inner t rest part no_group read_atom h =
-    rw (
-      item,
-      no_group,
-      read_atom,
-      with_repetitions,
-      repetitions_end default_config (length rest + 1) (length rest) part rest rest (omega arith) (sym (skip-false rest)) h,
-    )
+    let fuel : length rest + 1 ≡ suc (length rest) = omega arith in
+    rw (no_group, read_atom, fuel, h)
 
 atom_itself : (c : ℕ) (rest : Text) → is_plain c ≡ true
     → atom default_config (c ∷ rest) ≡ Some (part (Byte c), rest)
@@ -106,18 +95,15 @@ unfolding atom first char_meaning verbatim
 atom_itself c rest plain =
     let small = and_parts (is_ascii c) _ plain in
     rw (
-      atom,
       differs c 63 plain refl,
       differs c 42 plain refl,
       differs c 43 plain refl,
       differs c 123 plain refl,
       differs c 91 plain refl,
       differs c 92 plain refl,
-      char_meaning,
       differs c 46 plain refl,
       differs c 94 plain refl,
       differs c 36 plain refl,
-      verbatim,
       encode_ascii c (ltb-true c 128 small.0),
     )
 
@@ -126,21 +112,12 @@ unfolding first
 no_question [] h = refl
 no_question (c ∷ t) h = (or_parts (c == 63) _ h).0
 
-any_times : (rest : Text) → no_operator rest
-    → repetitions default_config (length (42 ∷ rest) + 1) (flat any_char) (42 ∷ rest)
-    ≡ Some (part AnyText, rest)
-unfolding bounds first repeat
-any_times rest h =
-    let again = repetitions_go default_config (length (42 ∷ rest) + 1) (length rest + 1)
-    (flat any_char) (42 ∷ rest) (42 ∷ rest) (omega arith) (sym (skip-false (42 ∷ rest))) refl in
-    let last = repetitions_end default_config (length rest + 1) (length rest) (part AnyText) rest
-    rest (omega arith) (sym (skip-false rest)) h in
-    again ∙ rw (no_question rest h) last
-
 item_any : (inner : Place → Option (Nested Re × Place)) (rest : Text) → no_operator rest
     → item inner (at_text (46 ∷ 42 ∷ rest)) ≡ Some (part AnyText, at_text rest)
-unfolding item with_repetitions atom first char_meaning dot one_of negate
-item_any inner rest h = rw (item, with_repetitions, any_times rest h)
+unfolding grammar repetitions
+item_any inner rest h =
+    let fuel : length (42 ∷ rest) + 1 ≡ suc (suc (length rest)) = omega arith in
+    rw (fuel, no_question rest h, h)
 
 not_empty : (c : ℕ) (t : Text) → is_empty (c ∷ t) ≡ false
 not_empty c t = ne_eqb (length (c ∷ t)) 0 (λ e. absurd (omega (arith, e)))
@@ -166,10 +143,10 @@ pieces_read [] more d (suc n) fine stops none h = rw (items, stops, not_empty d 
 pieces_read (Byte c ∷ ps) more d (suc n) fine stops none h =
     let parts = and_parts (is_plain c) _ fine in
     let rest = spelled ps ++ d ∷ more in
-    let here = item_of_atom (inside_group n) (c ∷ rest) rest (part (Byte c)) (no_group c rest parts.0)
+    let here = item_of_atom (inside_group n) (c ∷ rest) rest (part (Byte c)) (differs c 40 parts.0 refl)
     (atom_itself c rest parts.0) (no_operator_behind ps more d parts.1 none) in
     rw (
-      goes_on n c rest rest (part (Byte c)) (no_end c rest parts.0) here,
+      goes_on n c rest rest (part (Byte c)) (rw (differs c 124 parts.0 refl, differs c 41 parts.0 refl)) here,
       pieces_read ps more d n parts.1 stops none (omega (arith, h)),
     )
 pieces_read (AnyText ∷ ps) more d (suc n) fine stops none h =

@@ -16,7 +16,8 @@ ghost use Rattle.am_labels.specs.Matcher.{Matcher, condition_holds, all_hold};
 ghost use Rattle.am_labels.specs.declared.pattern_profile.Piece.{Piece};
 ghost use Rattle.am_labels.specs.PatternProfile.{IsJoinOf, IsInProfile, in_profile};
 ghost use Rattle.am_labels.specs.Pattern.{finds};
-ghost use Rattle.am_labels.specs.Wildcards.{alternatives, is_alternation, is_wildcards, wildcards_find};
+ghost use Rattle.am_labels.specs.Wildcards.{alternatives, is_alternation, is_wildcards};
+ghost use Rattle.am_labels.specs.Wildcards.{wildcards_find};
 ghost use Rattle.am_labels.specs.Row.{row_of, row_holds, rows_hold};
 ghost use Rattle.am_labels.specs.MatcherText.{Spells, WordsSpell};
 ghost use Rattle.am_labels.specs.MatcherReading.{read_list};
@@ -122,7 +123,8 @@ pub fn an_impossible_list_takes_away_what_it_matches()
     ensures none { (s : Space) → Contains s.impossible [] → all_choices s ≡ [] }
 {}
 
-/// A pattern that has wildcards alone finds a text exactly if one of its alternatives matches it.
+/// A pattern that has wildcards alone finds a text in UTF-8 exactly if one of its alternatives
+/// matches the text.
 #[tactic(auto, using(crate::proofs::WildcardMatches::finds_wildcards))]
 pub fn wildcards_are_found()
     ensures exactly { (p text : List ℕ) → is_wildcards p ≡ true → IsUtf8 text
