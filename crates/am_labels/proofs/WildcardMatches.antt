@@ -1,13 +1,13 @@
 -- A pattern that has wildcards alone finds what its pieces match.
-use Rattle.std.proofs.Common.{◌≡◌, ◌≢◌, ℕ, zero, suc, ◌+◌, ◌<◌, ◌≤◌, Bool, true, not, ◌&&◌, ◌||◌, ◌==◌, ◌⊎◌}
+use Rattle.std.proofs.Common.{◌≡◌, ℕ, zero, suc, ◌+◌, ◌<◌, ◌≤◌, Bool, true, not, ◌&&◌, ◌||◌, ◌==◌}
 use Rattle.std.proofs.Common.{List, [], ◌∷◌, ◌++◌, length, drop, get_or, map, Some, None, is_some}
 use Rattle.std.proofs.Common.{inl, inr, refl, sym, ap, ap₂, ◌∙◌, subst, arith, codes}
-use Rattle.std.proofs.Common.{append-nil, length-drop, option_map}
+use Rattle.std.proofs.Common.{append-nil, length-drop}
 use Rattle.std.specs.Prelude.{encode_utf8, encode_utf8_all}
-use Rattle.std.specs.Str.{chars, IsUtf8, IsAscii, all_scalars}
+use Rattle.std.specs.Str.{IsUtf8, IsAscii, all_scalars}
 use Rattle.std.specs.Char.{is_ascii, IsScalar, len_utf8}
 use Rattle.std.specs.List.{list_all, list_any, join_with_byte, onto_first}
-use Rattle.std.proofs.lemmas.Bool.{true≢false, cond-true, and_parts, both_ways, ltb-true, cases_Bool, cases_lt, eqb-true, eqb-false, eq-eqb, ne_eqb, and_from, or_left, or_right, or_cases, not-true, not_from_false, lt-ltb, le-leb}
+use Rattle.std.proofs.lemmas.Bool.{true≢false, cond-true, and_parts, both_ways, ltb-true, cases_Bool, cases_lt, eqb-true, eq-eqb, ne_eqb, and_from, or_left, or_right, or_cases, lt-ltb, le-leb}
 use Rattle.std.proofs.lemmas.Bool.Decides.{nat_tests, same_from_decides}
 use Rattle.std.proofs.lemmas.Str.{encode_ascii, inside_one, drop_past_char, IsUtf8-past_char, IsUtf8-nil, IsUtf8-from_ascii, chars-IsAscii, IsCharBoundary-start}
 use Rattle.std.proofs.lemmas.List.{drop-drop, nil_from_length}
@@ -29,8 +29,6 @@ use Rattle.regex_hir.proofs.AttemptLemmas.{attempt_sound, attempt_complete, cond
 use Rattle.regex_hir.proofs.FindLemmas.{IsFirst-of_first_between, first_between_here}
 use Rattle.regex_syntax.specs.Sets.{members}
 use Rattle.regex_syntax.proofs.SetLemmas.{in_ranges-members}
-use Rattle.regex_syntax.specs.Verdict.{default_config}
-use Rattle.regex_syntax.specs.Grammar.{read}
 use Rattle.am_labels.specs.declared.wildcards.WildcardPiece.{WildcardPiece}
 use Rattle.am_labels.specs.declared.wildcards.WildcardPiece.TheVariants.{Byte, AnyText}
 use Rattle.am_labels.specs.Wildcards.{is_plain, is_fine_piece, is_nothing, after_any, matches, pieces_of, alternatives, is_alternation, is_wildcards, wildcards_find}
@@ -39,73 +37,11 @@ use Rattle.am_universe.proofs.UniverseLemmas.{list_any-map}
 use Rattle.am_labels.specs.Pattern.{pattern_reading, anchored_pattern, finds}
 use Rattle.am_labels.proofs.WildcardReading.{no_line_feed, any_char, part, all_of, one_of_all, anchored, anchored_read, spelled, differs}
 
--- ---- A tree that matches up to the end of a text.
+-- ---- What `.*` matches, character by character.
 
--- What `.*` matches begins where the rest matches, or with bytes that are no line feeds.
 any_here : (rest : List ℕ → Bool) (t : List ℕ) → rest t ≡ true → after_any rest t ≡ true
 any_here rest [] h = h
 any_here rest (b ∷ t) h = or_left (rest (b ∷ t)) _ h
-
-any_past : (rest : List ℕ → Bool) (bs t : List ℕ)
-    → ((k : ℕ) → k < length bs → get_or bs k 0 ≢ 10)
-    → after_any rest t ≡ true → after_any rest (bs ++ t) ≡ true
-any_past rest [] t other h = h
-any_past rest (b ∷ bs) t other h =
-    let own = not_from_false (b == 10) (ne_eqb b 10 (other 0 (omega arith))) in
-    or_right (rest (b ∷ (bs ++ t))) _ (and_from _ _ own
-    (any_past rest bs t (λ k l. other (suc k) (omega arith)) h))
-
--- The dot matches a character that is no line feed.
-dot_matches : (c : ℕ) → IsScalar c → in_ranges (members no_line_feed) c ≡ not (c == 10)
-dot_matches c scalar =
-    let within : c ≤ 0x10_FFFF = grind (arith, nat_tests) in
-    in_ranges-members _ c ∙ rw (lt-ltb c 0x11_0000 (omega arith), le-leb c 0x10_FFFF within)
-
--- A byte of ASCII is no part of another character.
-alone : (c k : ℕ) → k < length (encode_utf8 c) → get_or (encode_utf8 c) k 0 < 128
-    → c ≡ get_or (encode_utf8 c) k 0
-alone c k within small = inside_one c [] (encode_utf8 c) k (sym (append-nil _)) within small
-
-module _ (hay : List ℕ) where
-  char_past : (rest : List ℕ → Bool) (i j : ℕ) → Matches hay any_char i j
-      → after_any rest (drop j hay) ≡ true → after_any rest (drop i hay) ≡ true
-  char_past rest i j m h =
-      let parts = char_at_parts hay i m.0 m.1 in
-      let other = not-true _ (sym (dot_matches m.0 parts.0) ∙ m.2) in
-      rw parts.1 (any_past rest (encode_utf8 m.0) _
-      (λ k l ten. eqb-false m.0 10 other (alone m.0 k l (omega (arith, ten)) ∙ ten))
-      (subst (λ n. after_any rest (drop n hay) ≡ true) m.3 h))
-
-  rounds_past : (rest : List ℕ → Bool) (i j : ℕ) → Rounds (Matches hay any_char) i j
-      → after_any rest (drop j hay) ≡ true → after_any rest (drop i hay) ≡ true
-  rounds_past rest i j (one_round _ m) h = char_past rest i j m h
-  rounds_past rest i j (next_round l _ ms m) h = rounds_past rest i l ms (char_past rest l j m h)
-
-  all_sound : (ps : List WildcardPiece) (i j : ℕ) → Matches hay (all_of ps).value i j
-      → drop j hay ≡ [] → matches ps (drop i hay) ≡ true
-  all_sound [] i j m none = ap (λ n. is_nothing (drop n hay)) (sym m) ∙ ap is_nothing none
-  all_sound (Byte c ∷ ps) i j m none =
-      let rest = all_sound ps m.0 j m.2 none in
-      rw (has_bytes_at_parts hay i (c ∷ []) m.1.0)
-      (and_from _ _ (eq-eqb c c refl) (subst (λ n. matches ps (drop n hay) ≡ true) m.1.1 rest))
-  all_sound (AnyText ∷ ps) i j m none =
-      let rest = any_here (matches ps) _ (all_sound ps m.0 j m.2 none) in
-      elim m.1 [
-        | inl rounds ↦ rounds_past (matches ps) i m.0 rounds rest
-        | inr e ↦ subst (λ n. after_any (matches ps) (drop n hay) ≡ true) e rest
-      ]
-
-  no_byte : {X : Type 0} (i j : ℕ) → Matches hay (byte_in []) i j → X
-  no_byte i j m = absurd (both_ways (in_ranges [] m.0) (in_ranges-nil m.0) m.2)
-
-  one_sound : (pss : List (List WildcardPiece)) (i j : ℕ) → Matches hay (one_of_all pss) i j
-      → drop j hay ≡ [] → list_any (λ ps. matches ps (drop i hay)) pss ≡ true
-  one_sound [] i j m none = no_byte i j m
-  one_sound (ps ∷ pss) i j (inl m) none = or_left _ _ (all_sound ps i j m none)
-  one_sound (ps ∷ pss) i j (inr m) none =
-      or_right (matches ps (drop i hay)) _ (one_sound pss i j m none)
-
--- ---- A text that pieces match.
 
 small_byte : (c : ℕ) → is_plain c ≡ true → c < 128
 small_byte c plain = ltb-true c 128 (and_parts (is_ascii c) _ plain).0
@@ -122,61 +58,86 @@ inside_past (AnyText ∷ ps) b t fine high h = elim (or_cases (matches ps (b ∷
   | inr e ↦ (and_parts _ _ e).1
 ]
 
-all_past : (ps : List WildcardPiece) (bs t : List ℕ) → list_all is_fine_piece ps ≡ true
+-- Bytes inside a character are passed over, so the whole character is one step.
+any_past : (ps : List WildcardPiece) (bs t : List ℕ) → list_all is_fine_piece ps ≡ true
     → ((k : ℕ) → k < length bs → 128 ≤ get_or bs k 0)
-    → matches ps (bs ++ t) ≡ true → matches ps t ≡ true
-all_past ps [] t fine high h = h
-all_past ps (b ∷ bs) t fine high h =
-    all_past ps bs t fine (λ k l. high (suc k) (omega arith))
-    (inside_past ps b (bs ++ t) fine (high 0 (omega arith)) h)
+    → after_any (matches ps) (bs ++ t) ≡ after_any (matches ps) t
+any_past ps [] t fine high = refl
+any_past ps (b ∷ bs) t fine high =
+    let own = high 0 (omega arith) in
+    let later = any_past ps bs t fine (λ k l. high (suc k) (omega arith)) in
+    elim (cases_Bool (matches ps (b ∷ (bs ++ t)))) [
+      | inl is ↦ rw is (sym (any_here (matches ps) _ (inside_past ps b _ fine own is)) ∙ later)
+      | inr other ↦ rw (other, ne_eqb b 10 (λ e. omega (arith, e))) later
+    ]
 
--- At a character, the rest matches, or the character is no line feed and the rest matches behind.
-char_cases : (ps : List WildcardPiece) (c : ℕ) (t : List ℕ) → list_all is_fine_piece ps ≡ true
-    → after_any (matches ps) (encode_utf8 c ++ t) ≡ true
-    → (matches ps (encode_utf8 c ++ t) ≡ true)
-    ⊎ ((not (c == 10) ≡ true) × (after_any (matches ps) t ≡ true))
-char_cases ps c t fine h = elim (cases_lt c 128) [
-  | inl small ↦
-      let e = encode_ascii c small in
-      elim (or_cases (matches ps (c ∷ t)) _ (rw e at h)) [
-        | inl now ↦ inl (rw e now)
-        | inr later ↦ inr (and_parts _ _ later)
-      ]
+any_step : (ps : List WildcardPiece) (c : ℕ) (t : List ℕ) → list_all is_fine_piece ps ≡ true
+    → after_any (matches ps) (encode_utf8 c ++ t)
+    ≡ (matches ps (encode_utf8 c ++ t) || (not (c == 10) && after_any (matches ps) t))
+any_step ps c t fine = elim (cases_lt c 128) [
+  | inl small ↦ rw (encode_ascii c small)
   | inr large ↦
-      let high = λ (k : ℕ) (l : k < length (encode_utf8 c)).
-      elim (cases_lt (get_or (encode_utf8 c) k 0) 128) as (λ x. 128 ≤ get_or (encode_utf8 c) k 0) [
-        | inl small ↦ absurd (omega (arith, alone c k l small))
+      let bs = encode_utf8 c in
+      let past = any_past ps bs t fine (λ k l. elim (cases_lt (get_or bs k 0) 128) [
+        | inl small ↦ absurd (omega (arith, inside_one c [] bs k (sym (append-nil bs)) l small))
         | inr is ↦ is
-      ] in
-      inr (
-        not_from_false _ (ne_eqb c 10 (λ ten. omega (arith, ten))),
-        all_past (AnyText ∷ ps) (encode_utf8 c) t fine high h,
-      )
+      ]) in
+      elim (cases_Bool (matches ps (bs ++ t))) [
+        | inl is ↦ rw is (any_here (matches ps) _ is)
+        | inr other ↦ rw (other, ne_eqb c 10 (λ e. omega (arith, e))) past
+      ]
 ]
 
-module _ (hay : List ℕ) where
-  -- A tree leads from a place to the end of the text.
-  abbrev LeadsToEnd : Re → ℕ → Type 0
-  LeadsToEnd re i = (j : ℕ) × Matches hay re i j × (drop j hay ≡ [])
+-- The dot matches a character that is no line feed.
+dot_matches : (c : ℕ) → IsScalar c → in_ranges (members no_line_feed) c ≡ not (c == 10)
+dot_matches c scalar =
+    let within : c ≤ 0x10_FFFF = grind (arith, nat_tests) in
+    in_ranges-members _ c ∙ rw (lt-ltb c 0x11_0000 (omega arith), le-leb c 0x10_FFFF within)
 
-  -- What `.*` matches goes on from a place, character by character.
-  any_leads : (ps : List WildcardPiece) (cs : List ℕ) (start i : ℕ) → list_all is_fine_piece ps ≡ true
-      → ((i : ℕ) (t : List ℕ) → drop i hay ≡ t → IsUtf8 t → matches ps t ≡ true
-      → LeadsToEnd (all_of ps).value i)
+no_byte : {X : Type 0} (hay : List ℕ) (i j : ℕ) → Matches hay (byte_in []) i j → X
+no_byte hay i j m = absurd (both_ways (in_ranges [] m.0) (in_ranges-nil m.0) m.2)
+
+starts_char : (hay : List ℕ) → IsUtf8 hay → is_boundary hay 0 ≡ true
+unfolding is_boundary
+starts_char [] utf8 = refl
+starts_char (b ∷ hay) utf8 =
+    let lead = (IsCharBoundary-start (b ∷ hay) utf8).1 (omega arith) in grind (arith, nat_tests)
+
+-- A tree leads from a place to the end of a text.
+abbrev LeadsToEnd : List ℕ → Re → ℕ → Type 0
+LeadsToEnd hay re i = (j : ℕ) × Matches hay re i j × (drop j hay ≡ [])
+
+module _ (hay : List ℕ) (ps : List WildcardPiece) (fine : list_all is_fine_piece ps ≡ true) where
+  char_past : (i j : ℕ) → Matches hay any_char i j → after_any (matches ps) (drop j hay) ≡ true
+      → after_any (matches ps) (drop i hay) ≡ true
+  char_past i j m h =
+      let parts = char_at_parts hay i m.0 m.1 in
+      let later = subst (λ n. after_any (matches ps) (drop n hay) ≡ true) m.3 h in
+      rw parts.1 (any_step ps m.0 _ fine
+      ∙ or_right _ _ (and_from _ _ (sym (dot_matches m.0 parts.0) ∙ m.2) later))
+
+  rounds_past : (i j : ℕ) → Rounds (Matches hay any_char) i j
+      → after_any (matches ps) (drop j hay) ≡ true → after_any (matches ps) (drop i hay) ≡ true
+  rounds_past i j (one_round _ m) h = char_past i j m h
+  rounds_past i j (next_round l _ ms m) h = rounds_past i l ms (char_past l j m h)
+
+  any_lead : ((i : ℕ) (t : List ℕ) → drop i hay ≡ t → IsUtf8 t → matches ps t ≡ true
+      → LeadsToEnd hay (all_of ps).value i) → (start i : ℕ) (cs : List ℕ)
       → Matches hay (part AnyText).value start i
       → drop i hay ≡ encode_utf8_all cs → all_scalars cs ≡ true
       → after_any (matches ps) (encode_utf8_all cs) ≡ true
-      → LeadsToEnd (all_of (AnyText ∷ ps)).value start
-  any_leads ps [] start i fine rest front e scalars h =
+      → LeadsToEnd hay (all_of (AnyText ∷ ps)).value start
+  any_lead rest start i [] front e scalars h =
       let now = rest i [] e IsUtf8-nil h in (now.0, (i, front, now.1), now.2)
-  any_leads ps (c ∷ cs) start i fine rest front e scalars h =
+  any_lead rest start i (c ∷ cs) front e scalars h =
       let t = encode_utf8_all cs in
       let own = and_parts _ _ scalars in
-      elim (char_cases ps c t fine h) [
+      elim (or_cases (matches ps (encode_utf8 c ++ t)) _ (sym (any_step ps c t fine) ∙ h)) [
         | inl is ↦
             let now = rest i _ e (c ∷ cs, (scalars, refl)) is in
             (now.0, (i, front, now.1), now.2)
-        | inr more ↦
+        | inr later ↦
+            let more = and_parts (not (c == 10)) _ later in
             let k = i + len_utf8 c in
             let one : Matches hay any_char i k =
             (c, char_at_from hay i c t own.0 e, dot_matches c own.0 ∙ more.0, refl) in
@@ -184,11 +145,39 @@ module _ (hay : List ℕ) where
               | inl rs ↦ next_round i k rs one
               | inr none ↦ one_round k (subst (λ n. Matches hay any_char n k) none one)
             ] in
-            any_leads ps cs start k fine rest (inl rounds) (drop_past_char hay t i c e) own.1 more.1
+            any_lead rest start k cs (inl rounds) (drop_past_char hay t i c e) own.1 more.1
       ]
 
+module _ (hay : List ℕ) where
+  -- ---- A tree that matches up to the end of a text.
+
+  all_sound : (ps : List WildcardPiece) (i j : ℕ) → list_all is_fine_piece ps ≡ true
+      → Matches hay (all_of ps).value i j → drop j hay ≡ [] → matches ps (drop i hay) ≡ true
+  all_sound [] i j fine m none = ap (λ n. is_nothing (drop n hay)) (sym m) ∙ ap is_nothing none
+  all_sound (Byte c ∷ ps) i j fine m none =
+      let rest = all_sound ps m.0 j (and_parts (is_plain c) _ fine).1 m.2 none in
+      rw (has_bytes_at_parts hay i (c ∷ []) m.1.0)
+      (and_from _ _ (eq-eqb c c refl) (subst (λ n. matches ps (drop n hay) ≡ true) m.1.1 rest))
+  all_sound (AnyText ∷ ps) i j fine m none =
+      let rest = any_here (matches ps) _ (all_sound ps m.0 j fine m.2 none) in
+      elim m.1 [
+        | inl rounds ↦ rounds_past hay ps fine i m.0 rounds rest
+        | inr e ↦ subst (λ n. after_any (matches ps) (drop n hay) ≡ true) e rest
+      ]
+
+  one_sound : (pss : List (List WildcardPiece)) (i j : ℕ)
+      → list_all (list_all is_fine_piece) pss ≡ true → Matches hay (one_of_all pss) i j
+      → drop j hay ≡ [] → list_any (λ ps. matches ps (drop i hay)) pss ≡ true
+  one_sound [] i j fine m none = no_byte hay i j m
+  one_sound (ps ∷ pss) i j fine (inl m) none =
+      or_left _ _ (all_sound ps i j (and_parts _ _ fine).0 m none)
+  one_sound (ps ∷ pss) i j fine (inr m) none =
+      or_right (matches ps (drop i hay)) _ (one_sound pss i j (and_parts _ _ fine).1 m none)
+
+  -- ---- A text that pieces match.
+
   all_lead : (ps : List WildcardPiece) (i : ℕ) (t : List ℕ) → list_all is_fine_piece ps ≡ true
-      → drop i hay ≡ t → IsUtf8 t → matches ps t ≡ true → LeadsToEnd (all_of ps).value i
+      → drop i hay ≡ t → IsUtf8 t → matches ps t ≡ true → LeadsToEnd hay (all_of ps).value i
   all_lead [] i [] fine e utf8 h = (i, refl, e)
   all_lead [] i (b ∷ t) fine e utf8 h = absurd (cc)
   all_lead (Byte c ∷ ps) i [] fine e utf8 h = absurd (cc)
@@ -201,11 +190,11 @@ module _ (hay : List ℕ) where
       (IsUtf8-past_char (b ∷ t) t c utf8 char) same.1 in
       (later.0, (i + 1, (has_bytes_at_from hay i (c ∷ []) t (e ∙ is), refl), later.1), later.2)
   all_lead (AnyText ∷ ps) i t fine e utf8 h =
-      any_leads ps utf8.0 i i fine (λ k u. all_lead ps k u fine) (inr refl) (e ∙ sym utf8.1.1) utf8.1.0
-      (ap (after_any (matches ps)) utf8.1.1 ∙ h)
+      any_lead hay ps fine (λ k u. all_lead ps k u fine) i i utf8.0 (inr refl) (e ∙ sym utf8.1.1)
+      utf8.1.0 (ap (after_any (matches ps)) utf8.1.1 ∙ h)
 
   one_leads : (pss : List (List WildcardPiece)) → list_all (list_all is_fine_piece) pss ≡ true
-      → IsUtf8 hay → list_any (λ ps. matches ps hay) pss ≡ true → LeadsToEnd (one_of_all pss) 0
+      → IsUtf8 hay → list_any (λ ps. matches ps hay) pss ≡ true → LeadsToEnd hay (one_of_all pss) 0
   one_leads [] fine utf8 h = absurd (cc)
   one_leads (ps ∷ pss) fine utf8 h =
       let own = and_parts _ _ fine in
@@ -214,15 +203,8 @@ module _ (hay : List ℕ) where
         | inr more ↦ let later = one_leads pss own.1 utf8 more in (later.0, inr later.1, later.2)
       ]
 
--- ---- The anchors, and the search.
+  -- ---- The anchors, and the search.
 
-starts_char : (hay : List ℕ) → IsUtf8 hay → is_boundary hay 0 ≡ true
-unfolding is_boundary
-starts_char [] utf8 = refl
-starts_char (b ∷ hay) utf8 =
-    let lead = (IsCharBoundary-start (b ∷ hay) utf8).1 (omega arith) in grind (arith, nat_tests)
-
-module _ (hay : List ℕ) where
   at_start : (i : ℕ) → i ≤ length hay → holds Start hay i ≡ true → i ≡ 0
   unfolding holds holds_between
   at_start zero within h = refl
@@ -238,15 +220,7 @@ module _ (hay : List ℕ) where
     | inr past ↦ nil_from_length (drop i hay) (omega (arith, length-drop i hay))
   ]
 
-  starts : holds Start hay 0 ≡ true
-  unfolding holds holds_between byte_before
-  starts = refl
-
-  ends : (j : ℕ) → drop j hay ≡ [] → holds End hay j ≡ true
-  unfolding holds holds_between
-  ends j none = rw (slice_get_past hay j (omega (arith, length-drop j hay, ap length none)))
-
-  module _ (pss : List (List WildcardPiece)) where
+  module _ (pss : List (List WildcardPiece)) (fine : list_all (list_all is_fine_piece) pss ≡ true) where
     found_sound : is_some (find_str (anchored pss) hay 0) ≡ true
         → list_any (λ ps. matches ps hay) pss ≡ true
     unfolding find_str
@@ -259,18 +233,21 @@ module _ (hay : List ℕ) where
           | inl m ↦
               let from : m.0 ≡ 0 = m.1.1 ∙ at_start _ first.to m.1.0 in
               subst (λ i. list_any (λ ps. matches ps (drop i hay)) pss ≡ true) from
-              (one_sound hay pss m.0 m.2.0 m.2.1 (at_end m.2.0 m.2.2.1.0))
+              (one_sound pss m.0 m.2.0 fine m.2.1 (at_end m.2.0 m.2.2.1.0))
           | inr none ↦ no_byte hay _ _ none
         ]
 
-    found_complete : list_all (list_all is_fine_piece) pss ≡ true → IsUtf8 hay
-        → list_any (λ ps. matches ps hay) pss ≡ true
+    found_complete : IsUtf8 hay → list_any (λ ps. matches ps hay) pss ≡ true
         → is_some (find_str (anchored pss) hay 0) ≡ true
-    unfolding find_str
-    found_complete fine utf8 h =
-        let one = one_leads hay pss fine utf8 h in
-        let whole : Matches hay (anchored pss) 0 one.0 =
-        inl (0, (starts, refl), (one.0, one.1, (one.0, (ends one.0 one.2, refl), refl))) in
+    unfolding find_str holds holds_between byte_before
+    found_complete utf8 h =
+        let one = one_leads pss fine utf8 h in
+        let past : length hay ≤ one.0 = omega (arith, length-drop one.0 hay, ap length one.2) in
+        let whole : Matches hay (anchored pss) 0 one.0 = inl (
+          0,
+          (refl, refl),
+          (one.0, one.1, (one.0, (rw (slice_get_past hay one.0 past), refl), refl)),
+        ) in
         let m = value_of_IsSome _ (attempt_complete hay (anchored pss) accept 0 one.0 whole refl) in
         ap is_some (first_between_here _ 0 (length hay) m.0 (omega arith)
         (cond-true _ _ None (starts_char hay utf8) ∙ m.1))
@@ -321,17 +298,15 @@ read_wildcards : (p : List ℕ) (ws : List (List ℕ)) → alternatives p ≡ ws
 unfolding pattern_reading
 read_wildcards p [] e fine = absurd (omega (arith, ap length e, length-slice_split (λ c. c == 124) p))
 read_wildcards p (a ∷ ws) e fine =
-    let inside = join_with_byte 124 (map spelled (map pieces_of (a ∷ ws))) in
+    let pss = map pieces_of (a ∷ ws) in
+    let inside = join_with_byte 124 (map spelled pss) in
     let joined : inside ≡ p = ap (join_with_byte 124) (all_spelled_back (a ∷ ws) ∙ sym e)
     ∙ join_with_byte-slice_split 124 p in
     let whole = anchored_pattern inside in
     let small : list_all is_ascii whole ≡ true =
-    list_all-append is_ascii inside (codes ")$")
-    ∙ and_from _ _ (joined_ascii (map pieces_of (a ∷ ws)) fine) refl in
-    ap (λ t. option_map (λ (found, _). found.value) (read default_config t))
-    (ap (λ t. chars (anchored_pattern t)) (sym joined)
-    ∙ chars-IsAscii whole (ascii whole small))
-    ∙ anchored_read (pieces_of a) (map pieces_of ws) fine
+    list_all-append is_ascii inside (codes ")$") ∙ and_from _ _ (joined_ascii pss fine) refl in
+    rw (← joined, chars-IsAscii whole (ascii whole small))
+    (anchored_read (pieces_of a) (map pieces_of ws) fine)
 
 found_by_pieces : (p text : List ℕ) → is_wildcards p ≡ true
     → (wildcards_find p text ≡ true → IsUtf8 text) → finds p text ≡ wildcards_find p text
@@ -342,7 +317,7 @@ found_by_pieces p text is utf8 =
     let tree : finds p text ≡ is_some (find_str (anchored pss) text 0) =
     ap (λ o. is_some_and o (λ re. is_some (find_str re text 0))) (read_wildcards p _ refl fine) in
     tree ∙ same_from_decides _ _ (
-      λ e. sym same ∙ found_sound text pss e,
+      λ e. sym same ∙ found_sound text pss fine e,
       λ e. found_complete text pss fine (utf8 e) (same ∙ e),
     ) (λ e. e, λ e. e)
 
