@@ -1,8 +1,12 @@
 -- The number of a text leads to a state of the text.
-use Rattle.std.proofs.Common.{◌≡◌, ℕ, ◌<◌, true, List, [], ◌∷◌, ◌++◌, length, inl, inr, Some}
+use Rattle.std.proofs.Common.{◌≡◌, ℕ, ◌<◌, Bool, true, List, [], ◌∷◌, ◌++◌, length, inl, inr, Option, Some, None, ◌&&◌, nat_eq, refl, ap}
 use Rattle.std.proofs.Common.{slice_get, slice_index, string_bytes, vec_len, sym, ◌∙◌, subst, arith}
 use Rattle.std.specs.List.{list_all}
-use Rattle.std.proofs.lemmas.Bool.{and_parts}
+use mathlib.Core.Bool.{beq}
+use Rattle.std.specs.Cmp.{booleans_Decides}
+use Rattle.std.specs.Cmp.Lexicographic.{pointwise, same_text}
+use Rattle.std.specs.Option.{option_eq}
+use Rattle.std.proofs.lemmas.Bool.{and_parts, eqb-true}
 use Rattle.std.proofs.lemmas.Option.{slice_get-get_or, slice_get_within}
 use Rattle.std.proofs.lemmas.Grind.{common_steps}
 use Rattle.am_labels.specs.Pattern.{finds}
@@ -80,3 +84,21 @@ AreClasses-more scan old new classes all byte class h grows len is own = λ b ot
           let f = own (subst (λ x. is_scanned scan.ascii x ≡ true) same scanned) in
           (f.0, subst (λ x. slice_get new x ≡ Some f.0) here.1 f.1, subst (λ x. IsColumn scan.nfa scan.sight x f.0) (sym same) f.2))
     ]
+
+-- States that the set takes for the same follow the same texts.
+same_kinds : (o p : Option ℕ) → option_eq nat_eq o p ≡ true → o ≡ p
+same_kinds None None same = refl
+same_kinds None (Some y) same = absurd cc
+same_kinds (Some x) None same = absurd cc
+same_kinds (Some x) (Some y) same = ap Some (eqb-true x y same)
+
+abbrev pub are_same : PatternState → PatternState → Bool
+are_same a b = option_eq nat_eq a.first b.first && (beq a.starts b.starts && (pointwise nat_eq a.reads.items b.reads.items && beq a.later b.later))
+
+pub same_follows : (a b : PatternState) → are_same a b ≡ true → (scan : PatternScan) (text : List ℕ) → Follows scan a text → Follows scan b text
+unfolding Follows
+same_follows a b same scan text h =
+    let one = and_parts (option_eq nat_eq a.first b.first) _ same in
+    let two = and_parts (beq a.starts b.starts) _ one.1 in
+    let three = and_parts (pointwise nat_eq a.reads.items b.reads.items) _ two.1 in
+    rw (← same_kinds a.first b.first one.0, ← (booleans_Decides a.starts b.starts).0 two.0, ← (booleans_Decides a.later b.later).0 three.1, ← same_text a.reads.items b.reads.items (sym three.0)) h

@@ -1,6 +1,8 @@
 -- The element at a position of a list: in a longer list, in a prefix, and among all elements.
-use Rattle.std.proofs.Common.{◌≡◌, ℕ, zero, suc, ◌+◌, ◌<◌, List, [], ◌∷◌, ◌++◌, Some, slice_get, length, map, take, get_or, Contains, ◌⊎◌, inl, inr, refl, ap, subst, sym, ◌∙◌, arith}
-use Rattle.std.specs.List.{AllByRecursion}
+use Rattle.std.proofs.Common.{◌≡◌, Bool, ℕ, zero, suc, ◌+◌, ◌<◌, List, [], ◌∷◌, ◌++◌, Some, slice_get, length, map, take, get_or, Contains, ◌⊎◌, inl, inr, refl, ap, subst, sym, ◌∙◌, arith}
+use Rattle.std.specs.List.{AllByRecursion, list_any}
+use Rattle.std.proofs.lemmas.Bool.{cond_both}
+use Rattle.indexmap.specs.IndexSet.{insert_key}
 use Rattle.std.proofs.lemmas.List.{take_more, take_all, map-append}
 use Rattle.std.proofs.lemmas.Option.{get_or_from_slice_get, slice_get_within, same_Some}
 use Rattle.std.proofs.lemmas.Grind.{common_steps}
@@ -118,3 +120,18 @@ pub grown_back : {X : Type 0} (old new : List X) (k : ℕ) (x : X) → Grows old
     → slice_get new k ≡ Some x → slice_get old k ≡ Some x
 grown_back old new k x grows h at =
     let there = get_within old k h in there.1 ∙ sym (grows k there.0 there.1) ∙ at
+
+-- Rows of the first elements of a list stay so when the list grows, with one more row.
+pub rows_pushed : {X Y : Type 0} (R : X → Y → Type 0) (old new : List X) (rows all : List Y) (row : Y) → Grows old new → length rows < length old → all ≡ rows ++ row ∷ []
+    → ((k : ℕ) (x : X) (y : Y) → slice_get old k ≡ Some x → slice_get rows k ≡ Some y → R x y) → ((x : X) → slice_get old (length rows) ≡ Some x → R x row)
+    → (k : ℕ) (x : X) (y : Y) → slice_get new k ≡ Some x → slice_get all k ≡ Some y → R x y
+rows_pushed R old new rows all row grows below is each last k x y here there =
+    elim (get_pushed rows row y k (subst (λ ys. slice_get ys k ≡ Some y) is there)) [
+      | inl before ↦ each k x y (grown_back old new k x grows (omega (arith, slice_get_within rows k y before)) here) before
+      | inr end ↦ subst (R x) end.1 (last x (grown_back old new (length rows) x grows below (subst (λ i. slice_get new i ≡ Some x) end.0 here)))
+    ]
+
+-- A set keeps its elements in their places when one is inserted.
+pub grows_inserted : {X : Type 0} (eq : X → X → Bool) (old new : List X) (x : X) → new ≡ insert_key eq old x → Grows old new
+grows_inserted eq old new x is =
+    subst (Grows old) (sym is) (cond_both (list_any (eq x) old) old (old ++ x ∷ []) (Grows old) (λ _ k y at. at) (λ _. grows_pushed old _ x refl))

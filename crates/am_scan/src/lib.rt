@@ -14,13 +14,15 @@ mod column;
 mod columns;
 mod sight;
 
-// What is known when the end of a text has been read, and hashes to look that up.
+// What is known when the end of a text has been read.
 mod closure;
-mod hashing;
 mod pattern_state;
 
 // How a pattern is followed from the end of a text.
 mod pattern_scan;
+
+// Hashes, with which callers look up states.
+mod hashing;
 
 // The automaton, and the rows of its table.
 mod exploration;

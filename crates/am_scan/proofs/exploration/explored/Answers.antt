@@ -1,8 +1,7 @@
 -- One more row.
-use Rattle.std.proofs.Common.{◌≡◌, ◌<◌, Some, length, slice_get, inl, inr, subst, ◌∙◌, arith}
-use Rattle.std.proofs.lemmas.Option.{slice_get_within}
+use Rattle.std.proofs.Common.{◌≡◌, ◌<◌, length, slice_get, Some, subst, arith}
 use Rattle.am_scan.specs.Automaton.{IsRow}
-use Rattle.am_scan.proofs.Places.{get_pushed, grows_within, grown_back}
+use Rattle.am_scan.proofs.Places.{grows_within, grown_back, rows_pushed}
 use Rattle.am_scan.proofs.AutomatonLemmas.{IsRow_kept}
 use Rattle.am_scan.proofs.exploration.explored.Goals as goal
 
@@ -10,29 +9,22 @@ pub loop-at-preserved : goal.loop-at-preserved
 loop-at-preserved c =
     let scan = c.args.scan.now in
     let columns = c.args.columns.now in
-    let old = c.loop-at.exploration.states in
-    let new = c.row.new.self.states in
+    let h = c.loop-at.invariant in
+    let old = c.loop-at.states.keys in
+    let new = c.row.new.states.keys in
     let rows = c.loop-at.rows in
     let at = c.loop-at.at in
-    let grows = c.in_ok-row.ensures.grows in
-    let inside : at < length old.items = omega (arith, old.ok.0, c.len.ensures, c.if-at-len.false, c.loop-at.invariant.within) in
-    let within = grows_within old.items new.items at grows inside in
-    let count : length rows.items ≡ at = omega (arith, rows.ok.0, c.loop-at.invariant.count) in
+    let grows = rw c.in-Some.is at c.in_ok-row.ensures.grows in
+    let inside : at < length old = omega (arith, c.len.ensures.len, c.if-at-len.false, h.within) in
+    let within = grows_within old new at grows inside in
+    let count : length rows.items ≡ at = omega (arith, rows.ok.0, h.count) in
     let row = rw c.in-Some.is at c.in_ok-row.ensures.row in
     record {
-      within = omega (arith, new.ok.0);
-      some = omega (arith, new.ok.0);
-      count = grind (arith, c.in_ok-push.ensures.items, c.loop-at.invariant.count);
-      first = λ state here. c.loop-at.invariant.first state (grown_back old.items new.items 0 state grows (omega arith) here);
-      each = λ k state one here there.
-          elim (get_pushed rows.items c.in-Some.row one k (rw c.in_ok-push.ensures.items at there)) [
-            | inl before ↦
-                (let below : k < length old.items = omega (arith, slice_get_within rows.items k one before) in
-                IsRow_kept scan columns old.items new.items state one grows
-                (c.loop-at.invariant.each k state one (grown_back old.items new.items k state grows below here) before))
-            | inr last ↦
-                (let same : k ≡ at = last.0 ∙ count in
-                let there = grown_back old.items new.items k state grows (omega arith) here in
-                subst (IsRow scan columns new.items state) last.1 (row state (subst (λ i. slice_get old.items i ≡ Some state) same there)))
-          ];
+      within = omega arith;
+      some = omega arith;
+      count = grind (arith, c.in_ok-push.ensures.items, h.count);
+      first = λ state here. h.first state (grown_back old new 0 state grows (omega arith) here);
+      each = rows_pushed (IsRow scan columns new) old new rows.items c.push.new.self.items c.in-Some.row grows (omega (arith, count)) c.in_ok-push.ensures.items
+          (λ k state one here there. IsRow_kept scan columns old new state one grows (h.each k state one here there))
+          (λ state here. row state (subst (λ i. slice_get old i ≡ Some state) count here));
     }

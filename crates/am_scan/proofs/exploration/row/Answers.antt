@@ -1,25 +1,24 @@
 -- A byte leads to the state whose number was found.
-use Rattle.std.proofs.Common.{◌∷◌, refl, sym, subst, ◌∙◌, arith}
-use Rattle.std.proofs.lemmas.Option.{slice_get_read, slice_get_within, same_Some}
+use Rattle.std.proofs.Common.{◌∷◌, sym, subst, ◌∙◌, arith}
+use Rattle.std.proofs.lemmas.Option.{slice_get_within, same_Some}
 use Rattle.am_scan.specs.Automaton.{IsRow}
 use Rattle.am_scan.proofs.Places.{get_within}
-use Rattle.am_scan.proofs.exploration.Exploration.row.Goals as goal
+use Rattle.am_scan.proofs.exploration.row.Goals as goal
 
 pub returns-clause-row : goal.returns-clause-row
 returns-clause-row c = λ state at.
     let scan = c.args.scan.now in
     let columns = c.args.columns.now in
-    let states = c.args.self.now.states in
+    let states = c.args.states.now.keys in
     let this = c.index-state.result.now in
     let nexts = c.in-Some-2.nexts in
     let numbers = c.in-Some-3.next in
-    let this_at = slice_get_read states.items _ c.args.at this refl (omega (arith, c.requires, states.ok.0)) c.index-state.ensures in
     let count = rw c.in-Some-2.is at c.in_ok-nexts.ensures.count in
     let leads = rw c.in-Some-2.is at c.in_ok-nexts.ensures.each in
     let as_many = rw c.in-Some-3.is at c.in_ok-next.ensures.count in
     let serve = rw c.in-Some-3.is at c.in_ok-next.ensures.each in
-    subst (λ s. IsRow scan columns c.numbers_of.new.self.states.items s (record { next = numbers; found = c.in-Some.found }))
-    (same_Some this state (sym this_at ∙ at))
+    subst (λ s. IsRow scan columns c.numbers_of.new.states.keys s (record { next = numbers; found = c.in-Some.found }))
+    (same_Some this state (sym c.index-state.ensures ∙ at))
     (record {
       count = as_many ∙ count;
       leads = λ k column number here there.
