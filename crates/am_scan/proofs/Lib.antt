@@ -4,3 +4,6 @@ mod ClosureLemmas
 mod StepLemmas
 mod ColumnLemmas
 mod AutomatonLemmas
+pub mod WildcardLemmas
+pub mod WildcardStateLemmas
+pub mod WildcardTableLemmas

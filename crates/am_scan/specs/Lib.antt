@@ -4,3 +4,5 @@ pub mod Column
 pub mod Scan
 pub mod Numbers
 pub mod Automaton
+pub mod WildcardPlaces
+pub mod WildcardStates

@@ -21,6 +21,12 @@ mod pattern_state;
 // How a pattern is followed from the end of a text.
 mod pattern_scan;
 
+// How a pattern with wildcards alone is followed, without an engine.
+mod wildcard_alphabet;
+mod wildcard_exploration;
+mod wildcard_marks;
+mod wildcard_place;
+
 // Hashes, with which callers look up states.
 mod hashing;
 

@@ -10,16 +10,25 @@
 //! The assertions `^`, `$`, `\A`, `\z` and those of `(?m)` ask only which byte is before a place
 //! and which is after it, so they are followed too. `\b` asks about characters. Over ASCII a byte
 //! is a character, and `\b` is followed there; over Unicode it is not.
-ghost use Rattle.std.specs.Prelude.{◌≡◌, ℕ, ◌∷◌, [], List, true, IfOk, IfSome, IsTrue, slice_index};
-ghost use Rattle.std.specs.Prelude.{string_bytes};
+//!
+//! A pattern with wildcards alone, such as `db.*|web`, is followed without the engine. Its table is
+//! refused only if the pattern has too many states.
+ghost use Rattle.std.specs.Prelude.{◌≡◌, ℕ, ◌∷◌, [], List, true, IfOk, IfSome, IfNone};
+ghost use Rattle.std.specs.Prelude.{IsTrue, IsUtf8, slice_index, string_bytes};
 ghost use Rattle.am_labels.specs.Pattern.{finds};
+ghost use Rattle.am_labels.specs.Wildcards.{is_wildcards, wildcards_state};
 ghost use Rattle.am_scan.specs.Sight.{IsScanned};
 ghost use Rattle.am_scan.specs.Numbers.{number_in, found_in};
+ghost use Rattle.am_scan.specs.WildcardStates.{HasManyStates};
 
 use crate::columns::Columns;
 use crate::exploration::explored;
 use crate::pattern_scan::PatternScan;
 use crate::row::Row;
+use crate::wildcard_alphabet::Alphabet;
+use crate::wildcard_exploration::wildcard_rows;
+use crate::wildcard_place::places_of;
+use am_labels::is_wildcards;
 use std::alloc::{AllocError, Global};
 
 /// A pattern as an automaton that reads texts from their end. The pattern treats all texts with one
@@ -29,13 +38,16 @@ pub struct PatternAutomaton {
     pattern: String,
     /// Whether only texts of ASCII are read.
     ascii: bool,
-    /// The class of each byte. Bytes of one class lead to the same numbers.
+    /// The class of each byte; past the end it is 0. Bytes of one class lead to the same numbers.
     classes: Vec<u8>,
     /// For each number, the row of its texts.
     rows: Vec<Row>,
-    ghost exact: { (text : List ℕ) → IsScanned ascii text
+    ghost exact: { (text : List ℕ) → IsScanned ascii text → IsUtf8 text
         → found_in rows.items (number_in rows.items classes.items text)
         ≡ finds (string_bytes pattern) text },
+    ghost by_state: { is_wildcards (string_bytes pattern) ≡ true → (x y : List ℕ)
+        → wildcards_state (string_bytes pattern) x ≡ wildcards_state (string_bytes pattern) y
+        → number_in rows.items classes.items x ≡ number_in rows.items classes.items y },
 }
 
 impl PatternAutomaton {
@@ -44,8 +56,9 @@ impl PatternAutomaton {
     /// Makes the automaton of a pattern, for texts of ASCII alone if `ascii`, and else for any
     /// text. Returns `None` if there is none: the engine's grammar does not read the pattern; the
     /// pattern or its automaton is too large; or the pattern asks whether a word begins or ends, as
-    /// `\b` does, in texts that may have other characters than those of ASCII. Fails only if memory
-    /// runs out.
+    /// `\b` does, in texts that may have other characters than those of ASCII. A pattern with
+    /// wildcards alone has an automaton unless it has too many states. Fails only if memory runs
+    /// out.
     pub fn of(
         alloc: Global,
         pattern: &str,
@@ -55,7 +68,12 @@ impl PatternAutomaton {
             (λ automaton. pattern_of automaton ≡ pattern.now)) }
         ensures ascii { IfOk result (λ found. IfSome found
             (λ automaton. is_ascii automaton ≡ ascii)) }
+        ensures none { IfOk result (λ found. IfNone found
+            (is_wildcards pattern.now ≡ true → HasManyStates pattern.now)) }
     {
+        if is_wildcards(alloc, pattern)? {
+            return PatternAutomaton::of_wildcards(alloc, pattern, ascii);
+        }
         let Some(scan) = PatternScan::of(alloc, pattern, ascii)? else {
             return Ok(None);
         };
@@ -69,6 +87,36 @@ impl PatternAutomaton {
             pattern: scan.pattern,
             ascii,
             classes: columns.classes,
+            rows,
+        }))
+    }
+
+    /// Makes the automaton of a pattern with wildcards alone. Returns `None` if it has too many
+    /// states.
+    #[tactic(auto, unfolding(crate::specs::Automaton::pattern_of, crate::specs::Automaton::is_ascii))]
+    fn of_wildcards(
+        alloc: Global,
+        pattern: &str,
+        ascii: bool,
+    ) -> Result<Option<PatternAutomaton>, AllocError>
+        requires { is_wildcards pattern.now ≡ true }
+        ensures pattern { IfOk result (λ found. IfSome found
+            (λ automaton. pattern_of automaton ≡ pattern.now)) }
+        ensures ascii { IfOk result (λ found. IfSome found
+            (λ automaton. is_ascii automaton ≡ ascii)) }
+        ensures none { IfOk result (λ found. IfNone found (HasManyStates pattern.now)) }
+    {
+        let places = places_of(alloc, pattern)?;
+        let places = places.as_slice();
+        let alphabet = Alphabet::of(alloc, places)?;
+        let Some(rows) = wildcard_rows(alloc, places, alphabet.symbols.as_slice())? else {
+            return Ok(None);
+        };
+        let pattern = String::from_str(alloc, pattern)?;
+        Ok(Some(PatternAutomaton {
+            pattern,
+            ascii,
+            classes: alphabet.classes,
             rows,
         }))
     }
@@ -97,18 +145,27 @@ impl PatternAutomaton {
         }
     }
 
-    /// Whether the pattern finds a text that the automaton reads, by its number, which must come
-    /// from this automaton. For any other number nothing is promised.
+    /// Whether the pattern finds a text in UTF-8 that the automaton reads, by its number, which
+    /// must come from this automaton. For any other number nothing is promised.
     #[tactic(auto, using(std::proofs::lemmas::Option::slice_get_read, std::proofs::lemmas::Option::slice_get_past), unfolding(crate::specs::Automaton::number_of, crate::specs::Automaton::is_ascii, crate::specs::Automaton::pattern_of))]
     pub fn finds(&self, number: u32) -> bool
         ensures { (text : List ℕ) → number ≡ number_of self.now text
-            → IsScanned (is_ascii self.now) text → result ≡ finds (pattern_of self.now) text }
+            → IsScanned (is_ascii self.now) text → IsUtf8 text
+            → result ≡ finds (pattern_of self.now) text }
     {
         match self.rows.get(number as usize) {
             Some(row) => row.found,
             None => false,
         }
     }
+
+    /// Texts with one state of a pattern with wildcards alone have one number.
+    #[tactic(auto, unfolding(crate::specs::Automaton::number_of, crate::specs::Automaton::pattern_of))]
+    pub fn states_have_numbers(&self)
+        ensures { is_wildcards (pattern_of self.now) ≡ true → (x y : List ℕ)
+            → wildcards_state (pattern_of self.now) x ≡ wildcards_state (pattern_of self.now) y
+            → number_of self.now x ≡ number_of self.now y }
+    {}
 
     /// Returns the class of a byte.
     #[tactic(auto, unfolding(crate::specs::Automaton::class_of))]

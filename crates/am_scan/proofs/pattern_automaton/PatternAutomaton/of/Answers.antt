@@ -1,5 +1,6 @@
 -- The rows lead each text to a state of the text.
-use Rattle.std.proofs.Common.{◌≡◌, length, refl, subst, sym, arith}
+use Rattle.std.proofs.Common.{◌≡◌, length, refl, subst, sym, ap, ◌∙◌, true≢false, arith}
+use Rattle.am_labels.specs.Wildcards.{is_wildcards}
 use Rattle.am_scan.specs.Sight.{IsScanned}
 use Rattle.am_scan.specs.Automaton.{is_ascii, pattern_of}
 use Rattle.am_scan.proofs.AutomatonLemmas.{found_in-exact}
@@ -15,9 +16,10 @@ invariant_of-result c =
     let are = rw (c.in-Some-3.is, c.as_slice.ensures.value) at c.in_ok-rows.ensures in
     let bytes : length columns.classes.items ≡ 256 = omega (arith, columns.classes.ok.0, count) in
     record {
-      exact = λ text scanned.
+      exact = λ text scanned _.
           found_in-exact scan columns.columns.items columns.classes.items are.0 c.in-Some-3.rows.items bytes own are.1 text
           (subst (λ a. IsScanned a text) (sym ascii) scanned);
+      by_state = λ yes. let name = rw c.in-Some.is at c.in_ok-scan.ensures.pattern in absurd (true≢false (sym yes ∙ ap is_wildcards name ∙ sym c.in_ok-is_wildcards.ensures ∙ c.if-branch.false));
     }
 
 pub returns-clause-pattern : goal.returns-clause-pattern
