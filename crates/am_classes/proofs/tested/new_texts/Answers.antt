@@ -1,82 +1,61 @@
-use Rattle.std.proofs.Common.{◌≡◌, ◌++◌, ◌∷◌, [], true, false, ℕ, List, map, string_bytes, sym, ap, ◌∙◌}
-use Rattle.std.proofs.Common.{subst, append_assoc, refl}
+use Rattle.std.proofs.Common.{◌≡◌, ◌++◌, ◌∷◌, [], List, map, sym, ap, ◌∙◌, subst}
+use Rattle.std.proofs.Common.{append-nil, rules, append_assoc, refl, string_bytes}
 use Rattle.std.specs.List.{list_any}
+use Rattle.std.proofs.lemmas.Bool.{not-true, not-false, OnFalse_at}
 use Rattle.std.proofs.lemmas.Iterator.Adapters.{YieldsList-from_vec}
 use Rattle.std.proofs.lemmas.Iterator.Consumers.{YieldsList-end}
 use Rattle.std.proofs.lemmas.List.{map-append}
 use Rattle.std.proofs.lemmas.List.Folds.{map_fixed}
-use Rattle.am_universe.proofs.DistinctLists.{all_push, all_pushed}
-use Rattle.am_classes.specs.Alike.{HasAlikeIn}
+use Rattle.am_universe.proofs.DistinctLists.{all_pushed}
+use Rattle.am_classes.specs.Truths.{AreTested, AreNewIn, texts_of}
 use Rattle.am_classes.specs.declared.tested.Tested.{Tested}
-use Rattle.am_classes.specs.Truths.{AreTested, AreNewIn, texts_of, truths, has_same_truths}
-use Rattle.am_classes.proofs.TestedTexts.{alike_there, none_alike, one_old, one_new}
+use Rattle.am_classes.proofs.TestedTexts.{AreSeen, seen_first, seen_more, alike_there, none_alike}
+use Rattle.am_classes.proofs.TestedTexts.{one_old, one_new}
 use Rattle.am_classes.proofs.tested.new_texts.Goals as goal
 
-pub loop-text-preserved : goal.loop-text-preserved
-loop-text-preserved c =
-    let there = texts_of c.args.there.items in
-    let now = c.loop-text.there.items in
-    let yielded = c.loop-text.yielded in
-    let text = c.in-Some.text in
-    let x = string_bytes text.text in
-    let copy = c.in_ok-from_str.field-0 in
-    let before = map string_bytes c.loop-text.texts.items in
-    let copied : string_bytes copy ≡ x = c.in_ok-from_str.ensures.ok ∙ c.as_str.ensures.value in
-    let texts : map string_bytes c.push.new.self.items ≡ before ++ x ∷ [] =
-    ap (map string_bytes) c.in_ok-push.ensures.items
-    ∙ map-append string_bytes c.loop-text.texts.items (copy ∷ []) ∙ (λ i. before ++ copied i ∷ []) in
-    record {
-      there = ap texts_of c.in_ok-push-2.ensures.items
-          ∙ map-append (λ t. string_bytes t.text) now (text ∷ [])
-          ∙ ap (λ xs. xs ++ x ∷ []) c.loop-text.invariant.there
-          ∙ append_assoc there before (x ∷ []) ∙ ap (λ xs. there ++ xs) (sym texts);
-      new = λ ms tested wanted.
-          let parts = all_pushed (λ t. t.truths.items ≡ truths ms (string_bytes t.text)) yielded text
-          wanted in
-          let so_far = c.loop-text.invariant.new ms tested parts.0 in
-          let none : list_any (has_same_truths text) now ≡ false =
-          ap (list_any (has_same_truths text)) (sym c.as_slice.ensures.value)
-          ∙ sym c.is_alike_to_one.ensures ∙ c.if-is_alike_to_one.false in (
-            subst (AreTested ms) (sym c.in_ok-push-2.ensures.items)
-                (all_push (λ t. t.truths.items ≡ truths ms (string_bytes t.text)) now text so_far.0
-                parts.1),
-            subst (AreNewIn ms there (texts_of (yielded ++ text ∷ []))) (sym texts)
-                (subst (λ (xs : List (List ℕ)). AreNewIn ms there xs (before ++ x ∷ []))
-                (sym (map-append (λ t. string_bytes t.text) yielded (text ∷ [])))
-                (one_new ms there (texts_of yielded) before x so_far.1
-                (subst (λ (xs : List (List ℕ)). HasAlikeIn ms xs x → ⊥) c.loop-text.invariant.there
-                (none_alike ms now text so_far.0 parts.1 none)))),
-          );
-    }
+pub loop-text-init : goal.loop-text-init
+loop-text-init c = λ ms there none.
+    simp (c.new-texts.ensures.items, append-nil) (
+      λ found. c.in_ok-seen.ensures.0 found ∙ seen_first ms c.args.there.items found there,
+      search rules,
+    )
 
-pub loop-text-preserved-then-is_alike_to_one : goal.loop-text-preserved-then-is_alike_to_one
-loop-text-preserved-then-is_alike_to_one c =
+pub loop-text-preserved : goal.loop-text-preserved
+loop-text-preserved c = λ ms tested wanted.
     let there = texts_of c.args.there.items in
-    let now = c.loop-text.there.items in
-    let yielded = c.loop-text.yielded in
     let text = c.in-Some.text in
     let x = string_bytes text.text in
     let before = map string_bytes c.loop-text.texts.items in
-    record {
-      there = c.loop-text.invariant.there;
-      new = λ ms tested wanted.
-          let parts = all_pushed (λ t. t.truths.items ≡ truths ms (string_bytes t.text)) yielded text
-          wanted in
-          let so_far = c.loop-text.invariant.new ms tested parts.0 in
-          let one : list_any (has_same_truths text) now ≡ true =
-          ap (list_any (has_same_truths text)) (sym c.as_slice.ensures.value)
-          ∙ sym c.is_alike_to_one.ensures ∙ c.if-is_alike_to_one.true in (
-            so_far.0,
-            subst (λ (xs : List (List ℕ)). AreNewIn ms there xs before)
-                (sym (map-append (λ t. string_bytes t.text) yielded (text ∷ [])))
-                (one_old ms there (texts_of yielded) before x so_far.1
-                (subst (λ (xs : List (List ℕ)). HasAlikeIn ms xs x) c.loop-text.invariant.there
-                (alike_there ms now text so_far.0 parts.1 one))),
-          );
-    }
+    let parts = all_pushed _ c.loop-text.yielded text wanted in
+    let so_far = c.loop-text.invariant ms tested parts.0 in
+    let none = sym (so_far.0 text.truths)
+    ∙ not-true _ (sym c.in_ok-is_new.ensures.added ∙ c.if-not-is_new.false) in
+    simp (c.in_ok-push.ensures.items, map-append) (
+      subst (AreSeen ms c.insert.new.self) (append_assoc there before (x ∷ []))
+          (λ found. seen_more ms (there ++ before) x text.truths parts.1 found _ _ (so_far.0 found)
+          (c.in_ok-is_new.ensures.updates.0 found)),
+      one_new ms there (texts_of c.loop-text.yielded) before x so_far.1
+          (none_alike ms (there ++ before) x text.truths parts.1 none),
+    )
+
+pub loop-text-preserved-then-not-is_new : goal.loop-text-preserved-then-not-is_new
+loop-text-preserved-then-not-is_new c = λ ms tested wanted.
+    let there = texts_of c.args.there.items in
+    let text = c.in-Some.text in
+    let x = string_bytes text.text in
+    let before = map string_bytes c.loop-text.texts.items in
+    let parts = all_pushed _ c.loop-text.yielded text wanted in
+    let so_far = c.loop-text.invariant ms tested parts.0 in
+    let added = c.in_ok-is_new.ensures.added in
+    let some = sym (so_far.0 text.truths) ∙ not-false _ (sym added ∙ c.if-not-is_new.true) in (
+      λ found. ap (list_any _) (OnFalse_at c.if-not-is_new.true c.in_ok-is_new.ensures.unchanged)
+          ∙ so_far.0 found,
+      simp map-append (one_old ms there (texts_of c.loop-text.yielded) before x so_far.1
+          (alike_there ms (there ++ before) x text.truths parts.1 some)),
+    )
 
 pub returns : goal.returns
-returns c = λ ms tested wanted.
+returns c = λ ms there wanted.
     let start = c.into_iter-text-iterator.ensures.into_iter_gives in
     let all =
     YieldsList-end
@@ -88,4 +67,4 @@ returns c = λ ms tested wanted.
     sym (map_fixed (λ x. x) c.loop-text.yielded (λ k d h. refl)) ∙ all.0 in
     subst (λ (ts : List Tested). AreNewIn ms (texts_of c.args.there.items) (texts_of ts)
     (map string_bytes c.loop-text.texts.items)) whole
-    (c.loop-text.invariant.new ms tested (subst (AreTested ms) (sym whole) wanted)).1
+    (c.loop-text.invariant ms there (subst (AreTested ms) (sym whole) wanted)).1
