@@ -1,5 +1,5 @@
 -- Many patterns, with one more.
-use Rattle.std.proofs.Common.{◌≡◌, ℕ, ◌+◌, ◌∷◌, ◌<◌, Some, slice_get, List, [], ◌++◌, length, map, arith}
+use Rattle.std.proofs.Common.{◌≡◌, ℕ, zero, suc, refl, ◌+◌, ◌∷◌, ◌<◌, Some, slice_get, List, [], ◌++◌, length, map, arith}
 use Rattle.std.proofs.Common.{take, get_or, ap, option_map, ◌∙◌}
 use Rattle.std.proofs.lemmas.Option.{same_Some, slice_get-map, slice_get_read, slice_get-get_or}
 use Rattle.std.proofs.lemmas.Grind.{common_steps}
@@ -19,6 +19,13 @@ mapped_more f xs i x ys all y below is more before here = grind (arith, common_s
 pub get_under : {X Y : Type 0} (f : X → Y) (xs : List X) (k : ℕ) (x : X) → slice_get xs k ≡ Some x
     → slice_get (map f xs) k ≡ Some (f x)
 get_under f xs k x e = slice_get-map f xs k ∙ ap (option_map f) e
+
+-- What a function gives at a position, it gives for the element at that position.
+pub get_mapped : {X Y : Type 0} (f : X → Y) (xs : List X) (k : ℕ) (y : Y) → slice_get (map f xs) k ≡ Some y
+    → (x : X) × (slice_get xs k ≡ Some x) × (f x ≡ y)
+get_mapped f [] k y e = absurd cc
+get_mapped f (x ∷ xs) zero y e = (x, refl, same_Some (f x) y e)
+get_mapped f (x ∷ xs) (suc k) y e = get_mapped f xs k y e
 
 -- The number that one pattern gives a text.
 pub number_at : (automata : List PatternAutomaton) (numbers : List ℕ) (text : List ℕ) (k : ℕ)

@@ -40,7 +40,7 @@ use Rattle.am_classes.proofs.AlikeLemmas.{alike_turned}
 use Rattle.am_labels.proofs.WildcardMatches.{finds_alternatives}
 use Rattle.am_classes.proofs.AskedLemmas.{among_cases, has_other, named_in, named_from}
 use Rattle.am_classes.proofs.AskedLemmas.{other_in, other_from}
-use Rattle.am_classes.proofs.AutomataLemmas.{get_under}
+use Rattle.am_classes.proofs.AutomataLemmas.{get_under, get_mapped}
 use Rattle.am_classes.proofs.OverLemmas.{is_over_from, string_over}
 use Rattle.am_scan.proofs.Places.{get_append, get_behind, contains_from_get}
 use Rattle.am_scan.proofs.Places.{all_from_places, map_same}
@@ -139,13 +139,6 @@ module _ (ms : List Matcher) (q : Questions) (asked : AreAsked ms q) where
       let again = at_in (named_over q.alphabet ms) y
       (named_in q.alphabet ms m y from.1 same (is_over_from q.alphabet y over)) in
       asked.texts.each again.0 y again.1
-
--- What a function gives at a position, it gives for the element at that position.
-get_mapped : {X Y : Type 0} (f : X → Y) (xs : List X) (k : ℕ) (y : Y) → slice_get (map f xs) k ≡ Some y
-    → (x : X) × (slice_get xs k ≡ Some x) × (f x ≡ y)
-get_mapped f [] k y e = absurd cc
-get_mapped f (x ∷ xs) zero y e = (x, refl, same_Some (f x) y e)
-get_mapped f (x ∷ xs) (suc k) y e = get_mapped f xs k y e
 
 -- The same patterns find two texts: pattern by pattern, and as lists.
 patterns_from_found : (q : Questions) (x y : List ℕ)

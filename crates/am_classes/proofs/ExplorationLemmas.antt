@@ -1,5 +1,5 @@
 -- Listed states: with more listed, and for each text one that it leads to.
-use Rattle.std.proofs.Common.{◌≡◌, ◌<◌, ◌≤◌, ◌+◌, ◌-◌, ℕ, zero, suc, ap, set, Option, ◌⊎◌, List, [], ◌∷◌, ◌++◌, Some, slice_get, length, refl, inl, inr, subst, sym, ◌∙◌, arith, lt-ltb, le-ltb}
+use Rattle.std.proofs.Common.{◌≡◌, ◌<◌, ◌≤◌, ◌+◌, ◌-◌, ℕ, zero, suc, ap, set, Option, ◌⊎◌, List, [], ◌∷◌, ◌++◌, Some, None, get_or, replicate, slice_get, length, refl, inl, inr, subst, sym, ◌∙◌, arith, lt-ltb, le-ltb}
 use Rattle.std.proofs.lemmas.Bool.{cases_lt}
 use Rattle.std.proofs.lemmas.Option.{option_and_then_some, same_Some, slice_get_within}
 use Rattle.am_classes.specs.declared.questions.Questions.{Questions}
@@ -35,16 +35,7 @@ each_more P old new y is each here = λ k x at.
       | inr last ↦ subst P last.1 here
     ]
 
--- What is so of each element is so of one that is listed after others.
-pub each_behind : {X : Type 0} (P : X → Type 0) (front left rest all : List X) (y : X)
-    → front ++ left ≡ all → left ≡ y ∷ rest
-    → ((k : ℕ) (x : X) → slice_get all k ≡ Some x → P x) → P y
-each_behind P front left rest all y is first each =
-    let at = rw first at is in
-    each (length front + 0) y (subst (λ xs. slice_get xs (length front + 0) ≡ Some y) at (get_behind front (y ∷ rest) y 0 refl))
-
--- States with shorter texts still come first with one more that has a longest text, and did before
--- more were listed.
+-- States with shorter texts still come first with one more that has a longest text.
 pub short_more : (n : ℕ) (old new : List ReachedState) (item : ReachedState) → new ≡ old ++ item ∷ []
     → AreShortFirst n old → length item.text.items ≡ n → AreShortFirst n new
 short_more n old new item is short here = record {
@@ -62,30 +53,12 @@ short_more n old new item is short here = record {
   most = each_more (λ x. length x.text.items ≤ n) old new item is short.most (omega (arith, here));
 }
 
-pub short_before : (n : ℕ) (old new : List ReachedState) → Grows old new → AreShortFirst n new
-    → AreShortFirst n old
-short_before n old new grows short = record {
-  order = λ i j x y at also below. short.order i j x y (grows i x at) (grows j y also) below;
-  most = λ k x at. short.most k x (grows k x at);
-}
-
 -- A state that is added is listed.
 pub has_pushed : (q : Questions) (old new : List ReachedState) (item : ReachedState) (n : ℕ)
     (text : List ℕ) → new ≡ old ++ item ∷ [] → FollowsLabel q item.state text
     → length item.text.items ≤ n → HasState q new n text
 has_pushed q old new item n text is follows short =
     (length old, item, subst (λ xs. slice_get xs (length old) ≡ Some item) (sym is) (get_last old item), follows, short)
-
--- What is served is still served with one more state.
-pub serves_more : (q : Questions) (old new front : List ReachedState) (item : ReachedState) (n : ℕ)
-    (text : List ℕ) → Grows old new → ((x : List ℕ) → HasState q front n x → HasState q old n x)
-    → ((x : List ℕ) → FollowsLabel q item.state x → HasState q new n x)
-    → HasState q (front ++ item ∷ []) n text → HasState q new n text
-serves_more q old new front item n text grows before here has =
-    elim (get_pushed front item has.1 has.0 has.2) [
-      | inl earlier ↦ has_kept q old new n text grows (before text (has.0, has.1, earlier, has.3, has.4))
-      | inr last ↦ here text (subst (λ x. FollowsLabel q x.state text) (sym last.1) has.3)
-    ]
 
 -- A byte leads on where another does that leads to the same states.
 pub leads_again : (q : Questions) (listed : List ReachedState) (item : ReachedState) (one other : ℕ)
@@ -106,6 +79,19 @@ get_changed (z ∷ xs) zero (suc k) x y e = inr e
 get_changed (z ∷ xs) (suc i) zero x y e = inr e
 get_changed (z ∷ xs) (suc i) (suc k) x y e =
     elim (get_changed xs i k x y e) [ inl a ↦ inl (ap suc a.0, a.1) | inr b ↦ inr b ]
+
+-- A byte that is read in `led` is there.
+pub led_at : (led : List (Option ℕ)) (class byte : ℕ) → get_or led class None ≡ Some byte
+    → slice_get led class ≡ Some (Some byte)
+led_at [] class byte e = absurd cc
+led_at (x ∷ led) zero byte e = ap Some e
+led_at (x ∷ led) (suc class) byte e = led_at led class byte e
+
+-- At first no byte is there.
+pub none_led : (count class byte : ℕ) → slice_get (replicate count None) class ≡ Some (Some byte) → ⊥
+none_led zero class byte e = absurd cc
+none_led (suc count) zero byte e = absurd cc
+none_led (suc count) (suc class) byte e = none_led count class byte e
 
 -- A byte that led on still does when more is listed.
 pub led_kept : (q : Questions) (old new : List ReachedState) (item : ReachedState) (led : List (Option ℕ))

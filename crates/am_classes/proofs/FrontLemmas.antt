@@ -79,6 +79,3 @@ none_before byte fronts texts end is none =
     ap (map without_last) (none_kept (ends_with byte) (fronts_of texts end)
     (ap (list_any (ends_with byte)) (sym is)
     ∙ list_any-map (ends_with byte) (λ (f : Bor (List ℕ)). f.now) fronts ∙ none))
-
--- One more front is the same in both lists.
-pub ruleset same_so_far = (bytes_eq-Decides, take_more, map-append)

@@ -2,12 +2,14 @@ pub mod BoolLemmas
 pub mod TailLemmas
 pub mod OverLemmas
 pub mod Utf8Lemmas
+pub mod WholeTexts
 pub mod AutomataLemmas
 pub mod FrontLemmas
 pub mod StateLemmas
 pub mod AskedLemmas
 pub mod AlikeLemmas
 pub mod TestedTexts
+pub mod ListedStates
 pub mod ExplorationLemmas
 pub mod CandidateLemmas
 pub mod ClassLemmas

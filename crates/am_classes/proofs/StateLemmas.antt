@@ -4,6 +4,7 @@ use Rattle.std.proofs.Common.{[], ◌∷◌, Option, Some, sym, ◌∙◌}
 use Rattle.std.specs.declared.alloc.Global.{Global}
 use Rattle.am_scan.specs.declared.pattern_automaton.PatternAutomaton.{PatternAutomaton}
 use Rattle.std.specs.List.{list_all, list_any}
+use Rattle.std.specs.Str.{IsUtf8}
 use Rattle.std.proofs.lemmas.Bool.{and_parts, not-true}
 use Rattle.std.proofs.lemmas.Grind.{common_steps}
 use Rattle.am_scan.specs.Automaton.{is_ascii}
@@ -38,13 +39,13 @@ scanned_of_followed q state text follows =
 
 -- What is found by numbers says which patterns find a text that has these numbers.
 pub found_of_numbers : {E : Type 0} (q : Questions) (state : LabelState)
-    (automata : List PatternAutomaton) (numbers : List ℕ) (r : Result (Option (Vec Bool Global)) E)
+    (automata : List PatternAutomaton) (numbers : List ℕ) (r : Result (Vec Bool Global) E)
     → automata ≡ q.automata.items → numbers ≡ state.numbers.items
-    → IfOk r (λ found. IfSome found (λ answers. (text : List ℕ) → numbers ≡ numbers_of automata text
-    → AreScanned automata text → answers.items ≡ found_by automata text))
-    → IfOk r (λ found. IfSome found (λ answers. (text : List ℕ) → FollowsLabel q state text
-    → answers.items ≡ found_by q.automata.items text))
-found_of_numbers q state automata numbers (Ok (Some answers)) s t h = λ text follows.
+    → IfOk r (λ answers. (text : List ℕ) → numbers ≡ numbers_of automata text
+    → AreScanned automata text → IsUtf8 text → answers.items ≡ found_by automata text)
+    → IfOk r (λ answers. (text : List ℕ) → FollowsLabel q state text → IsUtf8 text
+    → answers.items ≡ found_by q.automata.items text)
+found_of_numbers q state automata numbers (Ok answers) s t h = λ text follows utf8.
     grind (arith, common_steps, scanned_of_followed)
 found_of_numbers q state automata numbers r s t h = tt
 

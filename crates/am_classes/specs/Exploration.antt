@@ -1,12 +1,15 @@
 -- States of a label that are listed, each with a text that leads to it.
 use Rattle.std.specs.Prelude.{◌≡◌, ◌<◌, ◌≤◌, ◌+◌, ◌-◌, ℕ, List, [], ◌∷◌, Option, Some, slice_get}
-use Rattle.std.specs.Prelude.{if◌then◌else◌, nat_lt, length}
+use Rattle.std.specs.Prelude.{if◌then◌else◌, nat_lt, length, IsSome}
+use Rattle.std.specs.List.{AllByRecursion}
 use Rattle.am_classes.specs.declared.questions.Questions.{Questions}
 use Rattle.am_classes.specs.declared.reached_state.ReachedState.{ReachedState}
 use Rattle.am_classes.specs.declared.tail.Tail.{Tail}
 use Rattle.am_classes.specs.Utf8.{tail_of}
-use Rattle.am_classes.specs.Automata.{MakeSame}
-use Rattle.am_classes.specs.State.{FollowsLabel}
+use Rattle.am_classes.specs.declared.limits.TheConstants.{MAX_STATES}
+use Rattle.am_classes.specs.Fronts.{fronts_of}
+use Rattle.am_classes.specs.Automata.{MakeSame, numbers_of}
+use Rattle.am_classes.specs.State.{FollowsLabel, named_texts}
 
 -- Each state follows the text beside it.
 abbrev pub AreListed : Questions → List ReachedState → Type 0
@@ -73,3 +76,16 @@ pub record IsClosed (q : Questions) (listed : List ReachedState) (at : ℕ) : Ty
   pub first : HasState q listed 0 []
   pub leads : (k byte : ℕ) (item : ReachedState) → k < at → slice_get listed k ≡ Some item
       → byte < 256 → LeadsOn q listed item byte
+
+-- More texts than the states that are explored, each an end of texts over the alphabet. No two have
+-- the same tail, the same fronts and the same numbers.
+-- Source: own choice.
+-- Example: this is never so if nothing is asked about a text: then the tails alone differ.
+abbrev pub HasManyLabelStates : Questions → Type 0
+HasManyLabelStates q =
+    (texts : List (List ℕ)) × (MAX_STATES < length texts)
+    × AllByRecursion (λ text. IsSome (tail_of q.alphabet text)) texts
+    × ((i j : ℕ) (x y : List ℕ) → slice_get texts i ≡ Some x → slice_get texts j ≡ Some y
+    → tail_of q.alphabet x ≡ tail_of q.alphabet y
+    → fronts_of (named_texts q) x ≡ fronts_of (named_texts q) y
+    → numbers_of q.automata.items x ≡ numbers_of q.automata.items y → i ≡ j)

@@ -4,6 +4,7 @@
 ghost use Rattle.std.specs.Prelude.{◌≡◌, ℕ, ◌∷◌, [], List, map, ◌<◌, true, IfOk, IfSome, IfNone};
 ghost use Rattle.std.specs.Prelude.{IsTrue, length, string_bytes};
 ghost use Rattle.std.specs.List.{list_all};
+ghost use Rattle.std.specs.Str.{IsUtf8};
 ghost use Rattle.am_scan.specs.Automaton.{pattern_of};
 ghost use Rattle.am_classes.specs.Automata.{numbers_of, AreScanned, found_by, fits, AreClasses};
 ghost use Rattle.am_classes.specs.Automata.{MakeSame};
@@ -50,26 +51,23 @@ pub(crate) fn end_numbers(
     Ok(numbers)
 }
 
-/// Returns the numbers of a text with one more byte before it. Returns `None` if the count of
-/// `numbers` is not the count of patterns.
+/// Returns the numbers of a text with one more byte before it, from the numbers of the text.
 pub(crate) fn next_numbers(
     alloc: Global,
     automata: &[PatternAutomaton],
     numbers: &[u32],
     byte: u8,
-) -> Result<Option<Vec<u32>>, AllocError>
-    ensures { IfOk result (λ found. IfSome found (λ nexts. (text : List ℕ)
+) -> Result<Vec<u32>, AllocError>
+    requires { length numbers.now ≡ length automata.now }
+    ensures { IfOk result (λ nexts. (text : List ℕ)
         → numbers.now ≡ numbers_of automata.now text
-        → nexts.items ≡ numbers_of automata.now (byte ∷ text))) }
+        → nexts.items ≡ numbers_of automata.now (byte ∷ text)) }
 {
-    if numbers.len() != automata.len() {
-        return Ok(None);
-    }
     let mut nexts = Vec::with_capacity(alloc, automata.len())?;
     for (i, automaton) in automata.iter().enumerate() {
         nexts.push(automaton.step(numbers[i], byte))?;
     }
-    Ok(Some(nexts))
+    Ok(nexts)
 }
 
 /// For each byte, finds the first byte that every pattern treats like it.
@@ -111,23 +109,20 @@ fn are_alike(automata: &[PatternAutomaton], one: u8, other: u8) -> bool
     true
 }
 
-/// Returns which patterns find a text that has these numbers. Returns `None` if the count of
-/// numbers is not the count of patterns.
+/// Returns which patterns find a text that has these numbers.
 pub(crate) fn found_patterns(
     alloc: Global,
     automata: &[PatternAutomaton],
     numbers: &[u32],
-) -> Result<Option<Vec<bool>>, AllocError>
-    ensures { IfOk result (λ found. IfSome found (λ answers. (text : List ℕ)
+) -> Result<Vec<bool>, AllocError>
+    requires { length numbers.now ≡ length automata.now }
+    ensures { IfOk result (λ answers. (text : List ℕ)
         → numbers.now ≡ numbers_of automata.now text → AreScanned automata.now text
-        → answers.items ≡ found_by automata.now text)) }
+        → IsUtf8 text → answers.items ≡ found_by automata.now text) }
 {
-    if numbers.len() != automata.len() {
-        return Ok(None);
-    }
     let mut answers = Vec::with_capacity(alloc, automata.len())?;
     for (i, automaton) in automata.iter().enumerate() {
         answers.push(automaton.finds(numbers[i]))?;
     }
-    Ok(Some(answers))
+    Ok(answers)
 }

@@ -1,5 +1,5 @@
 ghost use Rattle.std.specs.Prelude.{◌≡◌, ◌<◌, ℕ, [], true, false, IsTrue, IfOk, IfSome, IfNone};
-ghost use Rattle.std.specs.Prelude.{length, vec_len, string_bytes};
+ghost use Rattle.std.specs.Prelude.{OnOk, length, vec_len, string_bytes};
 ghost use Rattle.am_classes.specs.State.{FollowsLabel, IsNamed};
 ghost use Rattle.am_classes.specs.Candidates.{AreCandidates, AreApartCandidates, Represents};
 ghost use Rattle.am_classes.specs.Candidates.{HasFound, AreShortest, RepresentShorter};
@@ -85,43 +85,39 @@ fn other_text(alloc: Global, questions: &Questions) -> Result<String, AllocError
 }
 
 /// Adds the text of a state to the candidates, unless the text begins inside a character, or is
-/// named, or a candidate is found by the same patterns. Returns `false` if this cannot be computed.
+/// named, or a candidate is found by the same patterns.
 pub(crate) fn add(
     alloc: Global,
     questions: &Questions,
     item: &ReachedState<'_>,
     candidates: &mut Vec<Candidate>,
-) -> Result<bool, AllocError>
+) -> Result<(), AllocError>
     requires follows { FollowsLabel questions.now item.now.state item.now.text.items }
     requires distinct { AreApartCandidates questions.now candidates.old.items }
     ensures distinct { AreApartCandidates questions.now candidates.new.items }
     ensures grows { Grows candidates.old.items candidates.new.items }
-    ensures added { IfOk result (λ done. IsTrue done
-        → Represents questions.now candidates.new.items item.now.state) }
+    ensures added { OnOk result
+        (Represents questions.now candidates.new.items item.now.state) }
     ensures shortest { AreShortest questions.now candidates.old.items
         → RepresentShorter questions.now candidates.old.items (length item.now.text.items)
         → AreShortest questions.now candidates.new.items }
     ensures short { (n : ℕ) → length item.now.text.items < n
         → AreBelow n candidates.old.items → AreBelow n candidates.new.items }
 {
-    if !item.state.tail.is_whole() {
-        return Ok(true);
+    if !item.state.tail.is_whole() || questions.names_followed(&item.state) {
+        return Ok(());
     }
-    if questions.names_followed(&item.state) {
-        return Ok(true);
-    }
-    let Some(found) = questions.found(alloc, &item.state)? else {
-        return Ok(false);
-    };
+    let found = questions.found(alloc, &item.state)?;
     if has_found(candidates.as_slice(), found.as_slice()) {
-        return Ok(true);
+        return Ok(());
     }
     let Ok(text) = from_utf8(item.text.as_slice()) else {
-        return Ok(false);
+        // A text with a whole tail is UTF-8.
+        unreachable!()
     };
     let text = String::from_str(alloc, text)?;
     candidates.push(Candidate { text, found })?;
-    Ok(true)
+    Ok(())
 }
 
 /// Whether one of the candidates is found by these patterns and no others.

@@ -1,5 +1,5 @@
 //! What is before the end that was read, in each of some texts that ends with it.
-ghost use Rattle.std.specs.Prelude.{◌≡◌, IfOk, IsTrue, map, string_bytes};
+ghost use Rattle.std.specs.Prelude.{◌≡◌, IfOk, map, string_bytes};
 ghost use Rattle.std.specs.List.{list_any};
 ghost use Rattle.am_classes.specs.Fronts.{ends_with, fronts_before, is_nothing};
 
@@ -46,22 +46,6 @@ pub(crate) fn has_nothing(fronts: &[&[u8]]) -> bool
     ensures { result ≡ list_any (λ f. is_nothing f.now) fronts.now }
 {
     fronts.iter().any(|front| front.is_empty())
-}
-
-/// Whether two lists have the same fronts in the same order. `false` promises nothing.
-#[tactic(auto, using(std::proofs::lemmas::Grind::common_steps, crate::proofs::FrontLemmas::same_so_far))]
-pub(crate) fn same_fronts(fronts: &[&[u8]], others: &[&[u8]]) -> bool
-    ensures { IsTrue result → map (λ f. f.now) fronts.now ≡ map (λ f. f.now) others.now }
-{
-    if fronts.len() != others.len() {
-        return false;
-    }
-    for (i, front) in fronts.iter().enumerate() {
-        if *front != others[i] {
-            return false;
-        }
-    }
-    true
 }
 
 /// Whether the text ends with this byte.

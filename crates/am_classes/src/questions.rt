@@ -1,5 +1,6 @@
 ghost use Rattle.std.specs.Prelude.{◌≡◌, ◌↔◌, ◌∷◌, [], ℕ, List, Some, true, IsTrue, map};
-ghost use Rattle.std.specs.Prelude.{IfOk, IfSome, IfNone};
+ghost use Rattle.std.specs.Prelude.{None, IfOk, IfSome, IfNone, length};
+ghost use Rattle.std.specs.Str.{IsUtf8};
 ghost use Rattle.am_classes.specs.declared.label_state.LabelState.{LabelState};
 ghost use Rattle.am_classes.specs.Utf8.{text_step};
 ghost use Rattle.am_classes.specs.Automata.{AreClasses, MakeSame, fits, found_by};
@@ -90,29 +91,28 @@ impl Questions {
         })
     }
 
-    /// Returns the state of a text with one more byte before it. Returns `None` if the alphabet has
-    /// no such text, or the count of the state's numbers is not the count of patterns.
+    /// Returns the state of a text with one more byte before it, from the state of the text.
+    /// Returns `None` if the alphabet has no such text.
     pub(crate) fn step<'q>(
         &self,
         alloc: Global,
         state: &LabelState<'q>,
         byte: u8,
     ) -> Result<Option<LabelState<'q>>, AllocError>
-        ensures { IfOk result (λ found. IfSome found (λ next. (text : List ℕ)
+        requires { length state.now.numbers.items ≡ length self.now.automata.items }
+        ensures some { IfOk result (λ found. IfSome found (λ next. (text : List ℕ)
             → FollowsLabel self.now state.now text → FollowsLabel self.now next (byte ∷ text))) }
+        ensures none { IfOk result (λ found. IfNone found
+            (text_step self.now.alphabet state.now.tail byte ≡ None)) }
     {
         let Some(tail) = state.tail.step(self.alphabet, byte) else {
             return Ok(None);
         };
         let automata = self.automata.as_slice();
-        let Some(numbers) = next_numbers(alloc, automata, state.numbers.as_slice(), byte)? else {
-            return Ok(None);
-        };
-        let fronts = fronts_before(alloc, state.fronts.as_slice(), byte)?;
         Ok(Some(LabelState {
             tail,
-            fronts,
-            numbers,
+            fronts: fronts_before(alloc, state.fronts.as_slice(), byte)?,
+            numbers: next_numbers(alloc, automata, state.numbers.as_slice(), byte)?,
         }))
     }
 
@@ -142,16 +142,16 @@ impl Questions {
             && !any_ends_with(fronts, other)
     }
 
-    /// Returns which patterns find the texts that a state follows. Returns `None` if the count of
-    /// the state's numbers is not the count of patterns.
+    /// Returns which patterns find the texts that a state follows.
     pub(crate) fn found(
         &self,
         alloc: Global,
         state: &LabelState<'_>,
-    ) -> Result<Option<Vec<bool>>, AllocError>
-        ensures { IfOk result (λ found. IfSome found (λ answers. (text : List ℕ)
-            → FollowsLabel self.now state.now text
-            → answers.items ≡ found_by self.now.automata.items text)) }
+    ) -> Result<Vec<bool>, AllocError>
+        requires { length state.now.numbers.items ≡ length self.now.automata.items }
+        ensures { IfOk result (λ answers. (text : List ℕ)
+            → FollowsLabel self.now state.now text → IsUtf8 text
+            → answers.items ≡ found_by self.now.automata.items text) }
     {
         found_patterns(alloc, self.automata.as_slice(), state.numbers.as_slice())
     }

@@ -1,18 +1,21 @@
-ghost use Rattle.std.specs.Prelude.{◌≡◌, ◌∷◌, [], ℕ, List, IfOk, IfSome};
+ghost use Rattle.std.specs.Prelude.{◌≡◌, ◌∷◌, [], ℕ, List, None, IfOk, IfSome, IfNone};
 
 use crate::label_state::LabelState;
 use crate::questions::Questions;
 use std::alloc::{AllocError, Global};
 
-/// A state of a label, and a text that leads to it.
+/// A state of a label, and a text that leads to it. Two are equal if their states are.
 #[derive(Drop)]
+#[derive_where(PartialEq, Eq, Hash)]
 pub(crate) struct ReachedState<'q> {
     pub(crate) state: LabelState<'q>,
+    #[derive_where(skip(EqHashOrd))]
     pub(crate) text: Vec<u8>,
 }
 
 impl<'q> ReachedState<'q> {
     ghost use Rattle.am_classes.specs.State.{FollowsLabel};
+    ghost use Rattle.am_classes.specs.Utf8.{text_step};
 
     /// The empty text with its state.
     pub(crate) fn end(
@@ -30,18 +33,21 @@ impl<'q> ReachedState<'q> {
     }
 
     /// Returns the text with one more byte before it, and its state. Returns `None` if the alphabet
-    /// has no such text, or the state cannot be computed.
+    /// has no such text.
     pub(crate) fn longer(
         &self,
         alloc: Global,
         questions: &Questions,
         byte: u8,
     ) -> Result<Option<ReachedState<'q>>, AllocError>
+        requires { FollowsLabel questions.now self.now.state self.now.text.items }
         ensures text { IfOk result (λ found. IfSome found
             (λ longer. longer.text.items ≡ byte ∷ self.now.text.items)) }
         ensures follows { IfOk result (λ found. IfSome found (λ longer. (text : List ℕ)
             → FollowsLabel questions.now self.now.state text
             → FollowsLabel questions.now longer.state (byte ∷ text))) }
+        ensures none { IfOk result (λ found. IfNone found
+            (text_step questions.now.alphabet self.now.state.tail byte ≡ None)) }
     {
         let Some(state) = questions.step(alloc, &self.state, byte)? else {
             return Ok(None);

@@ -50,8 +50,7 @@ fn add_text(
     let Some(item) = item_of(alloc, questions, text)? else {
         return Ok(());
     };
-    add(alloc, questions, &item, candidates)?;
-    Ok(())
+    add(alloc, questions, &item, candidates)
 }
 
 /// Returns a text with its state, or `None` if the alphabet has no such text.

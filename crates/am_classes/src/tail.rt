@@ -5,7 +5,7 @@ use crate::Alphabet;
 
 /// How the end of a text in UTF-8 begins: how many bytes at its front belong to a character that
 /// begins before them, and which bytes the first of these allows before it.
-#[derive(Clone, Copy, PartialEq, Eq, Drop)]
+#[derive(Clone, Copy, PartialEq, Eq, Hash, Drop)]
 pub(crate) enum Tail {
     /// A character begins here, or the text ends.
     Whole,

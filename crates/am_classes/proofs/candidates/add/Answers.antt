@@ -1,10 +1,12 @@
 use Rattle.std.proofs.Common.{◌≡◌, ◌<◌, Some, slice_get, length, string_bytes, inl, inr, refl, sym, ap, ◌∙◌, subst, arith}
+use Rattle.std.specs.Str.{IsUtf8}
 use Rattle.std.proofs.lemmas.Bool.{cases_lt}
 use Rattle.am_classes.specs.declared.candidate.Candidate.{Candidate}
 use Rattle.am_classes.specs.declared.tail.Tail.TheVariants.{Whole}
 use Rattle.am_classes.specs.Automata.{found_by}
 use Rattle.am_classes.specs.State.{FollowsLabel, IsNamed}
 use Rattle.am_classes.proofs.OverLemmas.{followed_over}
+use Rattle.am_classes.proofs.WholeTexts.{followed_utf8}
 use Rattle.am_classes.specs.Candidates.{AreApartCandidates, IsCandidate, IsShortestFound, HasFound}
 use Rattle.am_scan.proofs.Places.{get_last, grows_pushed}
 use Rattle.am_classes.proofs.TailLemmas.{whole_from}
@@ -13,22 +15,30 @@ use Rattle.am_classes.proofs.ExplorationLemmas.{each_more}
 use Rattle.am_classes.proofs.candidates.add.Goals as goal
 use Rattle.am_classes.proofs.candidates.add.Goals.{After-push}
 
+-- a text with a whole tail is in UTF-8
+pub unreachable-requires : goal.unreachable-requires
+unreachable-requires c =
+    let item = c.args.item.now in
+    let whole = whole_from item.state.tail (sym c.is_whole.ensures ∙ c.if-not-is_whole.false) in
+    c.in_default.ensures.cases.0 (subst IsUtf8 (sym c.as_slice-3.ensures.value)
+    (followed_utf8 c.args.questions.now item.state item.text.items c.requires.follows whole))
+
 pub returns-then-has_found-clause-added : goal.returns-then-has_found-clause-added
 returns-then-has_found-clause-added c =
+    let q = c.args.questions.now in
     let has = c.has_found.ensures.yes c.if-has_found.true in
-    let found = rw c.in-Some.is at c.in_ok-found.ensures in
-    λ _ text follows whole unnamed. (
+    λ text follows whole unnamed. (
       has.0,
       has.1,
       subst (λ cs. slice_get cs has.0 ≡ Some has.1) c.as_slice.ensures.value has.2,
-      has.3 ∙ c.as_slice-2.ensures.value ∙ found text follows,
+      has.3 ∙ c.as_slice-2.ensures.value ∙ c.in_ok-found.ensures text follows (followed_utf8 q c.args.item.now.state text follows whole),
     )
 
 -- the new candidate has the text of the state, and no candidate is found by the same patterns
 bytes : (c : After-push) → string_bytes c.in_ok-text.text ≡ c.args.item.now.text.items
 bytes c = c.in_ok-text.ensures.ok ∙ c.in-Ok.ensures.cases.0 ∙ c.as_slice-3.ensures.value
 
-new : (c : After-push) → HasFound c.args.candidates.now.items c.in-Some.found.items → ⊥
+new : (c : After-push) → HasFound c.args.candidates.now.items c.in_ok-found.found.items → ⊥
 new c = λ has.
     c.has_found.ensures.no c.if-has_found.false (
       has.0,
@@ -40,13 +50,13 @@ new c = λ has.
 pub returns-clause-distinct : goal.returns-clause-distinct
 returns-clause-distinct c =
     let q = c.args.questions.now in
-    let x : Candidate = record { text = c.in_ok-text.text; found = c.in-Some.found } in
-    let found = rw c.in-Some.is at c.in_ok-found.ensures in
+    let x : Candidate = record { text = c.in_ok-text.text; found = c.in_ok-found.found } in
     let here = (goal.at.returns-clause-distinct c).After-push in
     let bytes = bytes here in
     let whole : c.args.item.now.state.tail ≡ Whole = whole_from c.args.item.now.state.tail (sym c.is_whole.ensures ∙ c.if-not-is_whole.false) in
     let own : IsCandidate q x = record {
-      found = found c.args.item.now.text.items c.requires.follows ∙ ap (found_by q.automata.items) (sym bytes);
+      found = c.in_ok-found.ensures c.args.item.now.text.items c.requires.follows
+          (followed_utf8 q c.args.item.now.state c.args.item.now.text.items c.requires.follows whole) ∙ ap (found_by q.automata.items) (sym bytes);
       unnamed = λ named.
           let named' = (c.names_followed.ensures c.args.item.now.text.items c.requires.follows).1 (subst (IsNamed q) bytes named) in
           let missed = c.if-names_followed.false in
@@ -80,11 +90,10 @@ returns-clause-grows c =
 
 pub returns-clause-added : goal.returns-clause-added
 returns-clause-added c =
-    let x : Candidate = record { text = c.in_ok-text.text; found = c.in-Some.found } in
-    let found = rw c.in-Some.is at c.in_ok-found.ensures in
-    λ _ text follows whole unnamed. (
+    let x : Candidate = record { text = c.in_ok-text.text; found = c.in_ok-found.found } in
+    λ text follows whole unnamed. (
       length c.args.candidates.now.items,
       x,
       subst (λ cs. slice_get cs (length c.args.candidates.now.items) ≡ Some x) (sym c.in_ok-push.ensures.items) (get_last c.args.candidates.now.items x),
-      found text follows,
+      c.in_ok-found.ensures text follows (followed_utf8 c.args.questions.now c.args.item.now.state text follows whole),
     )

@@ -1,7 +1,16 @@
 use Rattle.std.proofs.Common.{subst, below_more, arith}
+use Rattle.std.proofs.lemmas.Grind.{common_steps}
 use Rattle.am_classes.specs.Exploration.{LeadsOn, byte_at}
-use Rattle.am_classes.proofs.ExplorationLemmas.{leads_kept, place_of_byte}
+use Rattle.am_classes.proofs.ExplorationLemmas.{leads_kept, none_led, place_of_byte}
 use Rattle.am_classes.proofs.exploration.next_states.Goals as goal
+
+pub loop-place-init : goal.loop-place-init
+loop-place-init c = record {
+  own = grind (arith, common_steps);
+  same = grind (arith, common_steps);
+  led = λ class byte at. absurd (none_led 256 class byte at);
+  leads = λ place below. absurd (omega arith);
+}
 
 pub loop-place-preserved : goal.loop-place-preserved
 loop-place-preserved c =
@@ -15,7 +24,7 @@ loop-place-preserved c =
       led = c.step_on.ensures.led;
       leads = below_more (λ place. LeadsOn q new item (byte_at place)) c.loop-place.place
           (λ place below. leads_kept q old new item (byte_at place) c.step_on.ensures.grows (c.loop-place.invariant.leads place below))
-          (subst (LeadsOn q new item) c.byte_at.ensures (c.in_ok-step_on.ensures.leads c.if-not-branch.false));
+          (subst (LeadsOn q new item) c.byte_at.ensures c.in_ok-step_on.ensures.leads);
     }
 
 pub returns-clause-leads : goal.returns-clause-leads

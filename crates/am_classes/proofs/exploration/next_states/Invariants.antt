@@ -7,7 +7,7 @@ abbrev pub invariant-loop-place : goal.invariant-loop-place
 invariant-loop-place l = record {
   own : AreListed l.questions l.nexts.items;
   same : HaveLength (length l.item.text.items + 1) l.nexts.items;
-  led : AreLed l.questions l.nexts.items l.item l.led.items;
+  led : AreLed l.questions l.nexts.items l.item l.led;
   leads : (place : ℕ) → place < l.place
       → LeadsOn l.questions l.nexts.items l.item (byte_at place);
 }

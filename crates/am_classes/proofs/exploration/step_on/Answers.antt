@@ -1,44 +1,57 @@
-use Rattle.std.proofs.Common.{◌≡◌, Some, slice_get, refl, sym, ap, ◌∙◌, subst}
-use Rattle.std.proofs.lemmas.Option.{slice_get_read}
+use Rattle.std.proofs.Common.{◌≡◌, ◌+◌, ◌∷◌, length, sym, ap, subst, ◌∙◌, arith}
 use Rattle.am_classes.specs.Automata.{MakeSame}
-use Rattle.am_classes.proofs.ExplorationLemmas.{leads_again, led_kept, led_more}
+use Rattle.am_classes.specs.State.{FollowsLabel}
+use Rattle.am_scan.proofs.Places.{grows_pushed}
+use Rattle.am_classes.proofs.ExplorationLemmas.{each_more, has_pushed, leads_again, led_at, led_kept, led_more}
 use Rattle.am_classes.proofs.exploration.step_on.Goals as goal
 
 pub returns-then-lead_alike-clause-leads : goal.returns-then-lead_alike-clause-leads
-returns-then-lead_alike-clause-leads c = λ _.
-    let before = c.in-Some-Some.before in
-    let read = c.in-Some-Some.ensures.lookup in
-    let here = slice_get_read c.deref.result.now _ c.from-class.result c.in-Some-Some.field-0.now refl read.3.0 read.1 in
-    let there =
-    subst (λ led. slice_get led c.from-class.result ≡ Some (Some before)) c.deref.ensures.value (here ∙ ap Some c.in-Some-Some.field-0-is) in
-    let led = c.requires.led c.from-class.result before there in
-    let made : MakeSame c.args.questions.now.automata.items c.from-class.result c.args.byte =
+returns-then-lead_alike-clause-leads c =
+    let before = c.in-Some.before in
+    let class = c.from-class.result in
+    let led = c.requires.led class before (led_at c.args.led.now class before c.in-Some.is) in
+    let made : MakeSame c.args.questions.now.automata.items class c.args.byte =
     subst (λ k. MakeSame c.args.questions.now.automata.items k c.args.byte) (sym c.from-class.ensures) c.class_of.ensures in
     leads_again c.args.questions.now c.args.nexts.now.items c.args.item.now before c.args.byte
     (c.lead_alike.ensures.tails c.if-lead_alike.true)
     (c.lead_alike.ensures.follows c.if-lead_alike.true (λ text. sym (led.0 text) ∙ made text)) led.1
 
-pub returns-in_err-add_longer-clause-led : goal.returns-in_err-add_longer-clause-led
-returns-in_err-add_longer-clause-led c =
-    led_kept c.args.questions.now c.args.nexts.now.items c.add_longer.new.nexts.items c.args.item.now c.args.led.now.items
-    c.add_longer.ensures.grows c.requires.led
+pub returns-in_err-push-clause-led : goal.returns-in_err-push-clause-led
+returns-in_err-push-clause-led c =
+    led_kept c.args.questions.now c.args.nexts.now.items c.push.new.self.items c.args.item.now c.args.led.now
+    (λ k x at. rw c.in_err-push.ensures.items at) c.requires.led
 
-pub returns-then-not-branch-clause-led : goal.returns-then-not-branch-clause-led
-returns-then-not-branch-clause-led c =
-    led_kept c.args.questions.now c.args.nexts.now.items c.add_longer.new.nexts.items c.args.item.now c.args.led.now.items
-    c.add_longer.ensures.grows c.requires.led
+pub returns-clause-own : goal.returns-clause-own
+returns-clause-own c =
+    let text = rw c.in-Some-2.is at c.in_ok-next.ensures.text in
+    let follows = rw c.in-Some-2.is at c.in_ok-next.ensures.follows in
+    each_more (λ x. FollowsLabel c.args.questions.now x.state x.text.items) c.args.nexts.now.items c.push.new.self.items c.in-Some-2.next
+    c.in_ok-push.ensures.items c.requires.own (rw text (follows c.args.item.now.text.items c.requires.follows))
 
-pub returns-then-class-len-clause-led : goal.returns-then-class-len-clause-led
-returns-then-class-len-clause-led c =
+pub returns-clause-same : goal.returns-clause-same
+returns-clause-same c =
+    let text = rw c.in-Some-2.is at c.in_ok-next.ensures.text in
+    each_more (λ x. length x.text.items ≡ length c.args.item.now.text.items + 1) c.args.nexts.now.items c.push.new.self.items c.in-Some-2.next
+    c.in_ok-push.ensures.items c.requires.same (omega (arith, ap length text))
+
+pub returns-clause-grows : goal.returns-clause-grows
+returns-clause-grows c =
+    grows_pushed c.args.nexts.now.items c.push.new.self.items c.in-Some-2.next c.in_ok-push.ensures.items
+
+pub returns-clause-leads : goal.returns-clause-leads
+returns-clause-leads c = λ text tail follows has.
+    let longer = rw c.in-Some-2.is at c.in_ok-next.ensures.text in
+    has_pushed c.args.questions.now c.args.nexts.now.items c.push.new.self.items c.in-Some-2.next
+    (length c.args.item.now.text.items + 1) (c.args.byte ∷ text) c.in_ok-push.ensures.items
+    ((rw c.in-Some-2.is at c.in_ok-next.ensures.follows) text follows) (omega (arith, ap length longer))
+
+pub returns-clause-led : goal.returns-clause-led
+returns-clause-led c =
     let q = c.args.questions.now in
     let item = c.args.item.now in
-    let nexts = c.add_longer.new.nexts.items in
-    let kept = led_kept q c.args.nexts.now.items nexts item c.args.led.now.items c.add_longer.ensures.grows c.requires.led in
-    led_more q nexts item c.args.led.now.items c.from-class.result c.args.byte kept
+    let nexts = c.push.new.self.items in
+    let grows = grows_pushed c.args.nexts.now.items nexts c.in-Some-2.next c.in_ok-push.ensures.items in
+    led_more q nexts item c.args.led.now c.from-class.result c.args.byte
+    (led_kept q c.args.nexts.now.items nexts item c.args.led.now grows c.requires.led)
     (subst (λ k. MakeSame q.automata.items k c.args.byte) (sym c.from-class.ensures) c.class_of.ensures)
-    (c.in_ok-add_longer.ensures.leads c.if-not-branch.false)
-
-pub returns-else-class-len-clause-led : goal.returns-else-class-len-clause-led
-returns-else-class-len-clause-led c =
-    led_kept c.args.questions.now c.args.nexts.now.items c.add_longer.new.nexts.items c.args.item.now c.args.led.now.items
-    c.add_longer.ensures.grows c.requires.led
+    (returns-clause-leads c)
