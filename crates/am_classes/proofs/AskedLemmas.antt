@@ -224,4 +224,4 @@ pub all_known : (ms : List Matcher)
 all_known [] = tt
 all_known (m ∷ ms) = (known (comparison m.op), all_known ms)
 
-pub ruleset of_questions = (all_known, has_other, length-map)
+pub ruleset of_questions = (all_known, length-map)

@@ -1,6 +1,6 @@
 -- The named texts, one for each class of them, and the texts of the candidates stand for all
 -- classes, one for each.
-use Rattle.std.proofs.Common.{◌≡◌, ◌<◌, ℕ, zero, suc, ◌+◌, true, false, List, [], ◌∷◌, ◌++◌, Bool, ◌||◌, ◌⊎◌}
+use Rattle.std.proofs.Common.{◌≡◌, ◌<◌, ℕ, ◌+◌, true, false, List, [], ◌∷◌, ◌++◌, Bool, ◌||◌, ◌⊎◌}
 use Rattle.std.proofs.Common.{Some, slice_get, length, map, string_bytes, inl, inr, refl, subst}
 use Rattle.std.proofs.Common.{sym, ap, ap₂, ◌∙◌, arith, Contains, String}
 use Rattle.std.specs.List.{list_any, AllByRecursion, AllZip}
@@ -38,7 +38,7 @@ use Rattle.am_classes.specs.Truths.{AreNewIn}
 use Rattle.am_classes.specs.declared.limits.TheConstants.{MAX_SAMPLE_NUMBERS}
 use Rattle.am_classes.proofs.AlikeLemmas.{alike_turned}
 use Rattle.am_labels.proofs.WildcardMatches.{finds_alternatives}
-use Rattle.am_classes.proofs.AskedLemmas.{among_cases, has_other, named_in, named_from}
+use Rattle.am_classes.proofs.AskedLemmas.{among_cases, named_in, named_from}
 use Rattle.am_classes.proofs.AskedLemmas.{other_in, other_from}
 use Rattle.am_classes.proofs.AutomataLemmas.{get_under, get_mapped}
 use Rattle.am_classes.proofs.OverLemmas.{is_over_from, string_over}
@@ -285,7 +285,7 @@ module _ (ms : List Matcher) (q : Questions) (named : List (List ℕ)) (cs : Lis
       ])
 
 pub ruleset of_classes =
-    (class_texts, classes_cover, classes_apart, classes_over, classes_tied, has_other, length-map)
+    (class_texts, classes_cover, classes_apart, classes_over, classes_tied, length-map)
 
 -- Copies have the same texts.
 pub copied_texts : {Z : Type 0} (xs ys : List (String Z))

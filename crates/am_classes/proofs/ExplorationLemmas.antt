@@ -12,7 +12,7 @@ use Rattle.am_classes.specs.Automata.{MakeSame}
 use Rattle.am_classes.specs.Exploration.{HasState, LeadsOn, AreLed, byte_at, IsClosed}
 use Rattle.am_classes.specs.Exploration.{AreShortFirst}
 use Rattle.am_scan.specs.Automaton.{Grows}
-use Rattle.am_scan.proofs.Places.{get_pushed, get_last, get_behind}
+use Rattle.am_scan.proofs.Places.{get_pushed, get_last}
 use Rattle.am_classes.proofs.TailLemmas.{step_byte}
 
 -- A listed state is still there when more is listed.

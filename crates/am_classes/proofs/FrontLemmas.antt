@@ -2,8 +2,7 @@
 use Rattle.std.proofs.Common.{◌≡◌, ◌↔◌, ℕ, List, [], ◌∷◌, ◌++◌, length, map, Bor, Some, slice_get, Bool, true, false, ap, sym, ◌∙◌, subst, refl, arith, append_assoc, length-append}
 use Rattle.std.specs.List.{list_any, filter}
 use Rattle.std.proofs.lemmas.Bool.{and_parts, or_parts, eqb-true, ltb-true}
-use Rattle.std.proofs.lemmas.List.{append-nil, take_all, take_more, take_at, get_or_at, map-append}
-use Rattle.std.proofs.lemmas.Slice.Eq.{bytes_eq-Decides}
+use Rattle.std.proofs.lemmas.List.{append-nil, take_all, take_more, take_at, get_or_at}
 use Rattle.std.proofs.lemmas.Grind.{common_steps}
 use Rattle.am_universe.proofs.ListLemmas.{IsIn, IsIn-map, IsIn-unmap}
 use Rattle.am_universe.proofs.Members.{at_in, in_at}

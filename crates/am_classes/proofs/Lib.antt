@@ -12,4 +12,5 @@ pub mod TestedTexts
 pub mod ListedStates
 pub mod ExplorationLemmas
 pub mod CandidateLemmas
+pub mod LimitLemmas
 pub mod ClassLemmas

@@ -1,5 +1,5 @@
 -- States that are listed: two are equal if their tails, their fronts and their numbers are.
-use Rattle.std.proofs.Common.{◌≡◌, ◌<◌, ◌≤◌, ◌⊎◌, Bool, true, false, ◌&&◌, List, [], ◌∷◌, ◌++◌, ℕ, zero, suc, length, Bor, Some, slice_get, map, ap, subst, sym, refl, ◌∙◌, inl, inr, is_some, arith, nat_eq}
+use Rattle.std.proofs.Common.{◌≡◌, ◌<◌, Bool, true, ◌&&◌, List, [], ◌∷◌, ◌++◌, ℕ, length, Bor, Some, slice_get, map, ap, subst, sym, refl, ◌∙◌, inl, inr, is_some, arith, nat_eq}
 use Rattle.std.specs.List.{IsDistinct, list_any}
 use Rattle.std.specs.Cmp.Lexicographic.{pointwise}
 use Rattle.std.proofs.lemmas.Bool.{and_parts, and_from, cases_Bool, cases_lt}

@@ -1,6 +1,6 @@
 -- What states say about texts.
-use Rattle.std.proofs.Common.{Result, Ok, Vec, Bool, IfOk, IfSome, ◌≡◌, ℕ, true, false, List, arith}
-use Rattle.std.proofs.Common.{[], ◌∷◌, Option, Some, sym, ◌∙◌}
+use Rattle.std.proofs.Common.{Result, Ok, Vec, Bool, IfOk, ◌≡◌, ℕ, true, false, List, arith}
+use Rattle.std.proofs.Common.{[], ◌∷◌, Some, sym, ◌∙◌}
 use Rattle.std.specs.declared.alloc.Global.{Global}
 use Rattle.am_scan.specs.declared.pattern_automaton.PatternAutomaton.{PatternAutomaton}
 use Rattle.std.specs.List.{list_all, list_any}

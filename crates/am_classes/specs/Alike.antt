@@ -39,7 +39,7 @@ AreApart ms texts =
     → AreAlike ms x y → i ≡ j
 
 -- One of some matchers takes a pattern that is no alternation of plain texts. If none does, the
--- classes of texts can always be computed.
+-- classes of texts can always be computed. `MayBePastLimits` says when they can if one does.
 -- Source: Alertmanager configuration reference 0.25, "<matcher>": `=~` and `!~` take patterns.
 -- Example: one of `team="db"` and `team=~"w.*"` does. `team="db"` and `team=~"db|web"` do not.
 abbrev pub HasOtherPattern : List Matcher → Type 0

@@ -1,7 +1,9 @@
 -- Many patterns at once.
-use Rattle.std.specs.Prelude.{◌≡◌, ◌∷◌, ℕ, List, map, Bool, true, not, Some, slice_get}
+use Rattle.std.specs.Prelude.{◌≡◌, ◌∷◌, ℕ, List, map, Bool, true, not, Some, slice_get, Contains}
 use Rattle.std.specs.List.{AllByRecursion}
 use Rattle.am_labels.specs.Pattern.{finds}
+use Rattle.am_labels.specs.Wildcards.{is_wildcards}
+use Rattle.am_scan.specs.WildcardStates.{HasManyStates}
 use Rattle.am_scan.specs.Automaton.{number_of, is_ascii, pattern_of}
 use Rattle.am_scan.specs.Sight.{IsScanned}
 use Rattle.am_classes.specs.declared.alphabet.Alphabet.{Alphabet}
@@ -45,3 +47,10 @@ AreScanned automata text = AllByRecursion (λ a. IsScanned (is_ascii a) text) au
 -- Example: of `db.*` and `web` the first alone finds `db2`.
 abbrev pub found_by : List PatternAutomaton → List ℕ → List Bool
 found_by automata text = map (λ a. finds (pattern_of a) text) automata
+
+-- One of some patterns may have no automaton: if it has wildcards alone, it has too many states.
+-- Source: own choice.
+-- Example: over Unicode, `\bdb` has none. Each of `db.*` and `web` has one.
+abbrev pub MayLackAutomaton : List (List ℕ) → Type 0
+MayLackAutomaton patterns =
+    (p : List ℕ) × Contains patterns p × (is_wildcards p ≡ true → HasManyStates p)

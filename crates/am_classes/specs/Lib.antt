@@ -7,6 +7,7 @@ pub mod State
 pub mod Named
 pub mod Truths
 pub mod Asked
+pub mod Limits
 pub mod Exploration
 pub mod ClassTexts
 pub mod Candidates

@@ -1,13 +1,13 @@
 //! The automata of many patterns at once.
 #![tactic(auto, using(crate::proofs::AutomataLemmas::more_numbers))]
 
-ghost use Rattle.std.specs.Prelude.{◌≡◌, ℕ, ◌∷◌, [], List, map, ◌<◌, true, IfOk, IfSome, IfNone};
+ghost use Rattle.std.specs.Prelude.{◌≡◌, ℕ, ◌∷◌, [], List, map, true, IfOk, IfSome, IfNone};
 ghost use Rattle.std.specs.Prelude.{IsTrue, length, string_bytes};
 ghost use Rattle.std.specs.List.{list_all};
 ghost use Rattle.std.specs.Str.{IsUtf8};
 ghost use Rattle.am_scan.specs.Automaton.{pattern_of};
 ghost use Rattle.am_classes.specs.Automata.{numbers_of, AreScanned, found_by, fits, AreClasses};
-ghost use Rattle.am_classes.specs.Automata.{MakeSame};
+ghost use Rattle.am_classes.specs.Automata.{MakeSame, MayLackAutomaton};
 
 use crate::Alphabet;
 use am_scan::PatternAutomaton;
@@ -24,7 +24,8 @@ pub(crate) fn automata_of(
         map pattern_of automata.items ≡ map string_bytes patterns.now)) }
     ensures fit { IfOk result (λ found. IfSome found (λ automata.
         IsTrue (list_all (fits alphabet) automata.items))) }
-    ensures none { IfOk result (λ found. IfNone found (0 < length patterns.now)) }
+    ensures none { IfOk result (λ found. IfNone found
+        (MayLackAutomaton (map string_bytes patterns.now))) }
 {
     let ascii = alphabet == Alphabet::Ascii;
     let mut automata = Vec::with_capacity(alloc, patterns.len())?;

@@ -4,6 +4,7 @@ ghost use Rattle.am_classes.specs.State.{FollowsLabel, IsNamed};
 ghost use Rattle.am_classes.specs.Candidates.{AreCandidates, AreApartCandidates, Represents};
 ghost use Rattle.am_classes.specs.Candidates.{HasFound, AreShortest, RepresentShorter};
 ghost use Rattle.am_classes.specs.Candidates.{AreBelow, AreTied};
+ghost use Rattle.am_classes.specs.Exploration.{HasManyLabelStates};
 ghost use Rattle.am_classes.specs.ClassTexts.{IsOther};
 ghost use Rattle.am_scan.specs.Automaton.{Grows};
 ghost use Rattle.am_classes.specs.Alphabet.{IsOrdinary};
@@ -26,8 +27,7 @@ pub(crate) struct CandidateTexts {
 }
 
 /// Finds texts that no matcher names: one for each set of patterns that finds such a text, or more
-/// of them than there is room for. Returns `None` if they cannot be computed. Without patterns they
-/// always can.
+/// of them than there is room for. Returns `None` if there are patterns and too many states.
 #[tactic(auto, using(crate::proofs::CandidateLemmas::tied_short))]
 pub(crate) fn candidates(
     alloc: Global,
@@ -42,7 +42,8 @@ pub(crate) fn candidates(
         → (room < vec_len candidates.items) × (0 < length questions.now.automata.items))) }
     ensures tied { IfOk result (λ found. IfSome found (λ candidates.
         AreTied questions.now candidates.all candidates.items.items)) }
-    ensures none { IfOk result (λ found. IfNone found (0 < length questions.now.automata.items)) }
+    ensures none { IfOk result (λ found. IfNone found
+        ((0 < length questions.now.automata.items) × HasManyLabelStates questions.now)) }
 {
     if questions.automata.is_empty() {
         let items = other_candidate(alloc, questions)?;

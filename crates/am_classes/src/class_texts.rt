@@ -18,6 +18,7 @@ ghost use Rattle.std.specs.List.{AllByRecursion};
 ghost use Rattle.am_universe.specs.declared.limits.TheConstants.{MAX_VALUES};
 ghost use Rattle.am_classes.specs.Alike.{Covers, AreApart, HasOtherPattern};
 ghost use Rattle.am_classes.specs.Alphabet.{AreOver};
+ghost use Rattle.am_classes.specs.Limits.{HaveTooManyStates, HaveWildcardsAlone};
 ghost use Rattle.am_classes.specs.ClassTexts.{IsClassText};
 ghost use Rattle.am_classes.specs.Truths.{AreNewIn};
 ghost use Rattle.am_classes.specs.declared.limits.TheConstants.{MAX_SAMPLE_NUMBERS};
@@ -47,7 +48,8 @@ pub struct ClassTexts {
 /// found, each other text is a shortest of its class or, if no matcher takes another pattern,
 /// `other`, repeated until it is not named. Returns `None` if the classes cannot be computed: a
 /// pattern cannot be followed, or there are too many states. If each pattern is an alternation of
-/// plain texts, all classes are always found. Fails only if memory runs out.
+/// plain texts, all classes are always found. If the others are made of plain characters, `.*` and
+/// bars, they are found unless there are too many states or classes. Fails only if memory runs out.
 #[tactic(auto, using(crate::proofs::ClassLemmas::of_classes))]
 pub fn classes(
     alloc: Global,
@@ -68,7 +70,9 @@ pub fn classes(
         ⊎ ((classes.all ≡ false) × (length text < MAX_SAMPLE_NUMBERS)))
         (map string_bytes classes.texts.items))) }
     ensures none { IfOk result (λ found. IfNone found
-        (HasOtherPattern (map (λ m. m.now) matchers.now))) }
+        (HasOtherPattern (map (λ m. m.now) matchers.now)
+        × (HaveWildcardsAlone (map (λ m. m.now) matchers.now)
+        → HaveTooManyStates alphabet (map (λ m. m.now) matchers.now)))) }
 {
     let Some(questions) = Questions::of(alloc, alphabet, matchers)? else {
         return Ok(None);

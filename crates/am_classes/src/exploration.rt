@@ -9,9 +9,10 @@
 //! and a byte lead, with a text that leads there, unless the same state is listed. Bytes that all
 //! patterns treat alike take one step together, except those with which a named text goes on. When
 //! no new state comes, every text leads to a listed one, by induction over its bytes. With more
-//! than `MAX_STATES` states there is no answer. The states are listed in the order of the lengths
-//! of their texts, so the first text of a class is a shortest one.
-ghost use Rattle.std.specs.Prelude.{◌≡◌, ◌<◌, ◌≤◌, ◌+◌, ◌∷◌, ℕ, List, Some, false};
+//! than `MAX_STATES` states there is no answer. No two listed states are equal, so this is so only
+//! if there are that many. The states are listed in the order of the lengths of their texts, so the
+//! first text of a class is a shortest one.
+ghost use Rattle.std.specs.Prelude.{◌≡◌, ◌<◌, ◌+◌, ℕ, Some, false};
 ghost use Rattle.std.specs.Prelude.{IfOk, IfSome, IfNone, OnOk, IsTrue, length, vec_len};
 ghost use Rattle.am_classes.specs.declared.questions.Questions.{Questions};
 ghost use Rattle.am_classes.specs.State.{FollowsLabel};

@@ -3,9 +3,9 @@ ghost use Rattle.std.specs.Prelude.{None, IfOk, IfSome, IfNone, length};
 ghost use Rattle.std.specs.Str.{IsUtf8};
 ghost use Rattle.am_classes.specs.declared.label_state.LabelState.{LabelState};
 ghost use Rattle.am_classes.specs.Utf8.{text_step};
-ghost use Rattle.am_classes.specs.Automata.{AreClasses, MakeSame, fits, found_by};
+ghost use Rattle.am_classes.specs.Automata.{AreClasses, MakeSame, MayLackAutomaton, fits, found_by};
 ghost use Rattle.std.specs.List.{list_all};
-ghost use Rattle.am_classes.specs.Alike.{HasOtherPattern};
+ghost use Rattle.am_classes.specs.Named.{other_patterns};
 
 use crate::Alphabet;
 use crate::automata::{automata_of, byte_classes, end_numbers, found_patterns, next_numbers};
@@ -35,9 +35,9 @@ impl Questions {
     ghost use Rattle.am_classes.specs.State.{FollowsLabel, IsNamed, named_texts};
     ghost use Rattle.am_classes.specs.Asked.{AreAsked};
 
-    /// Finds what matchers ask about texts over an alphabet. Returns `None` if a pattern cannot be
-    /// followed.
-    #[tactic(auto, using(crate::proofs::AskedLemmas::of_questions))]
+    /// Finds what matchers ask about texts over an alphabet. Returns `None` if a pattern has no
+    /// automaton.
+    #[tactic(auto, using(crate::proofs::AskedLemmas::all_known, crate::proofs::LimitLemmas::lacking_wanted))]
     pub(crate) fn of(
         alloc: Global,
         alphabet: Alphabet,
@@ -48,7 +48,7 @@ impl Questions {
         ensures some { IfOk result (λ found. IfSome found (λ questions.
             AreAsked (map (λ m. m.now) matchers.now) questions)) }
         ensures none { IfOk result (λ found. IfNone found
-            (HasOtherPattern (map (λ m. m.now) matchers.now))) }
+            (MayLackAutomaton (other_patterns (map (λ m. m.now) matchers.now)))) }
     {
         let texts = named_texts(alloc, alphabet, matchers)?;
         let patterns = other_patterns(alloc, matchers)?;

@@ -7,10 +7,26 @@ use Rattle.am_labels.specs.Matcher.{Matcher}
 use Rattle.am_classes.specs.State.{patterns_of}
 use Rattle.std.specs.List.{AllByRecursion}
 use Rattle.am_classes.specs.declared.limits.TheConstants.{MAX_SAMPLE_NUMBERS}
+use Rattle.am_classes.specs.Alike.{HasOtherPattern}
 use Rattle.am_classes.specs.ClassTexts.{IsClassText}
+use Rattle.am_classes.specs.Limits.{HaveTooManyStates, HaveWildcardsAlone}
+use Rattle.am_classes.proofs.LimitLemmas.{refused_automaton, refused_exploration}
 use Rattle.am_classes.proofs.AskedLemmas.{has_other}
 use Rattle.am_classes.proofs.ClassLemmas.{class_texts, classes_tied}
 use Rattle.am_classes.proofs.class_texts.classes.Goals as goal
+
+pub returns-in_default-clause-none : goal.returns-in_default-clause-none
+returns-in_default-clause-none c =
+    refused_automaton c.args.alphabet (map (λ m. m.now) c.args.matchers.now)
+    (rw c.in_default.is at c.in_ok-questions.ensures.none)
+
+pub returns-in_default-2-clause-none : goal.returns-in_default-2-clause-none
+returns-in_default-2-clause-none c =
+    let ms : List Matcher = map (λ m. m.now) c.args.matchers.now in
+    let of = rw c.in-Some.is at c.in_ok-questions.ensures in
+    let none = rw c.in_default-2.is at c.in_ok-candidates.ensures.none in
+    subst (λ a. HasOtherPattern ms × (HaveWildcardsAlone ms → HaveTooManyStates a ms)) of.alphabet
+    (refused_exploration ms c.in-Some.questions of.some none.0 none.1)
 
 pub returns-clause-many : goal.returns-clause-many
 returns-clause-many c = λ some_missing.

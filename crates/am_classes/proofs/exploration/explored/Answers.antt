@@ -1,4 +1,4 @@
-use Rattle.std.proofs.Common.{◌≡◌, ℕ, ◌<◌, ◌≤◌, ◌+◌, List, [], ◌∷◌, Some, None, slice_get, length, inl, inr, refl, ap, subst, sym, ◌∙◌, arith}
+use Rattle.std.proofs.Common.{◌≡◌, ℕ, ◌<◌, ◌+◌, [], ◌∷◌, Some, None, slice_get, length, inl, inr, refl, ap, subst, sym, ◌∙◌, arith}
 use Rattle.std.specs.List.{IsDistinct}
 use Rattle.std.proofs.lemmas.Bool.{cases_lt}
 use Rattle.std.proofs.lemmas.Option.{slice_get_within, same_Some}
@@ -6,7 +6,6 @@ use Rattle.std.proofs.lemmas.Grind.{common_steps}
 use Rattle.indexmap.specs.IndexSet.{insert_all, insert_key}
 use Rattle.indexmap.proofs.CallerLemmas.{Drains-YieldsInOrder}
 use Rattle.am_universe.proofs.Members.{at_in, in_at}
-use Rattle.am_classes.specs.declared.reached_state.ReachedState.{ReachedState}
 use Rattle.am_classes.specs.State.{FollowsLabel}
 use Rattle.am_classes.specs.Exploration.{AreShortFirst, LeadsOn}
 use Rattle.am_classes.specs.Candidates.{AreShortest, Represents}
