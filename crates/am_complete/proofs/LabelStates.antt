@@ -40,7 +40,7 @@ use Rattle.am_complete.proofs.CompleteUniverses.{space_complete_where_asked}
 use Rattle.am_complete.proofs.LabelTexts.{has_name}
 use Rattle.am_complete.proofs.AskedLabels.{on_name}
 use Rattle.am_complete.proofs.AmongMatchers.{among_none}
-use Rattle.am_complete.proofs.SameMatchers.{has_alike_among, cover_among, pattern_among}
+use Rattle.am_complete.proofs.SameMatchers.{has_alike_among, cover_among, limits_same}
 use Rattle.am_complete.proofs.SameMatchers.{same_classes}
 use Rattle.am_complete.proofs.PossibleTexts.{all_pass}
 
@@ -104,7 +104,7 @@ found_is_so alphabet s asked ms l state_is.Undeclarable asks i some on h =
     )
 found_is_so alphabet s asked ms l (state_is.Unproved origin) asks i some on h = (
   (l, Contains-from_IsIn asked l i, refl, h.0),
-  pattern_among l.matchers (about l.name ms) (on_name asked ms l asks i some).there h.1,
+  limits_same alphabet l.matchers (about l.name ms) (on_name asked ms l asks i some) h.1,
 )
 
 -- a name is declared exactly if a label has it

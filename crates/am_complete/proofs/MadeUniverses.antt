@@ -323,7 +323,7 @@ module _ (a : Alphabet) (s : Space) where
   unproved : (l : AskedLabel) (m : MissingTexts) → IsMissingAt a s l m → is_covered m ≡ false
       → MayBeUnproved a s l
   unproved l m h fails = elim (by m.all m.named m.texts fails) [
-    | inl some ↦ inl (h.pattern some)
+    | inl some ↦ inl (h.limits some)
     | inr r ↦ inr (sym h.named ∙ r.0, first_needed a s l m.texts h.needed r.1)
   ]
     where

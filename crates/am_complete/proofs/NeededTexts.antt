@@ -13,7 +13,8 @@ use Rattle.am_classes.specs.Alphabet.{IsOver}
 use Rattle.am_labels.specs.Space.{Space}
 use Rattle.am_labels.proofs.Passing.{passes_from_kept, kept_from_passes}
 use Rattle.am_classes.specs.declared.alphabet.Alphabet.{Alphabet}
-use Rattle.am_classes.specs.Alike.{HasAlikeIn, HasOtherPattern}
+use Rattle.am_classes.specs.Alike.{HasAlikeIn}
+use Rattle.am_classes.specs.Limits.{MayBePastLimits}
 use Rattle.am_complete.specs.Complete.{label_texts, may_have}
 use Rattle.am_complete.specs.AskedLabel.{AskedLabel}
 use Rattle.am_complete.specs.Covering.{AreClasses, ArePossible, AreNeeded, CoverPossible}
@@ -89,8 +90,8 @@ module _ (a : Alphabet) (s : Space) (l : AskedLabel) (m : MissingTexts) (found :
   cover whole = cover_possible a s.impossible l found lists (classes.covers whole)
 
   pub is_missing : m.name ≡ l.name → l.name ≢ [] → m.named ≡ is_label_name l.name → length wanted ≡ m.count
-      → (m.all ≡ false → HasOtherPattern l.matchers) → IsMissingAt a s l m
-  is_missing name some named counted pattern = record {
+      → (m.all ≡ false → MayBePastLimits a l.matchers) → IsMissingAt a s l m
+  is_missing name some named counted limits = record {
     name = name;
     some_name = some;
     named = named;
@@ -106,7 +107,7 @@ module _ (a : Alphabet) (s : Space) (l : AskedLabel) (m : MissingTexts) (found :
     cover = λ whole. covered a s.impossible l.name l.matchers (standing_texts s l.name ++ m.texts)
         wanted (cover whole) new.cover;
     classes = λ whole. (wanted, record { cover = cover whole; possible = possible }, counted);
-    pattern = pattern;
+    limits = limits;
   }
 
 -- ---- What is found where it is known what is missing.

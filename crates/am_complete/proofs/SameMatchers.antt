@@ -11,7 +11,9 @@ use Rattle.am_labels.specs.contracts.op.Op.{the_type}
 use Rattle.am_labels.specs.Matcher.{Matcher, holds}
 use Rattle.am_labels.specs.Space.{Space}
 use Rattle.am_classes.specs.declared.alphabet.Alphabet.{Alphabet}
-use Rattle.am_classes.specs.Alike.{AreAlike, HasAlikeIn, AreApart, HasOtherPattern}
+use Rattle.am_classes.specs.Alike.{AreAlike, HasAlikeIn, AreApart}
+use Rattle.am_classes.specs.Limits.{MayBePastLimits}
+use Rattle.am_classes.proofs.LimitLemmas.{same_limits}
 use Rattle.am_complete.specs.Complete.{AreAmong, HaveSameMatchers}
 use Rattle.am_complete.specs.AskedLabel.{same_op, asks_same}
 use Rattle.am_complete.specs.Covering.{ArePossible, CoverPossible, standing_texts, AreNeeded}
@@ -67,8 +69,10 @@ pub cover_among : (a : Alphabet) (impossible : List (List Matcher)) (name : List
 cover_among a impossible name ns ms texts among cover text over possible =
     has_alike_among ns ms texts text among (cover text over possible)
 
-pub pattern_among : (ns ms : List Matcher) → AreAmong ns ms → HasOtherPattern ns → HasOtherPattern ms
-pattern_among ns ms among h = grind (arith, common_steps, is_among)
+pub limits_same : (a : Alphabet) (ns ms : List Matcher) → HaveSameMatchers ns ms
+    → MayBePastLimits a ns → MayBePastLimits a ms
+limits_same a ns ms same =
+    same_limits a ns ms (λ m i. in_there ns ms m same i) (λ m i. in_back ns ms m same i)
 
 pub possible_among : (a : Alphabet) (impossible : List (List Matcher)) (name : List ℕ)
     (ns ms : List Matcher) (texts : List (List ℕ)) → AreAmong ns ms

@@ -9,7 +9,8 @@ use Rattle.am_labels.specs.Matcher.{Matcher}
 use Rattle.am_labels.specs.Space.{Space}
 use Rattle.am_classes.specs.declared.alphabet.Alphabet.{Alphabet}
 use Rattle.am_classes.specs.Alphabet.{IsOver}
-use Rattle.am_classes.specs.Alike.{HasAlikeIn, HasOtherPattern}
+use Rattle.am_classes.specs.Alike.{HasAlikeIn}
+use Rattle.am_classes.specs.Limits.{MayBePastLimits}
 use Rattle.am_complete.specs.declared.label_state.Completeness.{Completeness}
 use Rattle.am_complete.specs.declared.label_state.Completeness.TheVariants as state_is
 use Rattle.am_complete.specs.declared.label_state.LabelState.{LabelState}
@@ -31,7 +32,7 @@ IsFoundAt a s l state_is.Unasked = ⊥
 IsFoundAt a s l state_is.Undeclarable =
     (is_label_name l.name ≡ false)
     × (CoverPossible a s.impossible l.name l.matchers (label_texts s.labels l.name) → ⊥)
-IsFoundAt a s l (state_is.Unproved origin) = (l.first ≡ origin) × HasOtherPattern l.matchers
+IsFoundAt a s l (state_is.Unproved origin) = (l.first ≡ origin) × MayBePastLimits a l.matchers
 
 -- The matchers of the impossible lists that ask about a label alone are among those on it.
 abbrev pub HasThoseOfLists : List (List Matcher) → AskedLabel → Type 0

@@ -8,7 +8,7 @@ use Rattle.am_labels.specs.Matcher.{Matcher}
 use Rattle.am_labels.specs.Space.{Space}
 use Rattle.am_classes.specs.declared.alphabet.Alphabet.{Alphabet}
 use Rattle.am_classes.specs.Alphabet.{IsOver}
-use Rattle.am_classes.specs.Alike.{HasOtherPattern}
+use Rattle.am_classes.specs.Limits.{MayBePastLimits}
 use Rattle.am_complete.specs.declared.label_state.Completeness.{Completeness}
 use Rattle.am_complete.specs.declared.label_state.Completeness.TheVariants as state_is
 use Rattle.am_complete.specs.Complete.{about, HasAlike, may_have, IsSpaceCompleteAt}
@@ -40,8 +40,9 @@ HasClasses a impossible name ms n =
 -- `Lacks`: the label, which has a label name, may have this text, which is over the alphabet, and
 -- no text of the universe is alike to it. `Unasked`: no matcher asks about the label.
 -- `Undeclarable`: the space is not complete there, and no universe can declare the label, because
--- its name is no label name. `Unproved`: some matcher on the label takes a pattern that is no
--- alternation of plain texts, and the first matcher on the label has this origin; no more is said.
+-- its name is no label name. `Unproved`: the first matcher on the label has this origin, and some
+-- matcher on it takes a pattern that is no alternation of plain texts; if each such pattern is made
+-- of plain characters, `.*` and bars, there are too many states or classes. No more is said.
 -- Source: own choice.
 -- Example: for `team="db"` alone, a universe with `db` and absence is complete at `team`, which has
 -- two classes. So is one with `db` and `web`. One with `web` alone lacks `db`. For `a:b="x"` alone
@@ -60,7 +61,7 @@ IsSoAt a s ms asked name state_is.Undeclarable =
     (is_label_name name ≡ false) × (IsSpaceCompleteAt a s ms name → ⊥)
 IsSoAt a s ms asked name (state_is.Unproved origin) =
     ((l : AskedLabel) × Contains asked l × (l.name ≡ name) × (l.first ≡ origin))
-    × HasOtherPattern (about name ms)
+    × MayBePastLimits a (about name ms)
 
 -- The same, unless the name is the empty text: no matcher and no label has it.
 abbrev pub IsSoIfNamed :

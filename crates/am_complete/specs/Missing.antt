@@ -7,7 +7,7 @@ use Rattle.am_universe.specs.Text.{same_text}
 use Rattle.am_universe.specs.Universe.{Label, is_label_name}
 use Rattle.am_labels.specs.Space.{Space}
 use Rattle.am_classes.specs.declared.alphabet.Alphabet.{Alphabet}
-use Rattle.am_classes.specs.Alike.{HasOtherPattern}
+use Rattle.am_classes.specs.Limits.{MayBePastLimits}
 use Rattle.am_complete.specs.Complete.{texts_of_label}
 use Rattle.am_complete.specs.AskedLabel.{AskedLabel}
 use Rattle.am_complete.specs.Covering.{AreNeeded, CoverPossible, standing_texts}
@@ -33,7 +33,7 @@ pub record IsMissingAt (a : Alphabet) (s : Space) (l : AskedLabel)
   pub cover : IsTrue m.all
       → CoverPossible a s.impossible l.name l.matchers (standing_texts s l.name ++ m.texts)
   pub classes : IsTrue m.all → HasClasses a s.impossible l.name l.matchers m.count
-  pub pattern : m.all ≡ false → HasOtherPattern l.matchers
+  pub limits : m.all ≡ false → MayBePastLimits a l.matchers
 
 abbrev pub AreMissing : Alphabet → Space → List AskedLabel → List MissingTexts → Type 0
 AreMissing a s asked missing = AllZip (IsMissingAt a s) asked missing

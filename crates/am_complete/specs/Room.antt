@@ -8,7 +8,7 @@ use Rattle.am_universe.specs.Text.{same_text}
 use Rattle.am_universe.specs.Universe.{is_label_name, names}
 use Rattle.am_labels.specs.Space.{Space}
 use Rattle.am_classes.specs.declared.alphabet.Alphabet.{Alphabet}
-use Rattle.am_classes.specs.Alike.{HasOtherPattern}
+use Rattle.am_classes.specs.Limits.{MayBePastLimits}
 use Rattle.am_complete.specs.AskedLabel.{AskedLabel, asked_names}
 use Rattle.am_complete.specs.Covering.{AreNeeded, standing_texts}
 
@@ -55,15 +55,15 @@ AreTooMany a s asked =
 abbrev pub HaveNoRoom : Alphabet → Space → List AskedLabel → Type 0
 HaveNoRoom a s asked = HaveTooManyValues a s asked ⊎ AreTooMany a s asked
 
--- A label may be unproved: a matcher on it takes a pattern that is no alternation of plain texts,
--- so that perhaps its classes cannot be computed; or it needs a text, and no universe can declare
--- it.
+-- A label may be unproved: perhaps its classes cannot be computed; or it needs a text, and no
+-- universe can declare it. If each pattern on it is made of plain characters, `.*` and bars, the
+-- classes cannot be computed only if there are too many states or classes.
 -- Source: own choice.
 -- Example: if `a:b="x"` is asked and nothing is impossible, `a:b` may be unproved. If only
--- `team="db"` and `team=~"db|web"` are asked, `team` is never unproved.
+-- `team="db"` and `team=~"db.*|web"` are asked, `team` is never unproved.
 abbrev pub MayBeUnproved : Alphabet → Space → AskedLabel → Type 0
 MayBeUnproved a s l =
-    HasOtherPattern l.matchers ⊎ ((is_label_name l.name ≡ false) × NeedsText a s l)
+    MayBePastLimits a l.matchers ⊎ ((is_label_name l.name ≡ false) × NeedsText a s l)
 
 -- Positions of such labels among those that are asked about. The least position comes first.
 -- Source: own choice.

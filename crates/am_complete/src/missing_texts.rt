@@ -3,7 +3,7 @@
 ghost use Rattle.std.specs.Prelude.{◌≡◌, ◌≢◌, [], IfOk, map, string_bytes, false, not};
 ghost use Rattle.std.specs.List.{AllByRecursion};
 ghost use Rattle.std.specs.Option.{option_map_or};
-ghost use Rattle.am_classes.specs.Alike.{HasOtherPattern};
+ghost use Rattle.am_classes.specs.Limits.{MayBePastLimits};
 ghost use Rattle.am_classes.specs.Truths.{AreNewIn};
 ghost use Rattle.am_complete.specs.Covering.{AreClasses, standing_texts};
 ghost use Rattle.am_complete.specs.FoundState.{HasThoseOfLists, IsFoundAt};
@@ -146,8 +146,8 @@ fn class_texts(
 ) -> Result<ClassTexts, AllocError>
     ensures classes { IfOk result (λ found. AreClasses alphabet label.now.matchers
         (map string_bytes found.texts.items) found.all) }
-    ensures pattern { IfOk result (λ found.
-        found.all ≡ false → HasOtherPattern label.now.matchers) }
+    ensures limits { IfOk result (λ found.
+        found.all ≡ false → MayBePastLimits alphabet label.now.matchers) }
     ensures representatives { IfOk result (λ found. AllByRecursion (IsRepresentative
         (not found.all) alphabet (option_map_or (λ a. a.now) alerts.entry []) label.now.name
         label.now.matchers) (map string_bytes found.texts.items)) }

@@ -25,7 +25,7 @@ returns-clause-missing c =
     (map string_bytes c.in_ok-texts.texts.items)) kept c.in_ok-texts.ensures)
     named c.name-name.ensures.named (c.is_label_name.ensures.named ∙ ap is_label_name named)
     (omega (arith, length-map wanted.items string_bytes, ap length kept, wanted.ok.0, c.len-count.ensures))
-    c.in_ok-found.ensures.pattern
+    c.in_ok-found.ensures.limits
 
 pub returns-clause-representatives : goal.returns-clause-representatives
 returns-clause-representatives c =
