@@ -91,7 +91,7 @@ refused_by a s k i l found place r at before refused so = record {
   where
     by : (found : Completeness) → IsStateRefusal k i l.name found place r
         → IsSoAt a s (routing_matchers s k) (labels_of_routes k s.impossible) l.name found
-        → LacksValue a s k i l place r ⊎ IsUndecided s k l place r
+        → LacksValue a s k i l place r ⊎ IsUndecided a s k l place r
     by (state_is.Complete classes) refused so = absurd refused
     by (state_is.Lacks text) refused so =
         inl ((λ whole. so.3 (whole (string_bytes text) so.1 so.2)), refused)

@@ -19,7 +19,7 @@ use Rattle.am_complete.specs.declared.label_state.Completeness.TheVariants as st
 use Rattle.am_complete.specs.AskedLabel.{AskedLabel}
 use Rattle.am_complete.specs.Complete.{about, IsSpaceCompleteAt}
 use Rattle.am_complete.specs.Covering.{AddsNeeded, AddsInOrder}
-use Rattle.am_classes.specs.Alike.{HasOtherPattern}
+use Rattle.am_classes.specs.Limits.{MayBePastLimits}
 use Rattle.am_every_alert.specs.Deciding.{StandsFor, space_of}
 use Rattle.am_asked.specs.OriginPointer.{origin_pointer}
 use Rattle.am_asked.specs.Made.{NoRoomFor, UnprovedFor}
@@ -95,14 +95,15 @@ abbrev pub LacksValue : Alphabet → Space → Configurations → ℕ → Label 
 LacksValue a s k position label place r =
     (IsDeclaredWhole a s k label → ⊥) × IsIncompleteAt position place r
 
--- A label of a space is refused since a matcher on it takes a pattern that is no alternation of
--- plain texts, and the classes of the label could not be computed.
+-- A label of a space is refused since its classes could not be computed: a matcher on it takes a
+-- pattern that is no alternation of plain texts, and if all such patterns are made of plain
+-- characters, `.*` and bars, there are too many states or classes.
 -- Source: own choice.
 -- Example: `team` is declared, and a route has `team=~"\bdb"`, over Unicode.
-abbrev pub IsUndecided : Space → Configurations → Label → Place → Refusal → Type 0
-IsUndecided s k label place r =
+abbrev pub IsUndecided : Alphabet → Space → Configurations → Label → Place → Refusal → Type 0
+IsUndecided a s k label place r =
     (asked : AskedLabel) × Contains (labels_of_routes k s.impossible) asked
-    × (asked.name ≡ label.name) × HasOtherPattern (about label.name (routing_matchers s k))
+    × (asked.name ≡ label.name) × MayBePastLimits a (about label.name (routing_matchers s k))
     × IsUnprovedAt k asked.name asked.first place r
 
 -- A label that the space declares is refused at this place, for one of these reasons. No label
@@ -113,7 +114,7 @@ pub record IsDeclaredRefusal (a : Alphabet) (s : Space) (k : Configurations) (pl
   pub label : Label
   pub there : slice_get s.labels position ≡ Some label
   pub before : AreDeclaredWhole a s k (take position s.labels)
-  pub refused : LacksValue a s k position label place r ⊎ IsUndecided s k label place r
+  pub refused : LacksValue a s k position label place r ⊎ IsUndecided a s k label place r
 
 -- How a label at a position is refused, by its state.
 abbrev pub IsStateRefusal :
