@@ -35,8 +35,8 @@ HaveSameState a named patterns x y =
 -- The ends of texts over an alphabet have more states, for some matchers, than are explored: there
 -- are more than `MAX_STATES` ends, no two of which have the same state.
 -- Source: own choice.
--- Example: `team="db"` and `team=~"w.*"` have few. A matcher `=` with a text of 70,000 bytes, beside
--- one with `.*`, has many.
+-- Example: `team="db"` and `team=~"w.*"` have few. A matcher `=` with a text of 70,000 bytes has
+-- many, beside one with `.*`.
 pub record HaveManyStates (a : Alphabet) (ms : List Matcher) : Type 0 where
   pub named : List (List ℕ)
   pub patterns : List (List ℕ)

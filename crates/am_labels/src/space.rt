@@ -5,6 +5,7 @@ use crate::Matchers;
 use am_universe::Universe;
 use std::alloc::Global;
 use std::marker::Model;
+use std::mem;
 
 /// A universe without the label sets that never occur: those that match one of at most
 /// `MAX_IMPOSSIBLE` lists of matchers.
@@ -58,6 +59,16 @@ impl Space {
         ensures impossible { self.new.impossible ≡ self.old.impossible }
     {
         self.universe = universe;
+    }
+
+    /// Takes the labels and their values away, and returns them. The impossible lists stay. This
+    /// takes no memory.
+    pub fn undeclare(&mut self, alloc: Global) -> Universe
+        ensures returned { result ≡ self.old.labels }
+        ensures labels { self.new.labels ≡ [] }
+        ensures impossible { self.new.impossible ≡ self.old.impossible }
+    {
+        mem::replace(&mut self.universe, Universe::empty(alloc))
     }
 
     /// The labels and their values, without regard to what is impossible.
