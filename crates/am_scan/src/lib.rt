@@ -27,13 +27,9 @@ mod wildcard_exploration;
 mod wildcard_marks;
 mod wildcard_place;
 
-// Hashes, with which callers look up states.
-mod hashing;
-
 // The automaton, and the rows of its table.
 mod exploration;
 mod pattern_automaton;
 mod row;
 
-pub use hashing::hash_with;
 pub use pattern_automaton::PatternAutomaton;

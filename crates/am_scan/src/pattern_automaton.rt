@@ -159,14 +159,6 @@ impl PatternAutomaton {
         }
     }
 
-    /// Texts with one state of a pattern with wildcards alone have one number.
-    #[tactic(auto, unfolding(crate::specs::Automaton::number_of, crate::specs::Automaton::pattern_of))]
-    pub fn states_have_numbers(&self)
-        ensures { is_wildcards (pattern_of self.now) ≡ true → (x y : List ℕ)
-            → wildcards_state (pattern_of self.now) x ≡ wildcards_state (pattern_of self.now) y
-            → number_of self.now x ≡ number_of self.now y }
-    {}
-
     /// Returns the class of a byte.
     #[tactic(auto, unfolding(crate::specs::Automaton::class_of))]
     pub fn class_of(&self, byte: u8) -> u8
