@@ -3,6 +3,7 @@ pub mod Kind
 pub mod Place
 pub mod Sink
 pub mod Out
+pub mod Shown
 pub mod Text
 pub mod Universe
 pub mod UniverseView

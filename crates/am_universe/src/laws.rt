@@ -1,6 +1,9 @@
 //! Facts about the definitions alone: each is the contract of a function with an empty body.
 ghost use Rattle.std.specs.Prelude.{◌≡◌, ◌↔◌, ℕ, List, [], ◌∷◌, ◌++◌, IsTrue, Contains, None, Some};
 ghost use Rattle.std.specs.Prelude.{slice_get, unwrap_or, string_bytes};
+ghost use Rattle.std.specs.Char.{IsAsciiGraphic};
+ghost use Rattle.std.specs.Char.Escape.{escape_unicode};
+ghost use Rattle.std.specs.List.{AllByRecursion};
 ghost use Rattle.std.specs.Ordering.{nat_cmp};
 ghost use Rattle.std.specs.Cmp.Lexicographic.{slice_cmp};
 ghost use Rattle.std.specs.List.Sorted.{IsStrictlySortedBy};
@@ -29,6 +32,11 @@ pub fn memory_and_writing_have_places_of_their_own()
         → (fault.place ≡ places.Memory) × (string_bytes fault.pointer ≡ []) }
     ensures write { (fault : Fault) → fault.kind ≡ kinds.Write
         → (fault.place ≡ places.Output) × (string_bytes fault.pointer ≡ []) }
+{}
+
+/// An escape is printable ASCII, so it has no hidden character in it.
+pub fn an_escape_is_printable_ascii()
+    ensures { (code : ℕ) → AllByRecursion IsAsciiGraphic (escape_unicode code) }
 {}
 
 /// `same_text` is true of two texts exactly if they are equal.

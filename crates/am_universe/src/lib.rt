@@ -21,14 +21,17 @@ pub use label_fault::{LabelFault, LabelPart};
 pub use place::Place;
 
 // Sinks for output, and histories of what they took.
+mod hidden;
 mod history;
 mod memory_sink;
 mod out;
 mod sink;
+mod terminal;
 
 pub use history::History;
 pub use out::Out;
 pub use sink::Sink;
+pub use terminal::Terminal;
 
 // Label names, choices, and the universes that admit them.
 mod label_name;
