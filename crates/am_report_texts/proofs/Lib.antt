@@ -1,3 +1,4 @@
 pub mod PieceSteps
 pub mod Escapes
 pub mod LineLemmas
+pub mod PlainData

@@ -3,3 +3,7 @@ pub mod NameText
 pub mod MatchersText
 pub mod Plural
 pub mod Lines
+pub mod Line
+pub mod LineData
+pub mod LineView
+pub mod Written

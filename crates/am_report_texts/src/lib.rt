@@ -1,26 +1,27 @@
-//! The parts of the texts of reports: texts in quotes, names, label sets, matchers in braces,
-//! paths, and the separators of lists.
+//! Reports as values, as texts and as JSON, and the parts of their texts.
 #![tactic(auto)]
 
-// A text in quotes, the name of a label, and the ending of a word.
+// Texts in quotes, names of labels, separators, and endings of words.
 mod name_text;
 mod quoted_text;
-mod word_ending;
+mod wording;
 
 pub use name_text::{is_name, push_name};
 pub use quoted_text::push_quoted;
-pub use word_ending::plural;
+pub use wording::{gap_before, plural};
 
-// The separators of lists.
-mod separator;
+// The lines of reports, how many of them there are, and how they are written as a text and as JSON.
+mod counts;
+mod lines;
+mod lines_json;
+mod lines_text;
+mod shown;
+mod writing;
 
-pub use separator::gap_before;
+pub use counts::{count_findings, count_notes};
+pub use lines::{Field, Level, Line, Piece, Report, Shown, ShownRoute};
+pub use shown::{all_matchers, label_set};
+pub use writing::{Form, written};
 
-// The label set of a choice, matchers in braces, and a path.
-mod label_set_text;
-mod matchers_text;
-mod path_text;
-
-pub use label_set_text::push_label_set;
-pub use matchers_text::{push_matcher, push_matchers};
-pub use path_text::push_path;
+// Facts about the definitions alone.
+pub mod laws;

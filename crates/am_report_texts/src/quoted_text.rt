@@ -1,4 +1,5 @@
 //! Texts in quotes.
+#![tactic(auto, using(crate::proofs::PieceSteps::text_steps))]
 
 ghost use Rattle.std.specs.Prelude.{◌≡◌, ◌++◌, string_bytes, encode_utf8, OnOk};
 ghost use Rattle.std.specs.List.{flat_map};
