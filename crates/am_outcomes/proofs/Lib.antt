@@ -5,5 +5,4 @@ pub mod StepLemmas
 pub mod WalkLemmas
 pub mod WaysFound
 pub mod Gathered
-pub mod TextSteps
-pub mod LineLaws
+pub mod LineSteps

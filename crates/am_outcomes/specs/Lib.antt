@@ -3,5 +3,5 @@ pub mod Ways
 pub mod RouteSteps
 pub mod Walks
 pub mod FirstsOfWays
-pub mod OutcomeText
+pub mod OutcomeLines
 pub mod ReceiversView

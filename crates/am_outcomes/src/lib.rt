@@ -5,8 +5,8 @@
 //! does not go through the choices one by one. It goes through the routes, of one configuration
 //! after the other, and where an alert may match a route or not it goes on with both. What is at
 //! the end of such a walk is one *way* through the routes. All alerts that go it have the same
-//! receivers. [`outcomes_text`] and [`changes_text`] write a line for each outcome, or for each one
-//! that differs between two configurations.
+//! receivers. [`outcomes_report`] and [`changes_report`] have a line for each outcome, or for each
+//! one that differs between two configurations.
 #![tactic(auto)]
 
 // The limit of the search.
@@ -17,12 +17,9 @@ mod route_steps;
 mod walks;
 mod ways;
 
-// The outcomes that are found, and their text.
+// The outcomes that are found, and their lines.
 mod found;
-mod outcome_text;
+mod outcome_lines;
 
 pub use found::{Outcomes, find_outcomes};
-pub use outcome_text::{Changes, changes_text, outcomes_text};
-
-// What follows from the definitions alone.
-pub mod laws;
+pub use outcome_lines::{changes_report, outcomes_report};
