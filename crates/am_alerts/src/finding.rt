@@ -2,10 +2,11 @@
 
 ghost use Rattle.std.specs.Prelude.{◌≡◌, ◌<◌, map, IfOk};
 ghost use Rattle.am_eval.specs.QuestionView.{question_view};
-ghost use Rattle.am_alerts.specs.FoundView.{line_view};
+ghost use Rattle.am_alerts.specs.FoundView.{found_view};
 ghost use Rattle.am_alerts.specs.AlertLines.{lines_of};
 
 use crate::outcome::outcome_of;
+use crate::silence_ids::SilenceIds;
 use crate::truth::satisfies;
 use am_eval::{Question, World};
 use am_universe::LabelSet;
@@ -20,21 +21,22 @@ pub(crate) struct Found<'w> {
     pub set: &'w LabelSet,
     /// The receivers to which it goes, by their positions.
     pub receivers: Vec<usize>,
-    /// The silences that hide it, by their positions.
-    pub silencers: Vec<usize>,
+    /// The silences that hide it, by their names.
+    pub silencers: Vec<String>,
     /// The rules and firing alerts that inhibit it, by their positions.
     pub inhibitors: Vec<(usize, usize)>,
 }
 
-/// Finds the alerts of a world of which a question is true, in their order. Fails only if memory
-/// runs out.
+/// Finds the alerts of a world of which a question is true, in their order. The silences of the
+/// world have these identifiers. Fails only if memory runs out.
 pub(crate) fn find_asked<'w>(
     alloc: Global,
     world: &'w World,
+    ids: &SilenceIds,
     question: &Question,
 ) -> Result<Vec<Found<'w>>, AllocError>
     ensures found { IfOk result (λ found.
-        map line_view found.items ≡ lines_of world.now (question_view question.now)) }
+        map found_view found.items ≡ lines_of world.now ids.now (question_view question.now)) }
 {
     let mut found = Vec::new(alloc);
     for position in 0..world.alerts().len() {
@@ -45,7 +47,7 @@ pub(crate) fn find_asked<'w>(
                 position,
                 set,
                 receivers: outcome.receivers,
-                silencers: outcome.silencers,
+                silencers: ids.names_of(alloc, outcome.silencers.as_slice())?,
                 inhibitors: outcome.inhibitors,
             })?;
         }

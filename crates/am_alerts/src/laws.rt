@@ -5,12 +5,11 @@ ghost use Rattle.std.specs.Prelude.{IsTrue};
 ghost use Rattle.std.specs.List.Sorted.{IsStrictlySortedBy};
 ghost use Rattle.std.specs.Ordering.{nat_cmp};
 ghost use Rattle.am_universe.specs.LabelSet.{LabelMap};
-ghost use Rattle.am_config.specs.ConfigFile.{Configuration};
-ghost use Rattle.am_report_texts.specs.Lines.{IsLine};
+ghost use Rattle.am_report_texts.specs.declared.writing.Form.{Form};
 ghost use Rattle.am_eval.specs.World.{World};
 ghost use Rattle.am_files.specs.Files.{Files};
 ghost use Rattle.am_eval.specs.Question.{Question, satisfies};
-ghost use Rattle.am_alerts.specs.AlertLines.{asked_alerts, AlertLine, line_text};
+ghost use Rattle.am_alerts.specs.AlertLines.{asked_alerts};
 ghost use Rattle.am_alerts.specs.Alerts.{ReportsAlerts};
 
 /// The alerts that have a line are exactly those of the file that satisfy the question, in the
@@ -23,14 +22,9 @@ pub fn asked_alerts_are_those_that_satisfy()
         → IsStrictlySortedBy nat_cmp (map (λ alert. alert.0) (asked_alerts w q)) }
 {}
 
-/// The line of an alert is one line: nothing that stands in it ends it or begins another one.
-pub fn each_line_is_one()
-    ensures alert { (c : Configuration) (ids : List (Option (List ℕ))) (line : AlertLine)
-        → IsLine (line_text c ids line) }
-{}
-
 /// The same inputs fix what `alerts` writes.
 pub fn the_lines_of_alerts_are_one_text()
-    ensures one { (files : Files) (asked : Option (List ℕ)) (text other : List ℕ)
-        → ReportsAlerts files asked text → ReportsAlerts files asked other → text ≡ other }
+    ensures one { (files : Files) (asked : Option (List ℕ)) (form : Form) (text other : List ℕ)
+        → ReportsAlerts files asked form text → ReportsAlerts files asked form other
+        → text ≡ other }
 {}

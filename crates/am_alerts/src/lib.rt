@@ -18,7 +18,7 @@ mod finding;
 mod silence_ids;
 
 // The lines.
-mod line_text;
+mod alert_lines;
 
 // The command.
 mod report;

@@ -1,24 +1,28 @@
-ghost use Rattle.std.specs.Prelude.{◌≡◌, [], option_copied, IfOk, IfErr};
+ghost use Rattle.std.specs.Prelude.{◌≡◌, [], option_copied, string_bytes, IfOk, IfErr};
 ghost use Rattle.am_universe.specs.declared.place.Place.TheVariants as places;
 ghost use Rattle.am_json.specs.Reading.{IsRefusalAt};
 ghost use Rattle.am_files.specs.Promise.{IsKept};
 ghost use Rattle.am_eval.specs.QuestionView.{question_view};
 ghost use Rattle.am_config.specs.ConfigView.{config_view};
 ghost use Rattle.am_questions.specs.QuestionText.{ReadsQuestion, QuestionRefusedFor};
+ghost use Rattle.am_report_texts.specs.Written.{IsWritten};
+ghost use Rattle.am_alerts.specs.SilenceIds.{ids_of_file};
+ghost use Rattle.am_alerts.specs.AlertLines.{alerts_report, lines_of};
 ghost use Rattle.am_alerts.specs.Alerts.{asked_text, alerts_promise};
 
+use crate::alert_lines::alerts_report;
 use crate::finding::find_asked;
-use crate::line_text::write_lines;
 use crate::silence_ids::SilenceIds;
 use am_config::Config;
-use am_eval::Question;
+use am_eval::{Question, World};
 use am_files::{Files, read_world};
 use am_questions::parse_question;
-use am_universe::{Fault, Place, Sink, answer_of_write};
-use std::alloc::Global;
+use am_report_texts::{Form, written};
+use am_universe::{Fault, Place, Sink, answer_of_write, put_str};
+use std::alloc::{AllocError, Global};
 
 /// Writes the alerts of an export of which a question is true, in the order of the file, and then
-/// `# end`. Without a question it writes all alerts.
+/// `# end`. Without a question it writes all alerts. In the form of JSON, each line is an object.
 ///
 /// Each line has the position of the alert in the file, from 0, its labels, the receivers to which
 /// it goes, the silences that hide it, and the inhibition rules and firing alerts that inhibit it.
@@ -34,28 +38,44 @@ use std::alloc::Global;
 /// - `Write`.
 ///
 /// `Memory` may come at any point. After any fault but `Write` the sink is unchanged; after `Write`
-/// it has taken a prefix of the lines.
+/// it has taken a prefix of the report.
 pub fn alerts<W: Sink>(
     alloc: Global,
     files: &Files<'_>,
     question: Option<&str>,
+    form: Form,
     out: &mut W,
 ) -> Result<(), Fault>
     // Exactly the alerts of which the question is true are written, each with exactly its
     // receivers, its silences, and the rules and alerts that inhibit it.
-    ensures kept { IsKept (alerts_promise files.now (option_copied question.entry))
+    ensures kept { IsKept (alerts_promise files.now (option_copied question.entry) form)
         W.taken W.failures out.old out.new result }
 {
     let world = read_world(alloc, files)?;
     let question = read_question(alloc, question, world.config())?;
-    let Ok(found) = find_asked(alloc, &world, &question) else {
+    let Ok(text) = report_text(alloc, files, &world, &question, form) else {
         return Err(Fault::memory(alloc));
     };
-    let Ok(ids) = SilenceIds::read(alloc, files.silences) else {
-        return Err(Fault::memory(alloc));
-    };
-    let written = write_lines(world.config(), &ids, found.as_slice(), out);
-    answer_of_write(alloc, written)
+    answer_of_write(alloc, put_str(out, text.as_str()))
+}
+
+/// Returns the report of the alerts of the world of some files of which a question is true. Fails
+/// only if memory runs out.
+fn report_text(
+    alloc: Global,
+    files: &Files<'_>,
+    world: &World,
+    question: &Question,
+    form: Form,
+) -> Result<String, AllocError>
+    ensures { IfOk result (λ text. IsWritten form (alerts_report world.now.config
+        (lines_of world.now (ids_of_file files.now.silences) (question_view question.now)))
+        (string_bytes text)) }
+{
+    let ids = SilenceIds::read(alloc, files.silences)?;
+    let found = find_asked(alloc, world, &ids, question)?;
+    let report = alerts_report(alloc, world.config(), found.as_slice())?;
+    written(alloc, form, &report)
 }
 
 /// Reads the question that a text asks about a configuration, as `parse_question` does. Without a

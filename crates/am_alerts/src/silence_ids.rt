@@ -3,10 +3,10 @@
 //! A `Silence` keeps no identifier, because only `alerts` prints one. So the bytes of the file are
 //! read a second time here, after the world has been accepted.
 
-ghost use Rattle.std.specs.Prelude.{◌≡◌, IfOk, option_copied, option_map};
+ghost use Rattle.std.specs.Prelude.{◌≡◌, IfOk, map, option_copied, option_map, string_bytes};
 ghost use Rattle.serde_json.specs.View.{view};
 ghost use Rattle.am_json.specs.Json.{json_of};
-ghost use Rattle.am_alerts.specs.SilenceIds.{id_of, ids_of, ids_of_file, id_at};
+ghost use Rattle.am_alerts.specs.SilenceIds.{called, id_of, ids_of, ids_of_file, id_at};
 
 use am_json::field;
 use serde_json::Value;
@@ -45,8 +45,34 @@ impl SilenceIds {
         }
     }
 
+    /// Returns the names of silences: the identifier of each, or the position if it has none. Fails
+    /// only if memory runs out.
+    pub(crate) fn names_of(
+        &self,
+        alloc: Global,
+        silences: &[usize],
+    ) -> Result<Vec<String>, AllocError>
+        ensures names { IfOk result (λ names.
+            map string_bytes names.items ≡ map (called self.now) silences.now) }
+    {
+        let mut names = Vec::with_capacity(alloc, silences.len())?;
+        for silence in silences {
+            names.push(self.name_of(alloc, *silence)?)?;
+        }
+        Ok(names)
+    }
+
+    fn name_of(&self, alloc: Global, silence: usize) -> Result<String, AllocError>
+        ensures { IfOk result (λ name. string_bytes name ≡ called self.now silence) }
+    {
+        match self.get(silence) {
+            Some(id) => String::from_str(alloc, id),
+            None => String::from_str(alloc, itoa::Buffer::new().format(silence)),
+        }
+    }
+
     /// The identifier of the silence at a position, if it has one.
-    pub(crate) fn get(&self, silence: usize) -> Option<&str>
+    fn get(&self, silence: usize) -> Option<&str>
         ensures id { option_map (λ id. id.now) result ≡ id_at self.now silence }
     {
         match &self.value {

@@ -1,0 +1,17 @@
+use Rattle.std.proofs.lemmas.List.{length-map}
+use Rattle.am_alerts.proofs.alert_lines.alert_line.Goals as goal
+
+pub returns : goal.returns
+returns c =
+    simp (
+      c.in_ok-vec.ensures.items,
+      c.in_ok-labels_of.ensures,
+      c.in_ok-receivers.ensures,
+      c.words_before.ensures,
+      c.words_before-2.ensures,
+      c.in_ok-texts_of.ensures,
+      c.as_slice.ensures.value,
+      c.as_slice-silencers.ensures.value,
+      c.as_slice-inhibitors.ensures.value,
+      length-map,
+    )
