@@ -26,7 +26,8 @@ use Rattle.am_lint.specs.Arrival.{IsArrival}
 use Rattle.am_lint.specs.Findings.{IsOrdinary, IsRouteFinding, IsReceiverFinding}
 use Rattle.am_lint.specs.FoundView.{finding_by, is_end, is_end_if_any, said_of, IsKnown}
 use Rattle.am_lint.specs.FoundView.{has_ordinary, has_other, receiver_finding}
-use Rattle.am_lint.specs.ReportText.{count_findings, count_notes, report_lines}
+use Rattle.am_report_texts.specs.Line.{Line}
+use Rattle.am_lint.specs.LintLines.{report_lines}
 use Rattle.am_lint.specs.Report.{IsSaid, SaysOfRoutes}
 use Rattle.am_lint.proofs.TableLemmas.{zip_left, zip_right, stands_at, listed}
 use Rattle.am_lint.proofs.EnteringLemmas.{enters_to_end}
@@ -204,14 +205,11 @@ module _ (alphabet : Alphabet) (s : Space) (u v : List Label) (c : Configuration
 
   -- ---- A report.
 
-  pub lines_so : (receivers : List (Option ReceiverFinding)) (findings notes : ℕ)
-      (lines : List ℕ)
+  pub lines_so : (receivers : List (Option ReceiverFinding)) (lines : List Line)
       → receivers ≡ map (receiver_finding routes) (range_with_len 0 (length c.receivers))
-      → findings ≡ count_findings (map said_of routes) receivers
-      → notes ≡ count_notes (map said_of routes) receivers
       → lines ≡ report_lines v c (map said_of routes) receivers
-      → SaysOfRoutes alphabet s v c findings notes lines
-  lines_so receivers findings notes lines are counts notes_are text =
+      → SaysOfRoutes alphabet s v c lines
+  lines_so receivers lines are lines_are =
       let all = range_with_len 0 (length c.receivers) in
       record {
         routes = map said_of routes;
@@ -225,7 +223,5 @@ module _ (alphabet : Alphabet) (s : Space) (u v : List Label) (c : Configuration
             (zip_own (IsReceiverFinding alphabet s c) (receiver_finding routes) (λ receiver.
             receiver_by receiver (list_any (has_ordinary receiver) routes)
             (list_any (has_other receiver) routes) refl refl) all);
-        counted = counts;
-        noted = notes_are;
-        text = text;
+        lines_are = lines_are;
       }

@@ -10,8 +10,6 @@ pub mod LiteralTruth
 pub mod NamedReasons
 pub mod Takers
 pub mod ArrivalSteps
-pub mod ReportSteps
-pub mod LineLaws
 pub mod Transfer
 pub mod FoundLemmas
 pub mod ReasonLaws

@@ -16,7 +16,7 @@ use Rattle.am_lint.specs.declared.found.RouteFinding.TheVariants as finding_is
 use Rattle.am_lint.specs.declared.found.ReceiverFinding.{ReceiverFinding}
 use Rattle.am_lint.specs.declared.found.ReceiverFinding.TheVariants as receiver_is
 use Rattle.am_lint.specs.Findings.{Finding, Dead, Unusual, HandsOn}
-use Rattle.am_lint.specs.ReportText.{Said}
+use Rattle.am_lint.specs.LintLines.{Said}
 use Rattle.am_eval.specs.Reaching.{IsSetOf}
 use Rattle.am_lint.specs.Arrival.{IsArrival}
 

@@ -5,5 +5,5 @@ pub mod Literals
 pub mod Arrival
 pub mod Findings
 pub mod FoundView
-pub mod ReportText
+pub mod LintLines
 pub mod Report

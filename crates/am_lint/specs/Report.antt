@@ -8,7 +8,8 @@ use Rattle.am_config.specs.RoutePaths.{all_routes}
 use Rattle.am_classes.specs.declared.alphabet.Alphabet.{Alphabet}
 use Rattle.am_lint.specs.declared.found.ReceiverFinding.{ReceiverFinding}
 use Rattle.am_lint.specs.Findings.{IsRouteFinding, IsReceiverFinding}
-use Rattle.am_lint.specs.ReportText.{Said, count_findings, count_notes, report_lines}
+use Rattle.am_report_texts.specs.Line.{Line}
+use Rattle.am_lint.specs.LintLines.{Said, report_lines}
 
 -- What is said of a route is true.
 abbrev pub IsSaid :
@@ -19,17 +20,15 @@ IsSaid a s u c route said =
 
 -- The lines are those of a configuration, for the alerts of a space over an alphabet. What they say
 -- of each route, in preorder, and of each receiver, in order, is true, and nothing is left out. The
--- label sets that they show are over some labels. The two numbers count the findings and the notes.
+-- label sets that they show are over some labels.
 -- Source: own choice.
 -- Example: if for each route some ordinary alert ends there, and for each receiver some ordinary
 -- alert goes to it, there are no lines.
 pub record SaysOfRoutes (a : Alphabet) (s : Space) (labels : List Label) (c : Configuration)
-    (findings notes : ℕ) (lines : List ℕ) : Type 0 where
+    (lines : List Line) : Type 0 where
   pub routes : List Said
   pub each_route : AllZip (IsSaid a s labels c) (all_routes c) routes
   pub receivers : List (Option ReceiverFinding)
   pub each_receiver :
       AllZip (IsReceiverFinding a s c) (range_with_len 0 (length c.receivers)) receivers
-  pub counted : findings ≡ count_findings routes receivers
-  pub noted : notes ≡ count_notes routes receivers
-  pub text : lines ≡ report_lines labels c routes receivers
+  pub lines_are : lines ≡ report_lines labels c routes receivers

@@ -1,5 +1,5 @@
 //! Facts about the definitions alone: each is the contract of a function with an empty body.
-ghost use Rattle.std.specs.Prelude.{ℕ, List, IsTrue, Some};
+ghost use Rattle.std.specs.Prelude.{ℕ, List, IsTrue};
 ghost use Rattle.std.specs.List.{AllByRecursion};
 ghost use Rattle.am_labels.specs.Matcher.{Matcher};
 ghost use Rattle.am_labels.specs.MatcherText.{is_name, Spells};
@@ -16,10 +16,6 @@ ghost use Rattle.am_lint.specs.declared.arrival.Cause.{Cause};
 ghost use Rattle.am_lint.specs.declared.arrival.Arrival.{Arrival};
 ghost use Rattle.am_lint.specs.Reasons.{IsExcludedBy, IsTakenBy, IsHandedTo};
 ghost use Rattle.am_lint.specs.Arrival.{IsArrival, IsReasonFor};
-ghost use Rattle.am_lint.specs.declared.found.ReceiverFinding.{ReceiverFinding};
-ghost use Rattle.am_lint.specs.Findings.{Finding};
-ghost use Rattle.am_lint.specs.ReportText.{Said, finding_line, receiver_line, count_text};
-ghost use Rattle.am_report_texts.specs.Lines.{IsLine};
 ghost use Rattle.am_report_texts.specs.MatchersText.{matchers_text};
 
 /// The text of matchers is read back as these matchers, if each name may stand in a matcher list.
@@ -27,17 +23,6 @@ ghost use Rattle.am_report_texts.specs.MatchersText.{matchers_text};
 pub fn the_text_of_matchers_spells_them()
     ensures spells { (ms : List Matcher) → AllByRecursion (λ m. IsTrue (is_name m.name)) ms
         → Spells (matchers_text ms) ms }
-{}
-
-/// Each line of a report is one line: nothing that stands in it ends it or begins another one.
-#[tactic(auto, using(crate::proofs::LineLaws::one_route_line, crate::proofs::LineLaws::one_receiver_line, crate::proofs::LineLaws::one_count_line))]
-pub fn each_line_is_one()
-    ensures route { (u : List Label) (c : Configuration) (path : List ℕ) (receiver : ℕ)
-        (finding : Finding) → IsUniverse u
-        → IsLine (finding_line u c path receiver (Some finding)) }
-    ensures receiver { (c : Configuration) (routes : List Said) (receiver : ℕ)
-        (finding : ReceiverFinding) → IsLine (receiver_line c routes receiver (Some finding)) }
-    ensures count { (findings notes : ℕ) → IsLine (count_text findings notes) }
 {}
 
 /// The routes that are to blame keep the alerts of a space out. If routes on the way exclude each

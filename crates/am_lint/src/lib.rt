@@ -3,7 +3,7 @@
 //! [`found_routes`] says how the label sets of a space arrive at each route: whether some end there
 //! or enter it, and which routes are to blame if none do. [`look_further`] looks at the same routes
 //! over another space. [`found_receivers`] says which receivers no label set reaches, and
-//! [`lint_lines`] writes a line for each finding and note. If one space stands for all ordinary
+//! [`push_lint_lines`] adds a line for each finding and note. If one space stands for all ordinary
 //! alerts, whose values are printable ASCII, and the other for all alerts, the findings hold of all
 //! alerts. [`laws`] say that.
 #![tactic(auto)]
@@ -25,9 +25,9 @@ pub use finding::{found_receivers, found_routes, look_further};
 pub use found::{FoundRoute, ReceiverFinding, RouteFinding};
 
 // The lines for both.
-mod report_text;
+mod lint_lines;
 
-pub use report_text::{count_findings, count_notes, lint_lines, push_count};
+pub use lint_lines::{count_pieces, push_lint_lines};
 
 // What follows from the definitions alone.
 pub mod laws;
