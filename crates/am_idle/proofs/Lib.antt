@@ -3,5 +3,3 @@ pub mod ListsStand
 pub mod SilenceSteps
 pub mod RuleAlerts
 pub mod RuleLiterals
-pub mod RuleTextSteps
-pub mod LineLaws

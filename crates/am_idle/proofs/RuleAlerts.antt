@@ -45,7 +45,7 @@ use Rattle.am_idle.specs.declared.rules.IdleReason.TheVariants as reason_is
 use Rattle.am_idle.specs.Lists.{listed_matchers}
 use Rattle.am_idle.specs.Lists.{StandsForLists}
 use Rattle.am_idle.specs.RuleChoices.{labels_named, AreMeeting, IsFoundOf}
-use Rattle.am_idle.specs.RuleText.{HasPositionsIfAny}
+use Rattle.am_idle.specs.RuleLines.{HasPositionsIfAny}
 use Rattle.am_idle.specs.Rules.{MayMeet, SomeMeet, SomeInhibit, Matches, MeetsAt, MeetsAtBut}
 use Rattle.am_idle.specs.Rules.{IsWhyNone, IsIdle, IsRuleFinding}
 

@@ -1,8 +1,8 @@
 pub mod Lists
 pub mod Extent
 pub mod Silences
-pub mod SilenceText
+pub mod SilenceLines
 pub mod Rules
 pub mod RuleChoices
 pub mod RuleFindings
-pub mod RuleText
+pub mod RuleLines

@@ -1,7 +1,5 @@
--- Which of some inhibition rules is refused first, and how many findings there are. (This project's
--- own.)
-use Rattle.std.specs.Prelude.{◌≡◌, ℕ, List, [], ◌∷◌, Option, Some, slice_get, take, count_by}
-use Rattle.std.specs.Prelude.{is_some}
+-- Which of some inhibition rules is refused first. (This project's own.)
+use Rattle.std.specs.Prelude.{◌≡◌, ℕ, List, [], ◌∷◌, Some, slice_get, take}
 use Rattle.std.specs.List.{AllByRecursion}
 use Rattle.am_universe.specs.declared.kind.Kind.{Kind}
 use Rattle.am_universe.specs.Universe.{Label}
@@ -9,7 +7,6 @@ use Rattle.am_labels.specs.Matcher.{Matcher}
 use Rattle.am_labels.specs.Space.{Space}
 use Rattle.am_config.specs.ConfigFile.{Rule}
 use Rattle.am_classes.specs.declared.alphabet.Alphabet.{Alphabet}
-use Rattle.am_idle.specs.declared.rules.IdleReason.{IdleReason}
 use Rattle.am_idle.specs.Lists.{StandsForLists, IsRefusalForLists}
 
 -- The matchers of the two sides of a rule.
@@ -32,9 +29,3 @@ pub record IsFirstRefusedRule (a : Alphabet) (s : Space) (rules : List Rule) (po
   pub there : slice_get rules position ≡ Some rule
   pub before : AllByRecursion (IsRuleAccepted a s) (take position rules)
   pub refused : IsRefusalForLists a s (sides_of rule) kind
-
--- The number of findings among what is said of rules.
--- Source: own choice.
--- Example: for an idle rule and a rule of which nothing is said it is 1.
-abbrev pub count_idle_rules : List (Option IdleReason) → ℕ
-count_idle_rules found = count_by is_some found

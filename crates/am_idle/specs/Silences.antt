@@ -1,6 +1,6 @@
 -- What is said of silences, and when it is true of all alerts. (This project's own.)
 use Rattle.std.specs.Prelude.{◌≡◌, ◌⊎◌, ℕ, List, [], ◌∷◌, Bool, not, ◌&&◌, Option, Some, None}
-use Rattle.std.specs.Prelude.{IsTrue, IsFalse, slice_get, take, count_by, true, false}
+use Rattle.std.specs.Prelude.{IsTrue, IsFalse, slice_get, take, false}
 use Rattle.std.specs.List.{list_any, AllByRecursion}
 use Rattle.am_universe.specs.declared.kind.Kind.{Kind}
 use Rattle.am_universe.specs.LabelSet.{LabelMap}
@@ -75,27 +75,3 @@ pub record IsFirstRefused (a : Alphabet) (s : Space) (w : World) (position : ℕ
   pub there : slice_get w.silences position ≡ Some silence
   pub before : AllByRecursion (IsAccepted a s w) (take position w.silences)
   pub refused : IsSilenceRefused a s w silence kind
-
--- ---- How many there are.
-
--- What is said of a silence is a finding if it is idle or all, and a note if it is unused.
-abbrev pub is_silence_finding : Option SilenceFinding → Bool
-is_silence_finding None = false
-is_silence_finding (Some finding_is.Idle) = true
-is_silence_finding (Some finding_is.All) = true
-is_silence_finding (Some finding_is.Unused) = false
-
-abbrev pub is_silence_note : Option SilenceFinding → Bool
-is_silence_note None = false
-is_silence_note (Some finding_is.Idle) = false
-is_silence_note (Some finding_is.All) = false
-is_silence_note (Some finding_is.Unused) = true
-
--- The number of findings among what is said of silences, and the number of notes.
--- Source: own choice.
--- Example: for an idle silence, one of which nothing is said and an unused one, both are 1.
-abbrev pub count_silence_findings : List (Option SilenceFinding) → ℕ
-count_silence_findings found = count_by is_silence_finding found
-
-abbrev pub count_silence_notes : List (Option SilenceFinding) → ℕ
-count_silence_notes found = count_by is_silence_note found

@@ -1,5 +1,5 @@
 //! Facts about the definitions alone: each is the contract of a function with an empty body.
-ghost use Rattle.std.specs.Prelude.{◌≡◌, ℕ, ℤ, List, [], ◌∷◌, Option, Some, IsTrue, IsFalse};
+ghost use Rattle.std.specs.Prelude.{ℕ, ℤ, List, Option, Some, IsTrue, IsFalse};
 ghost use Rattle.am_universe.specs.Universe.{Label};
 ghost use Rattle.am_universe.specs.LabelSet.{LabelMap, label_set_of};
 ghost use Rattle.am_labels.specs.Matcher.{Matcher};
@@ -10,16 +10,12 @@ ghost use Rattle.am_eval.specs.World.{World};
 ghost use Rattle.am_eval.specs.Silencing.{is_active, hides, at_instant};
 ghost use Rattle.am_classes.specs.declared.alphabet.Alphabet.{Alphabet};
 ghost use Rattle.am_every_alert.specs.EveryAlert.{IsAlertOf, MeetsTheSame};
-ghost use Rattle.am_report_texts.specs.Lines.{IsLine};
-ghost use Rattle.am_idle.specs.declared.silences.SilenceFinding.{SilenceFinding};
 ghost use Rattle.am_idle.specs.declared.silences.SilenceFinding.TheVariants as finding_is;
 ghost use Rattle.am_every_alert.specs.Deciding.{space_of};
 ghost use Rattle.am_idle.specs.Lists.{listed_matchers, StandsForLists};
 ghost use Rattle.am_idle.specs.Silences.{IsSilenceFinding};
 ghost use Rattle.am_idle.specs.declared.rules.IdleReason.{IdleReason};
 ghost use Rattle.am_idle.specs.Rules.{MayMeet, IsWhyNone, IsIdle};
-ghost use Rattle.am_idle.specs.RuleText.{rule_line};
-ghost use Rattle.am_idle.specs.SilenceText.{silence_line};
 
 /// A universe that stands for some lists of matchers stands for every alert. Each alert of the
 /// space over the alphabet, whatever labels it has, meets the same matchers of the lists as the
@@ -46,16 +42,6 @@ pub fn an_idle_silence_hides_no_alert()
         → IsSilenceFinding a s w alerts silence (Some finding_is.All) → IsAlertOf a s alert
         → IsTrue (is_active (Some instant) silence)
         → IsTrue (hides (at_instant w instant) alert silence) }
-{}
-
-/// The line of a rule, and that of a silence, is one line: nothing that stands in it ends it or
-/// begins another one.
-#[tactic(auto, using(crate::proofs::LineLaws::one_rule_line, crate::proofs::LineLaws::one_silence_line))]
-pub fn each_line_is_one()
-    ensures rule { (position : ℕ) (rule : Rule) (reason : IdleReason)
-        → IsLine (rule_line position rule (Some reason)) }
-    ensures silence { (position : ℕ) (silence : Silence) (finding : SilenceFinding)
-        → IsLine (silence_line position silence (Some finding)) }
 {}
 
 /// The reason that is given for an idle rule shows that it is idle: no alert inhibits another by

@@ -3,8 +3,8 @@
 //!
 //! [`universe_for_lists`] makes a universe that stands for every alert, for some lists of matchers.
 //! [`find_silences`] finds which silences of a world hide no alert, or every alert, and
-//! [`push_silence_line`] writes the line of one. [`find_rules`] finds why no alert inhibits another
-//! by an inhibition rule, if none does, and [`push_rule_line`] writes the line of one.
+//! [`push_silence_line`] adds the line of one. [`find_rules`] finds why no alert inhibits another
+//! by an inhibition rule, if none does, and [`push_rule_line`] adds the line of one.
 #![tactic(auto)]
 
 // A universe for some lists of matchers, and which of all alerts a list matches.
@@ -19,20 +19,20 @@ mod found;
 pub use found::FindingFault;
 
 // What is said of silences.
-mod silence_text;
+mod silence_lines;
 mod silences;
 
-pub use silence_text::push_silence_line;
-pub use silences::{SilenceFinding, count_silence_findings, count_silence_notes, find_silences};
+pub use silence_lines::push_silence_line;
+pub use silences::{SilenceFinding, find_silences};
 
 // What is said of inhibition rules.
 mod rule_findings;
-mod rule_text;
+mod rule_lines;
 mod rules;
 mod sides;
 
-pub use rule_findings::{count_idle_rules, find_rules};
-pub use rule_text::push_rule_line;
+pub use rule_findings::find_rules;
+pub use rule_lines::push_rule_line;
 pub use rules::{IdleReason, idle_reason};
 
 // What follows from the definitions alone.

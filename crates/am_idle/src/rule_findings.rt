@@ -4,7 +4,7 @@ ghost use Rattle.std.specs.Prelude.{◌≡◌, ◌≢◌, [], IfOk, IfErr};
 ghost use Rattle.std.specs.List.{AllZip};
 ghost use Rattle.am_universe.specs.declared.kind.Kind.TheVariants as kinds;
 ghost use Rattle.am_idle.specs.Rules.{IsRuleFinding};
-ghost use Rattle.am_idle.specs.RuleFindings.{IsFirstRefusedRule, count_idle_rules};
+ghost use Rattle.am_idle.specs.RuleFindings.{IsFirstRefusedRule};
 
 use crate::found::{FindingFault, push_finding};
 use crate::rules::{IdleReason, idle_reason};
@@ -42,11 +42,4 @@ pub fn find_rules(
         }
     }
     Ok(found)
-}
-
-/// Returns the number of findings: the rules that are idle.
-pub fn count_idle_rules(found: &[Option<IdleReason>]) -> usize
-    ensures count { result ≡ count_idle_rules found.now }
-{
-    found.iter().filter(|reason| reason.is_some()).count()
 }

@@ -11,7 +11,7 @@ ghost use Rattle.am_universe.specs.Universe.{Label};
 ghost use Rattle.am_idle.specs.Lists.{StandsForLists, IsRefusalForLists};
 ghost use Rattle.am_idle.specs.RuleChoices.{AreMeeting, IsFoundOf};
 ghost use Rattle.am_idle.specs.Rules.{IsRuleFinding};
-ghost use Rattle.am_idle.specs.RuleText.{HasPositionsIfAny};
+ghost use Rattle.am_idle.specs.RuleLines.{HasPositionsIfAny};
 
 use crate::lists::universe_for_lists;
 use crate::sides::{has_inhibiting, labels_named, why_contradicting};

@@ -6,9 +6,7 @@ ghost use Rattle.std.specs.List.{AllZip, list_any};
 ghost use Rattle.am_universe.specs.declared.kind.Kind.TheVariants as kinds;
 ghost use Rattle.am_labels.specs.Matcher.{all_hold};
 ghost use Rattle.am_idle.specs.Silences.{IsSilenceFinding, IsAccepted, IsSilenceRefused};
-ghost use Rattle.am_idle.specs.Silences.{IsFirstRefused, is_unused, is_silence_finding};
-ghost use Rattle.am_idle.specs.Silences.{is_silence_note, count_silence_findings};
-ghost use Rattle.am_idle.specs.Silences.{count_silence_notes};
+ghost use Rattle.am_idle.specs.Silences.{IsFirstRefused, is_unused};
 
 use crate::extent::{Extent, extent_of};
 use crate::found::{FindingFault, push_finding};
@@ -134,34 +132,4 @@ fn matches_any(alloc: Global, matchers: &Matchers, alerts: &Alerts) -> Result<bo
         }
     }
     Ok(false)
-}
-
-/// Returns the number of findings: silences that hide no alert, or every alert.
-pub fn count_silence_findings(found: &[Option<SilenceFinding>]) -> usize
-    ensures count { result ≡ count_silence_findings found.now }
-{
-    found.iter().filter(|said| is_finding(**said)).count()
-}
-
-/// Returns the number of notes: active silences that hide none of the alerts that fire, though they
-/// hide others.
-pub fn count_silence_notes(found: &[Option<SilenceFinding>]) -> usize
-    ensures count { result ≡ count_silence_notes found.now }
-{
-    found.iter().filter(|said| is_note(**said)).count()
-}
-
-fn is_finding(said: Option<SilenceFinding>) -> bool
-    ensures { result ≡ is_silence_finding said }
-{
-    match said {
-        Some(SilenceFinding::Idle) | Some(SilenceFinding::All) => true,
-        Some(SilenceFinding::Unused) | None => false,
-    }
-}
-
-fn is_note(said: Option<SilenceFinding>) -> bool
-    ensures { result ≡ is_silence_note said }
-{
-    matches!(said, Some(SilenceFinding::Unused))
 }

@@ -1,0 +1,70 @@
+-- What is said of an inhibition rule, as lines. (This project's own.)
+use Rattle.std.specs.Prelude.{ℕ, List, [], ◌∷◌, Option, Some, None, codes, ⊤, slice_get}
+use Rattle.std.specs.List.{filter_map}
+use Rattle.am_labels.specs.Matcher.{Matcher}
+use Rattle.am_config.specs.ConfigFile.{Rule}
+use Rattle.am_report_texts.specs.Line.{Line, Piece, Words, Value, Word, Number, Matchers}
+use Rattle.am_report_texts.specs.declared.lines.Field.TheVariants as field_is
+use Rattle.am_report_texts.specs.declared.lines.Level.TheVariants as level_is
+use Rattle.am_idle.specs.declared.rules.IdleReason.{IdleReason}
+use Rattle.am_idle.specs.declared.rules.IdleReason.TheVariants as reason_is
+use Rattle.am_idle.specs.Rules.{AreWithin}
+
+-- The matchers at some positions of a list.
+-- Source: own choice.
+-- Example: of `team="db",env="prod",team="web"` those at 0 and 2 are `team="db",team="web"`.
+abbrev pub matchers_at : List Matcher → List ℕ → List Matcher
+matchers_at ms positions = filter_map (slice_get ms) positions
+
+-- The matchers of the two sides that contradict each other. If none is to blame, no alert is
+-- possible at all.
+-- Source: own choice.
+-- Example: `source {severity="critical"} and target {severity="warning"} exclude each other through
+-- equal`.
+abbrev pub contradiction_pieces : Rule → List ℕ → List ℕ → List Piece
+contradiction_pieces rule [] [] = Value field_is.Reason (Word (codes "no alert is possible")) ∷ []
+contradiction_pieces rule [] (j ∷ targets) =
+    Value field_is.Reason (Word (codes "no alert matches target")) ∷ Words (codes " ")
+    ∷ Value field_is.Target (Matchers (matchers_at rule.target (j ∷ targets))) ∷ []
+contradiction_pieces rule (i ∷ sources) [] =
+    Value field_is.Reason (Word (codes "no alert matches source")) ∷ Words (codes " ")
+    ∷ Value field_is.Source (Matchers (matchers_at rule.source (i ∷ sources))) ∷ []
+contradiction_pieces rule (i ∷ sources) (j ∷ targets) =
+    Words (codes "source ")
+    ∷ Value field_is.Source (Matchers (matchers_at rule.source (i ∷ sources)))
+    ∷ Words (codes " and target ")
+    ∷ Value field_is.Target (Matchers (matchers_at rule.target (j ∷ targets)))
+    ∷ Words (codes " ")
+    ∷ Value field_is.Reason (Word (codes "exclude each other through equal")) ∷ []
+
+-- Why a rule is idle.
+abbrev pub idle_pieces : Rule → IdleReason → List Piece
+idle_pieces rule (reason_is.Contradiction source target) =
+    contradiction_pieces rule source.items target.items
+idle_pieces rule reason_is.Both = Value field_is.Reason
+    (Word (codes "each two alerts that match source and target match both sides")) ∷ []
+
+-- The line of the idle rule at a position; and the lines of a rule: none if nothing is said of it.
+-- Source: own choice.
+-- Example: `rule 3 idle: no alert matches source {team="db",team="web"}`.
+abbrev pub rule_line : ℕ → Rule → IdleReason → Line
+rule_line position rule reason = record {
+  level = level_is.Finding;
+  pieces = Words (codes "rule ") ∷ Value field_is.Rule (Number position) ∷ Words (codes " ")
+      ∷ Value field_is.Kind (Word (codes "idle")) ∷ Words (codes ": ")
+      ∷ idle_pieces rule reason;
+}
+
+abbrev pub rule_lines : ℕ → Rule → Option IdleReason → List Line
+rule_lines position rule None = []
+rule_lines position rule (Some reason) = rule_line position rule reason ∷ []
+
+-- The positions that a reason has are positions in the sides of the rule.
+abbrev pub HasPositionsIn : Rule → IdleReason → Type 0
+HasPositionsIn rule (reason_is.Contradiction source target) =
+    AreWithin rule.source source.items × AreWithin rule.target target.items
+HasPositionsIn rule reason_is.Both = ⊤
+
+abbrev pub HasPositionsIfAny : Rule → Option IdleReason → Type 0
+HasPositionsIfAny rule None = ⊤
+HasPositionsIfAny rule (Some reason) = HasPositionsIn rule reason
