@@ -6,4 +6,3 @@ pub mod SeenValues
 pub mod SeenSets
 pub mod UnseenMatchers
 pub mod SearchSteps
-pub mod LineLaws

@@ -1,4 +1,4 @@
 pub mod Unseen
 pub mod Search
 pub mod SearchCode
-pub mod UnseenText
+pub mod UnseenLines

@@ -9,9 +9,6 @@ ghost use Rattle.am_complete.specs.FoundState.{has_label};
 ghost use Rattle.am_unseen.specs.declared.limits.TheConstants.{MOST_EDITS};
 ghost use Rattle.am_unseen.specs.Unseen.{names_unseen_value, most_similar, edits_between};
 ghost use Rattle.am_unseen.specs.Unseen.{Column, AreBeside, edits_in};
-ghost use Rattle.am_unseen.specs.Unseen.{UnseenValue};
-ghost use Rattle.am_unseen.specs.UnseenText.{unseen_line};
-ghost use Rattle.am_report_texts.specs.Lines.{IsLine};
 
 /// A matcher with an unseen value matches no alert, though some alert has its label. Conversely, if
 /// both are true of a matcher with `=` and a value that is not empty, the matcher has an unseen
@@ -37,12 +34,6 @@ pub fn edits_between_texts_are_the_fewest()
         × (edits_in columns ≡ edits_between from to) }
     ensures fewest { (from to : List ℕ) (columns : List Column) → AreBeside from to columns
         → edits_between from to ≤ edits_in columns }
-{}
-
-/// The line of an unseen value is one line: nothing that stands in it ends it or begins another
-/// one.
-pub fn each_line_is_one()
-    ensures unseen { (unseen : UnseenValue) → IsLine (unseen_line unseen) }
 {}
 
 /// The most similar of some values is at most `MOST_EDITS` edits away, and no other value is fewer

@@ -2,7 +2,7 @@
 //!
 //! [`unseen_values`] finds the matchers of a world with `=` and a value that none of its alerts
 //! has, though some alert has the label. Most often such a value is misspelled. Each comes with its
-//! origin and with the most similar value that an alert has. [`push_unseen`] writes a line for
+//! origin and with the most similar value that an alert has. [`push_unseen`] adds a line for
 //! each.
 #![tactic(auto)]
 
@@ -22,9 +22,9 @@ mod world_search;
 pub use world_search::unseen_values;
 
 // The lines of unseen values.
-mod unseen_text;
+mod unseen_lines;
 
-pub use unseen_text::push_unseen;
+pub use unseen_lines::push_unseen;
 
 // What follows from the definitions alone.
 pub mod laws;
