@@ -4,7 +4,7 @@ use Rattle.std.proofs.lemmas.Bool.{cases_lt}
 use Rattle.std.specs.List.{AllByRecursion}
 use Rattle.std.proofs.Math.Nat.{mul-le-mul_left}
 use Rattle.am_universe.specs.Universe.{Label, IsLabel, sizes}
-use Rattle.am_universe_command.specs.CheckText.{label_sets}
+use Rattle.am_universe_command.specs.CheckLines.{label_sets}
 
 more : (ns : List ℕ) (i n : ℕ) → slice_get ns i ≡ Some n
     → label_sets (take (suc i) ns) ≡ label_sets (take i ns) * n

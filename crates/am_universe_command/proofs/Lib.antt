@@ -6,4 +6,3 @@ pub mod UniverseStages
 pub mod AskedFacts
 pub mod CheckFacts
 pub mod ReadQuestions
-pub mod LineLaws

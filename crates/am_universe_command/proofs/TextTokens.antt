@@ -1,7 +1,7 @@
 -- The text of a universe has the tokens of its JSON value.
 use Rattle.std.proofs.Common.{◌≡◌, ℕ, List, [], ◌∷◌, ◌++◌, Bool, true, false, map, Option, Some}
 use Rattle.std.proofs.Common.{None, refl, sym, ap, ap₂, ◌∙◌, append_assoc, codes}
-use Rattle.json.specs.Token.{Token, begin_object, end_object, begin_array, end_array, key, bad}
+use Rattle.json.specs.Token.{Token, begin_object, end_object, begin_array, end_array, key}
 use Rattle.json.specs.Token as token
 use Rattle.json.specs.Word.{word, ends_word}
 use Rattle.json.specs.Text.{content}

@@ -1,4 +1,4 @@
 pub mod UniverseInputs
 pub mod UniverseText
-pub mod CheckText
+pub mod CheckLines
 pub mod Universes

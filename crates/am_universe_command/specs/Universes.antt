@@ -27,7 +27,8 @@ use Rattle.am_asked.specs.OriginPointer.{origin_place, matcher_places}
 use Rattle.am_asked.specs.Made.{IsMadeBeside, NoRoomFor, UnprovedFor}
 use Rattle.am_complete.specs.LabelState.{IsSoIfNamed, is_settled, reported_names}
 use Rattle.am_complete.specs.FoundState.{is_unseen}
-use Rattle.am_universe_command.specs.CheckText.{check_text}
+use Rattle.am_universe_command.specs.CheckLines.{check_report}
+use Rattle.am_report_texts.specs.Line.{report_text}
 use Rattle.am_universe_command.specs.UniverseText.{universe_text}
 use Rattle.am_universe_command.specs.declared.universe_form.UniverseForm.{UniverseForm}
 use Rattle.am_universe_command.specs.UniverseInputs.{UniverseInputs, AcceptsUniverseInputs}
@@ -162,7 +163,7 @@ pub record IsCheckOf (a : Alphabet) (s : Space) (w : World) (questions : List Qu
       → IsSpaceComplete a s (deciding_matchers routes w questions s.impossible)
   pub all_impossible : Bool
   pub impossible : IsTrue all_impossible ↔ all_choices s ≡ []
-  pub text : report ≡ check_text (sizes s.labels) all_impossible states
+  pub text : report ≡ report_text (check_report (sizes s.labels) all_impossible states)
 
 -- The inputs are accepted, and the text says what the space of the universe file lacks for the
 -- world and for the questions that they say.

@@ -7,7 +7,7 @@ ghost use Rattle.am_universe_command.specs.Universes.{IsCheckOf, check_promise};
 
 use crate::UniverseInputs;
 use crate::asked_labels::labels_asked;
-use crate::check_text::text_of_check;
+use crate::check_lines::check_report;
 use crate::read_inputs::{ReadInputs, read_inputs};
 use am_asked::equal_matchers_of;
 use am_classes::Alphabet;
@@ -15,6 +15,7 @@ use am_complete::label_states;
 use am_eval::World;
 use am_first_sets::first_possible;
 use am_list_files::Alerts;
+use am_report_texts::{Form, written};
 use am_universe::{Fault, Sink, answer_of_write, put_str};
 use std::alloc::{AllocError, Global};
 
@@ -67,7 +68,8 @@ fn checked_text(
     let asked = labels_asked(alloc, read, equal.as_slice(), routes)?;
     let states = label_states(alloc, alphabet, space, asked.as_slice(), alerts)?;
     let all_impossible = first_possible(alloc, space)?.is_none();
-    let text = text_of_check(alloc, space.universe(), all_impossible, states.as_slice())?;
+    let report = check_report(alloc, space.universe(), all_impossible, states.as_slice())?;
+    let text = written(alloc, Form::Lines, &report)?;
     Ok(text)
 }
 

@@ -1,25 +1,12 @@
 //! Facts about the definitions alone: each is the contract of a function with an empty body.
-ghost use Rattle.std.specs.Prelude.{◌≤◌, ℕ, List, Bool, length};
+ghost use Rattle.std.specs.Prelude.{◌≤◌, ℕ, List, length};
 ghost use Rattle.std.specs.Str.{IsUtf8};
 ghost use Rattle.am_universe.specs.Universe.{Label, IsUniverse};
 ghost use Rattle.am_labels.specs.Matcher.{Matcher};
 ghost use Rattle.am_json.specs.declared.limits.TheConstants.{MAX_FILE_BYTES};
 ghost use Rattle.am_list_files.specs.UniverseFile.{FileSaysUniverse, FileHasImpossibleTexts};
 ghost use Rattle.am_list_files.specs.UniverseFile.{AreTextsOfLists};
-ghost use Rattle.am_complete.specs.declared.label_state.LabelState.{LabelState};
-ghost use Rattle.am_report_texts.specs.Lines.{IsLine};
-ghost use Rattle.am_universe_command.specs.CheckText.{state_line, count_text, verdict_text};
 ghost use Rattle.am_universe_command.specs.UniverseText.{universe_text};
-
-/// Each line on a universe that is checked is one line: nothing that stands in it ends it or begins
-/// another one.
-#[tactic(auto, using(crate::proofs::LineLaws::one_state_line, crate::proofs::LineLaws::one_count_line, crate::proofs::LineLaws::one_verdict_line))]
-pub fn each_line_is_one()
-    ensures state { (state : LabelState) → IsLine (state_line state) }
-    ensures count { (count : ℕ) (all_impossible : Bool)
-        → IsLine (count_text count all_impossible) }
-    ensures verdict { (states : List LabelState) → IsLine (verdict_text states) }
-{}
 
 /// The text of a universe and of impossible lists is that of a universe file that says them, if it
 /// is UTF-8 and not longer than a file may be. The texts of the lists are in it word for word.

@@ -13,8 +13,8 @@ mod universe_inputs;
 pub use universe_form::UniverseForm;
 pub use universe_inputs::UniverseInputs;
 
-// The text of a universe file, and the text of a check.
-mod check_text;
+// The lines of a check, and the text of a universe file.
+mod check_lines;
 mod universe_file;
 
 // The calls.

@@ -1,6 +1,6 @@
 //! The text of a universe file.
 
-ghost use Rattle.std.specs.Prelude.{◌≡◌, ◌<◌, ◌++◌, length, slice_get, slice_index, Some};
+ghost use Rattle.std.specs.Prelude.{◌≡◌, ◌<◌, ◌++◌, length, slice_get, Some};
 ghost use Rattle.std.specs.Prelude.{string_bytes, map, option_map, IfOk, OnOk};
 ghost use Rattle.json.specs.Print.{quoted};
 ghost use Rattle.am_universe.specs.Universe.{Label};

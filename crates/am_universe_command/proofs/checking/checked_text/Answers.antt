@@ -1,9 +1,8 @@
 -- What the text says is what was found.
 use Rattle.std.proofs.Common.{ap, map, ◌∙◌}
-use Rattle.am_universe.specs.Universe.{sizes}
 use Rattle.am_eval.specs.QuestionView.{question_view}
 use Rattle.am_complete.specs.AskedLabel.{IsAskedOf}
-use Rattle.am_universe_command.specs.CheckText.{check_text}
+use Rattle.am_report_texts.specs.Line.{report_text}
 use Rattle.am_universe_command.specs.Universes.{deciding_matchers}
 use Rattle.am_universe_command.proofs.AskedFacts.{lists_decide}
 use Rattle.am_universe_command.proofs.CheckFacts.{none_told}
@@ -49,7 +48,6 @@ returns c =
       complete = told.complete ms of;
       all_impossible = all_impossible;
       impossible = (λ so. empty.0 (none.1 so), λ no_choice. none.0 (empty.1 no_choice));
-      text = c.in_ok-text.ensures.text
-          ∙ ap (check_text (sizes c.universe.result.now) all_impossible) c.as_slice-3.ensures.value
-          ∙ ap (λ u. check_text (sizes u) all_impossible states) c.universe.ensures.labels;
+      text = c.in_ok-text.ensures.written ∙ ap report_text
+          (rw (c.as_slice-3.ensures.value, c.universe.ensures.labels) at c.in_ok-report.ensures.report);
     }

@@ -2,7 +2,7 @@
 use Rattle.std.proofs.Common.{◌^◌}
 use Rattle.am_universe.specs.Universe.{sizes}
 use Rattle.am_universe_command.proofs.LabelSets.{one_size_more, too_many}
-use Rattle.am_universe_command.proofs.check_text.label_sets.Goals as goal
+use Rattle.am_universe_command.proofs.check_lines.label_sets.Goals as goal
 
 pub loop-i-preserved : goal.loop-i-preserved
 loop-i-preserved c =
