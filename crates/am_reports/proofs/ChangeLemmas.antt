@@ -17,9 +17,11 @@ use Rattle.am_eval.specs.Routing.{receivers}
 use Rattle.am_classes.specs.declared.alphabet.Alphabet.{Alphabet}
 use Rattle.am_every_alert.specs.EveryAlert.{IsAlertOf}
 use Rattle.am_outcomes.specs.Outcomes.{receivers_under, have_same_receivers}
-use Rattle.am_outcomes.specs.OutcomeText.{under, names_of, same_names, is_change, changes_of}
-use Rattle.am_outcomes.specs.OutcomeText.{changes_text}
+use Rattle.am_outcomes.specs.OutcomeLines.{under, names_of, same_names, is_change, changes_of}
+use Rattle.am_outcomes.specs.OutcomeLines.{changes_report}
 use Rattle.am_outcomes.proofs.FirstsLemmas.{Decides}
+use Rattle.am_report_texts.specs.declared.writing.Form.{Form}
+use Rattle.am_report_texts.specs.Written.{IsWritten}
 use Rattle.am_reports.specs.Configurations.{Pair}
 use Rattle.am_reports.specs.AllOutcomes.{AreAllOutcomes, IsOutcome, receivers_of_outcomes}
 use Rattle.am_reports.specs.Comparing.{GoesTheSameWay, IsChange, IsComparison}
@@ -116,9 +118,10 @@ module _ (a : Alphabet) (s : Space) (old new : Configuration) (u : List Label)
       let so = is_so change there in
       so.2 (same (label_set_of u change.1) so.0))
 
-  pub compared : (count : ℕ) (report : List ℕ) → count ≡ length changes
-      → report ≡ changes_text u old new outcomes → IsComparison a s old new count report
-  compared count report counted text = record {
+  pub compared : (form : Form) (count : ℕ) (report : List ℕ) → count ≡ length changes
+      → IsWritten form (changes_report u old new outcomes) report
+      → IsComparison a s old new form count report
+  compared form count report counted text = record {
     labels = u;
     outcomes = outcomes;
     are = are;

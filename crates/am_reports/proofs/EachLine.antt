@@ -1,11 +1,15 @@
--- One more line in the lines about things.
-use Rattle.std.proofs.Common.{◌≡◌, ◌+◌, ◌≤◌, ℕ, zero, suc, List, [], ◌∷◌, ◌++◌, length, take}
-use Rattle.std.proofs.Common.{Some, slice_get, subst, sym, ap, ◌∙◌, append_assoc, arith}
-use Rattle.std.specs.List.{AllZip}
-use Rattle.std.proofs.lemmas.List.{take_all, append-nil}
-use Rattle.std.proofs.lemmas.Option.{same_Some}
+-- One more thing in the lines about things.
+use Rattle.std.proofs.Common.{◌≡◌, ◌+◌, ◌<◌, ◌≤◌, [], ◌∷◌, ℕ, List, ◌++◌, length, take, Some, subst, sym, ◌∙◌}
+use Rattle.std.proofs.Common.{arith}
+use Rattle.std.specs.List.{AllZip, flat_map, enumerate_from, zip}
+use Rattle.std.proofs.lemmas.List.{take_more, take_all, flat_map_more}
+use Rattle.std.proofs.lemmas.List.FromFn.{length-enumerate_from, get_or-enumerate_from}
+use Rattle.std.proofs.lemmas.Option.{same_Some, get_or_from_slice_get, slice_get_within}
+use Rattle.std.proofs.lemmas.Slice.Zip.{length-zip, get_or-zip}
+use Rattle.std.specs.Prelude.{slice_get}
+use Rattle.am_report_texts.specs.Line.{Line}
 use Rattle.am_complete.proofs.Pushed.{zip_left}
-use Rattle.am_reports.specs.LintSections.{each_line}
+use Rattle.am_reports.specs.LintLines.{each_lines}
 
 pub zip_at : {X F : Type 0} (R : X → F → Type 0) (xs : List X) (found : List F) (i : ℕ) (x : X)
     (finding : F) → AllZip R xs found → slice_get xs i ≡ Some x → slice_get found i ≡ Some finding
@@ -21,42 +25,37 @@ zip_so R Q each [] (g ∷ found) all = absurd all
 zip_so R Q each (x ∷ xs) [] all = absurd all
 zip_so R Q each (x ∷ xs) (g ∷ found) all = (each x g all.0, zip_so R Q each xs found all.1)
 
-module _ {X F : Type 0} (line : ℕ → X → F → List ℕ) where
-  pub line_more : (k i : ℕ) (xs : List X) (found : List F) (x : X) (finding : F)
-      → slice_get xs i ≡ Some x → slice_get found i ≡ Some finding
-      → each_line line k (take (suc i) xs) (take (suc i) found)
-      ≡ each_line line k (take i xs) (take i found) ++ line (k + i) x finding
-  line_more k i [] found x finding at there = cc at
-  line_more k i (y ∷ xs) [] x finding at there = cc there
-  line_more k zero (y ∷ xs) (g ∷ found) x finding at there =
-      let same = same_Some y x at in
-      let one = same_Some g finding there in
-      let here : k ≡ k + 0 = omega arith in
-      append-nil (line k y g)
-      ∙ (λ j. line (here j) (same j) (one j))
-  line_more k (suc i) (y ∷ xs) (g ∷ found) x finding at there =
-      let later = line_more (k + 1) i xs found x finding at there in
-      let here : (k + 1) + i ≡ k + suc i = omega arith in
-      ap (λ t. line k y g ++ t) (later ∙ ap (λ n. each_line line (k + 1) (take i xs) (take i found)
-      ++ line n x finding) here)
-      ∙ sym (append_assoc (line k y g) (each_line line (k + 1) (take i xs) (take i found))
-      (line (k + suc i) x finding))
+module _ {X F : Type 0} (lines : ℕ → X → F → List Line) where
+  -- the lines about the things before a position
+  abbrev pub first_lines : ℕ → List X → List F → List Line
+  first_lines i xs found =
+      flat_map (λ e. lines e.0 e.1.0 e.1.1) (take i (enumerate_from 0 (zip xs found)))
 
-  -- the lines up to a position, and then the line of the thing at that position
   pub one_said : (i : ℕ) (xs : List X) (found : List F) (x : X) (finding : F)
-      (now next : List ℕ) → slice_get xs i ≡ Some x → slice_get found i ≡ Some finding
-      → now ≡ each_line line 0 (take i xs) (take i found) → next ≡ now ++ line i x finding
-      → next ≡ each_line line 0 (take (i + 1) xs) (take (i + 1) found)
-  one_said i xs found x finding now next at there so_far put =
-      let one : suc i ≡ i + 1 = omega arith in
-      let first : 0 + i ≡ i = omega arith in
-      put ∙ ap (λ t. t ++ line i x finding) so_far
-      ∙ ap (λ n. each_line line 0 (take i xs) (take i found) ++ line n x finding) (sym first)
-      ∙ sym (line_more 0 i xs found x finding at there)
-      ∙ ap (λ n. each_line line 0 (take n xs) (take n found)) one
+      (before now next : List Line) → slice_get xs i ≡ Some x → slice_get found i ≡ Some finding
+      → now ≡ before ++ first_lines i xs found → next ≡ now ++ lines i x finding
+      → next ≡ before ++ first_lines (i + 1) xs found
+  one_said i xs found x finding before now next at there so_far put =
+      let within = slice_get_within xs i x at in
+      let listed = slice_get_within found i finding there in
+      let long : i < length (zip xs found) = omega (arith, length-zip xs found) in
+      let same : 0 + i ≡ i = omega arith in
+      rw (
+        take_more (enumerate_from 0 (zip xs found)) i (i, (x, finding))
+            (omega (arith, length-enumerate_from 0 (zip xs found))),
+        get_or-enumerate_from 0 (zip xs found) i (i, (x, finding)) long,
+        get_or-zip xs found i (x, finding) within listed,
+        get_or_from_slice_get xs i x x at,
+        get_or_from_slice_get found i finding finding there,
+        same,
+        ← flat_map_more,
+        put,
+        so_far,
+      )
 
-  pub all_said : (i : ℕ) (xs : List X) (found : List F) (now : List ℕ) → length xs ≤ i
-      → length found ≤ i → now ≡ each_line line 0 (take i xs) (take i found)
-      → now ≡ each_line line 0 xs found
-  all_said i xs found now within all so_far =
-      so_far ∙ (λ j. each_line line 0 (take_all i xs within j) (take_all i found all j))
+  pub all_said : (i : ℕ) (xs : List X) (found : List F) (before now : List Line)
+      → length found ≤ i → now ≡ before ++ first_lines i xs found
+      → now ≡ before ++ each_lines lines xs found
+  all_said i xs found before now all so_far =
+      rw (take_all i (enumerate_from 0 (zip xs found))
+      (omega (arith, length-enumerate_from 0 (zip xs found), length-zip xs found))) at so_far

@@ -7,17 +7,19 @@ use Rattle.am_labels.specs.Space.{Space}
 use Rattle.am_config.specs.ConfigFile.{Configuration, FileSaysConfig}
 use Rattle.am_config.specs.ConfigForm.{ConfigFileRefusedFor}
 use Rattle.am_files.specs.Faults.{Stage, SaysSomeConfig}
+use Rattle.am_report_texts.specs.declared.writing.Form.{Form}
 use Rattle.am_classes.specs.declared.alphabet.Alphabet.{Alphabet}
 use Rattle.am_files.specs.Files.{SaysUniverseIfAny}
 use Rattle.am_files.specs.Faults.{universe_stage_if_any}
 
 -- The bytes of a universe file, if there is one, and those of the old and the new configuration
--- file; and which texts the labels of alerts may have.
+-- file; which texts the labels of alerts may have; and the form of the report.
 pub record CompareInputs : Type 0 where
   pub universe : Option (List ℕ)
   pub old : List ℕ
   pub new : List ℕ
   pub alphabet : Alphabet
+  pub form : Form
 
 -- The files are accepted: they say the space and both configurations. Without a universe file the
 -- space has no labels, and nothing is impossible in it.

@@ -12,7 +12,9 @@ use Rattle.am_eval.specs.Routing.{receivers}
 use Rattle.am_classes.specs.declared.alphabet.Alphabet.{Alphabet}
 use Rattle.am_every_alert.specs.EveryAlert.{IsAlertOf}
 use Rattle.am_outcomes.specs.Outcomes.{receivers_under, have_same_receivers}
-use Rattle.am_outcomes.specs.OutcomeText.{names_of, changes_of, changes_text}
+use Rattle.am_report_texts.specs.declared.writing.Form.{Form}
+use Rattle.am_report_texts.specs.Written.{IsWritten}
+use Rattle.am_outcomes.specs.OutcomeLines.{names_of, changes_of, changes_report}
 use Rattle.am_reports.specs.Configurations.{Pair}
 use Rattle.am_files.specs.Faults.{later_stages}
 use Rattle.am_asked.specs.OriginPointer.{matcher_places}
@@ -48,8 +50,8 @@ IsChange a s u old new change =
 -- Source: own choice.
 -- Example: `"db-mail" -> "web-pager" {team="web"}` says that `{team="web"}` goes to `db-mail` under
 -- the old configuration, and to `web-pager` under the new one.
-pub record IsComparison (a : Alphabet) (s : Space) (old new : Configuration) (changes : ℕ)
-    (report : List ℕ) : Type 0 where
+pub record IsComparison (a : Alphabet) (s : Space) (old new : Configuration) (form : Form)
+    (changes : ℕ) (report : List ℕ) : Type 0 where
   pub labels : List Label
   pub outcomes : List (List (List ℕ) × List ℕ)
   pub are : AreAllOutcomes a s (Pair old new) labels outcomes
@@ -62,7 +64,7 @@ pub record IsComparison (a : Alphabet) (s : Space) (old new : Configuration) (ch
   pub none : (changes ≡ 0)
       ↔ ((alert : LabelMap) → IsAlertOf a s alert → GoesTheSameWay old new alert)
   pub counted : changes ≡ length (changes_of old new outcomes)
-  pub text : report ≡ changes_text labels old new outcomes
+  pub text : IsWritten form (changes_report labels old new outcomes) report
 
 -- The inputs are accepted, no label that the universe file declares lacks a value, and the text is
 -- a comparison of the configurations for every possible alert; with `--ascii`, for every possible
@@ -77,7 +79,7 @@ pub record ComparesFiles (inputs : CompareInputs) (changes : ℕ) (report : List
   pub new : Configuration
   pub accepts : AcceptsCompareInputs inputs space old new
   pub whole : AreDeclaredWhole inputs.alphabet space (Pair old new) space.labels
-  pub compares : IsComparison inputs.alphabet space old new changes report
+  pub compares : IsComparison inputs.alphabet space old new inputs.form changes report
 
 -- The inputs are accepted, and what they say is refused at this place.
 abbrev pub RefusesComparison : CompareInputs → Place → Refusal → Type 0

@@ -2,11 +2,11 @@ pub mod Configurations
 pub mod ConfigsView
 pub mod ReportInputs
 pub mod LintInputs
-pub mod Sections
 pub mod CompareInputs
 pub mod Made
 pub mod LaterStages
-pub mod LintSections
+pub mod LintLines
+pub mod FoundLines
 pub mod Linting
 pub mod AllOutcomes
 pub mod OutcomesReport

@@ -6,16 +6,18 @@ use Rattle.am_files.specs.Files.{Files}
 use Rattle.am_eval.specs.World.{World}
 use Rattle.am_files.specs.AcceptedWorld.{AcceptsWorld, world_stages}
 use Rattle.am_files.specs.Faults.{Stage}
+use Rattle.am_report_texts.specs.declared.writing.Form.{Form}
 use Rattle.am_classes.specs.declared.alphabet.Alphabet.{Alphabet}
 use Rattle.am_files.specs.Files.{SaysUniverseIfAny}
 use Rattle.am_files.specs.Faults.{universe_stage_if_any}
 
--- The bytes of a universe file, if there is one; the other files, with the instant; and which texts
--- the labels of alerts may have.
+-- The bytes of a universe file, if there is one; the other files, with the instant; which texts the
+-- labels of alerts may have; and the form of the report.
 pub record LintInputs : Type 0 where
   pub universe : Option (List ℕ)
   pub files : Files
   pub alphabet : Alphabet
+  pub form : Form
 
 -- The inputs are accepted: the universe file says the space, and the other files say the world at
 -- the instant. Without a universe file the space has no labels, and nothing is impossible in it.

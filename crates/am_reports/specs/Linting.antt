@@ -1,5 +1,5 @@
 -- What `lint` owes. (This project's own.)
-use Rattle.std.specs.Prelude.{◌≡◌, ◌⊎◌, ℕ, List, [], ◌∷◌, ◌++◌, Bool, nat_lt}
+use Rattle.std.specs.Prelude.{◌≡◌, ◌⊎◌, ℕ, List, ◌++◌, Bool, nat_lt}
 use Rattle.std.specs.Prelude.{Option, option_map}
 use Rattle.am_universe.specs.declared.place.Place.{Place}
 use Rattle.am_universe.specs.LabelSet.{LabelMap}
@@ -14,10 +14,13 @@ use Rattle.am_reports.specs.LintInputs.{LintInputs, AcceptsLintInputs, lint_inpu
 use Rattle.am_files.specs.Faults.{later_stages}
 use Rattle.am_asked.specs.OriginPointer.{matcher_places}
 use Rattle.am_reports.specs.Made.{AreDeclaredWhole, IsDeclaredRefusal, IsRoutesRefusal}
-use Rattle.am_reports.specs.Sections.{Section, report_text, all_findings}
-use Rattle.am_reports.specs.LintSections.{SaysOfAllRoutes, SaysOfRules, SaysOfSilences}
-use Rattle.am_reports.specs.LintSections.{values_section}
-use Rattle.am_reports.specs.LintSections.{IsRulesRefusal, IsSilencesRefusal}
+use Rattle.am_report_texts.specs.Line.{Line, count_findings}
+use Rattle.am_report_texts.specs.declared.writing.Form.{Form}
+use Rattle.am_report_texts.specs.Written.{IsWritten}
+use Rattle.am_unseen.specs.Unseen.{unseen_values}
+use Rattle.am_unseen.specs.UnseenLines.{unseen_lines}
+use Rattle.am_reports.specs.LintLines.{lint_report, SaysOfAllRoutes, SaysOfRules}
+use Rattle.am_reports.specs.LintLines.{SaysOfSilences, IsRulesRefusal, IsSilencesRefusal}
 
 -- What is said is refused at this place for a label that the universe file declares; or no such
 -- label lacks a value, and it is refused for the routes, a rule or a silence. If there is a
@@ -37,29 +40,31 @@ RefusesLint inputs place r =
     (s : Space) × (w : World) × AcceptsLintInputs inputs s w
     × IsLintRefusal inputs.alphabet s w place r
 
--- The text is a report on a world, for every alert that counts, with this number of findings. What
--- its sections say about routes and receivers, rules, silences and values is true. The alerts are
--- those that fire, if they are known.
+-- The lines are those of a report on a world, for every alert that counts. What they say about
+-- routes and receivers, rules, silences and values is true. The alerts are those that fire, if they
+-- are known.
 -- Source: own choice.
 -- Example: if some ordinary alert ends at each route, each receiver gets one, and there are no
--- rules, silences and alerts, the report is `# 0 findings, 0 notes`.
-pub record IsLintReport (a : Alphabet) (s : Space) (w : World) (alerts : Option (List LabelMap))
-    (findings : ℕ) (report : List ℕ) : Type 0 where
-  pub routes : Section
+-- rules, silences and alerts, there are no lines.
+pub record AreLintLines (a : Alphabet) (s : Space) (w : World) (alerts : Option (List LabelMap))
+    (lines : List Line) : Type 0 where
+  pub routes : List Line
   pub says_of_routes : SaysOfAllRoutes a (undeclared s) w.config routes
-  pub rules : Section
+  pub rules : List Line
   pub says_of_rules : SaysOfRules a (undeclared s) w.config.rules rules
-  pub silences : Section
+  pub silences : List Line
   pub says_of_silences : SaysOfSilences a (undeclared s) w alerts silences
-  pub counted : findings
-      ≡ all_findings (routes ∷ rules ∷ silences ∷ values_section w ∷ [])
-  pub text : report ≡ report_text (routes ∷ rules ∷ silences ∷ values_section w ∷ [])
+  pub lines_are : lines ≡ routes ++ (rules ++ (silences ++ unseen_lines (unseen_values w)))
 
--- No label that the space declares lacks a value, and the text is such a report.
+-- No label that the space declares lacks a value, and the text is a report of such lines, with this
+-- number of findings.
 pub record IsLinted (a : Alphabet) (s : Space) (w : World) (alerts : Option (List LabelMap))
-    (findings : ℕ) (report : List ℕ) : Type 0 where
+    (form : Form) (findings : ℕ) (report : List ℕ) : Type 0 where
   pub whole : AreDeclaredWhole a s (One w.config) s.labels
-  pub reports : IsLintReport a s w alerts findings report
+  pub lines : List Line
+  pub are : AreLintLines a s w alerts lines
+  pub counted : findings ≡ count_findings lines
+  pub text : IsWritten form (lint_report lines) report
 
 -- The inputs are accepted, no label that the universe file declares lacks a value, and the text is
 -- a report of what is wrong with the configuration, for every possible alert; with `--ascii`, for
@@ -75,7 +80,7 @@ pub record LintsFiles (inputs : LintInputs) (found : Bool) (report : List ℕ) :
   pub findings : ℕ
   pub is_found : found ≡ nat_lt 0 findings
   pub linted : IsLinted inputs.alphabet space world
-      (option_map (λ file. world.alerts) inputs.files.alerts) findings report
+      (option_map (λ file. world.alerts) inputs.files.alerts) inputs.form findings report
 
 -- What `lint` owes. It returns whether there is a finding.
 -- Source: own choice.

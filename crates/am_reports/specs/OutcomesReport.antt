@@ -1,5 +1,5 @@
 -- What `outcomes` owes. (This project's own.)
-use Rattle.std.specs.Prelude.{◌≡◌, ℕ, List, ◌++◌, ⊤}
+use Rattle.std.specs.Prelude.{ℕ, List, ◌++◌, ⊤}
 use Rattle.am_universe.specs.declared.place.Place.{Place}
 use Rattle.am_universe.specs.Universe.{Label}
 use Rattle.am_labels.specs.Space.{Space}
@@ -7,7 +7,9 @@ use Rattle.am_json.specs.Pointer.{Refusal}
 use Rattle.am_config.specs.ConfigFile.{Configuration}
 use Rattle.am_files.specs.Promise.{Promise}
 use Rattle.am_classes.specs.declared.alphabet.Alphabet.{Alphabet}
-use Rattle.am_outcomes.specs.OutcomeText.{outcomes_text}
+use Rattle.am_outcomes.specs.OutcomeLines.{outcomes_report}
+use Rattle.am_report_texts.specs.declared.writing.Form.{Form}
+use Rattle.am_report_texts.specs.Written.{IsWritten}
 use Rattle.am_reports.specs.Configurations.{One}
 use Rattle.am_files.specs.Faults.{later_stages}
 use Rattle.am_asked.specs.OriginPointer.{matcher_places}
@@ -20,12 +22,12 @@ use Rattle.am_reports.specs.AllOutcomes.{AreAllOutcomes}
 -- alphabet: a line for each outcome, and then `# end`.
 -- Source: own choice.
 -- Example: `"db-mail" {team="db"}` says that `{team="db"}` goes to `db-mail`.
-pub record IsOutcomesReport (a : Alphabet) (s : Space) (c : Configuration) (report : List ℕ)
-    : Type 0 where
+pub record IsOutcomesReport (a : Alphabet) (s : Space) (c : Configuration) (form : Form)
+    (report : List ℕ) : Type 0 where
   pub labels : List Label
   pub outcomes : List (List (List ℕ) × List ℕ)
   pub are : AreAllOutcomes a s (One c) labels outcomes
-  pub text : report ≡ outcomes_text labels c outcomes
+  pub text : IsWritten form (outcomes_report labels c outcomes) report
 
 -- The inputs are accepted, no label that the universe file declares lacks a value, and the text is
 -- a report of the outcomes of the configuration, for every possible alert; with `--ascii`, for
@@ -38,7 +40,7 @@ pub record ReportsOutcomes (inputs : ReportInputs) (report : List ℕ) : Type 0 
   pub configuration : Configuration
   pub accepts : AcceptsReportInputs inputs space configuration
   pub whole : AreDeclaredWhole inputs.alphabet space (One configuration) space.labels
-  pub reports : IsOutcomesReport inputs.alphabet space configuration report
+  pub reports : IsOutcomesReport inputs.alphabet space configuration inputs.form report
 
 -- The inputs are accepted, and what they say is refused at this place.
 abbrev pub RefusesOutcomes : ReportInputs → Place → Refusal → Type 0

@@ -12,6 +12,7 @@ use am_classes::Alphabet;
 use am_config::{Config, read_config};
 use am_files::read_universe_if_any;
 use am_labels::Space;
+use am_report_texts::Form;
 use am_universe::{Fault, Place};
 use std::alloc::Global;
 use std::marker::Model;
@@ -28,6 +29,8 @@ pub struct CompareInputs<'a> {
     pub new: &'a [u8],
     /// Which texts the labels of alerts may have.
     pub alphabet: Alphabet,
+    /// The form of the report.
+    pub form: Form,
 }
 
 impl<'a> Model for CompareInputs<'a> {
@@ -41,6 +44,7 @@ impl<'a> Model for CompareInputs<'a> {
       old = inputs.old.now;
       new = inputs.new.now;
       alphabet = inputs.alphabet;
+      form = inputs.form;
     } };
 }
 

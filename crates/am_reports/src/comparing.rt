@@ -7,7 +7,8 @@ use crate::CompareInputs;
 use crate::all_outcomes::all_outcomes;
 use crate::compare_inputs::read_compared;
 use crate::configs::Configs;
-use am_outcomes::changes_text;
+use am_outcomes::changes_report;
+use am_report_texts::written;
 use am_universe::{Fault, Sink, answer_of_write, put_str};
 use std::alloc::Global;
 
@@ -44,11 +45,12 @@ pub fn compare<W: Sink>(
     let (old, new) = (&read.old, &read.new);
     let configs = Configs::Pair(old, new);
     let outcomes = all_outcomes(alloc, inputs.alphabet, &mut read.space, configs)?;
-    let Ok(changes) = changes_text(alloc, read.space.universe(), old, new, &outcomes) else {
+    let Ok(report) = changes_report(alloc, read.space.universe(), old, new, &outcomes) else {
         return Err(Fault::memory(alloc));
     };
-    answer_of_write(
-        alloc,
-        put_str(out, changes.text.as_str()).and(Ok(changes.count)),
-    )
+    let Ok(text) = written(alloc, inputs.form, &report) else {
+        return Err(Fault::memory(alloc));
+    };
+    let count = report.lines.len();
+    answer_of_write(alloc, put_str(out, text.as_str()).and(Ok(count)))
 }

@@ -21,10 +21,9 @@ mod all_outcomes;
 mod configs;
 mod made;
 
-// The sections of the report of `lint`.
-mod finding_sections;
-mod route_section;
-mod section;
+// What `lint` finds.
+mod listed_findings;
+mod route_findings;
 
 // The commands.
 mod comparing;

@@ -9,6 +9,7 @@ use am_eval::World;
 use am_files::{Files, read_universe_if_any, read_world};
 use am_labels::Space;
 use am_list_files::Alerts;
+use am_report_texts::Form;
 use am_universe::Fault;
 use std::alloc::Global;
 use std::marker::Model;
@@ -24,6 +25,8 @@ pub struct LintInputs<'a> {
     pub files: &'a Files<'a>,
     /// Which texts the labels of alerts may have.
     pub alphabet: Alphabet,
+    /// The form of the report.
+    pub form: Form,
 }
 
 impl<'a> Model for LintInputs<'a> {
@@ -36,6 +39,7 @@ impl<'a> Model for LintInputs<'a> {
       universe = option_copied inputs.universe;
       files = inputs.files.now;
       alphabet = inputs.alphabet;
+      form = inputs.form;
     } };
 }
 

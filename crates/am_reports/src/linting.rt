@@ -1,6 +1,14 @@
 //! The command `lint`.
 
-ghost use Rattle.std.specs.Prelude.{◌≢◌, IfOk, IfErr, option_map, string_bytes};
+ghost use Rattle.std.specs.Prelude.{◌≡◌, ◌≢◌, length, IfOk, IfErr, option_map, string_bytes};
+ghost use Rattle.std.specs.List.{AllByRecursion, AllZip};
+ghost use Rattle.am_universe.specs.Universe.{sizes};
+ghost use Rattle.am_idle.specs.RuleLines.{HasPositionsIfAny};
+ghost use Rattle.am_lint.specs.FoundView.{IsShown};
+ghost use Rattle.am_report_texts.specs.Line.{count_findings};
+ghost use Rattle.am_report_texts.specs.Written.{IsWritten};
+ghost use Rattle.am_reports.specs.FoundLines.{found_lines};
+ghost use Rattle.am_reports.specs.LintLines.{lint_report};
 ghost use Rattle.am_universe.specs.declared.kind.Kind.TheVariants as kinds;
 ghost use Rattle.am_json.specs.Reading.{refusal_of};
 ghost use Rattle.am_files.specs.Promise.{IsKept};
@@ -8,17 +16,20 @@ ghost use Rattle.am_reports.specs.Linting.{lint_promise, IsLinted, IsLintRefusal
 
 use crate::LintInputs;
 use crate::configs::Configs;
-use crate::finding_sections::{rule_section, silence_section, value_section};
 use crate::lint_inputs::read_lint_inputs;
+use crate::listed_findings::{push_rules, push_silences, rule_findings, silence_findings};
 use crate::made::check_declared;
-use crate::route_section::route_section;
-use crate::section::{LintReport, report_of};
+use crate::route_findings::{RouteFindings, route_findings};
 use am_classes::Alphabet;
 use am_eval::World;
+use am_idle::{IdleReason, SilenceFinding};
 use am_labels::Space;
+use am_lint::{count_pieces, push_lint_lines};
 use am_list_files::Alerts;
-use am_universe::{Fault, Sink, Universe, answer_of_write, put_str};
-use std::alloc::Global;
+use am_report_texts::{Form, Line, Report, count_findings, count_notes, written};
+use am_universe::{Fault, Sink, answer_of_write, put_str};
+use am_unseen::{push_unseen, unseen_values};
+use std::alloc::{AllocError, Global};
 
 /// Writes what is wrong with a configuration, for every possible alert.
 ///
@@ -53,37 +64,94 @@ pub fn lint<W: Sink>(alloc: Global, inputs: &LintInputs<'_>, out: &mut W) -> Res
 {
     let mut read = read_lint_inputs(alloc, inputs)?;
     let alerts = inputs.alerts_if_any(&read.world);
-    let lint = lint_report(alloc, inputs.alphabet, &mut read.space, &read.world, alerts)?;
+    let (alphabet, form) = (inputs.alphabet, inputs.form);
+    let lint = lint_report(alloc, alphabet, form, &mut read.space, &read.world, alerts)?;
     answer_of_write(
         alloc,
         put_str(out, lint.text.as_str()).and(Ok(lint.findings > 0)),
     )
 }
 
-/// Makes the report on what was read. The alerts are those that fire, if they are known. At the end
-/// the space has no labels.
+/// A report in its form, and the number of its findings.
+#[derive(Drop)]
+struct LintReport {
+    text: String,
+    findings: usize,
+}
+
+/// Makes the report on what was read, for every alert over an alphabet, in a form. The alerts are
+/// those that fire, if they are known. At the end the space has no labels.
 fn lint_report(
     alloc: Global,
     alphabet: Alphabet,
+    form: Form,
     space: &mut Space,
     world: &World,
     alerts: Option<&Alerts>,
 ) -> Result<LintReport, Fault>
     ensures reports { IfOk result (λ report. IsLinted alphabet space.old world.now
-        (option_map (λ a. a.now) alerts.entry) report.findings (string_bytes report.text)) }
+        (option_map (λ a. a.now) alerts.entry) form report.findings (string_bytes report.text)) }
     ensures refused { IfErr result (λ fault. fault.kind ≢ kinds.Memory
         → IsLintRefusal alphabet space.old world.now fault.place (refusal_of fault)) }
 {
     check_declared(alloc, alphabet, space, Configs::One(world.config()))?;
-    space.declare(Universe::empty(alloc));
-    let routes = route_section(alloc, alphabet, space, world.config())?;
-    let rules = rule_section(alloc, alphabet, space, world.config().rules())?;
-    let silences = silence_section(alloc, alphabet, space, world, alerts)?;
-    let Ok(values) = value_section(alloc, world) else {
-        return Err(Fault::memory(alloc));
-    };
-    match report_of(alloc, &routes, &rules, &silences, &values) {
+    space.undeclare(alloc);
+    let routes = route_findings(alloc, alphabet, space, world.config())?;
+    let rules = rule_findings(alloc, alphabet, space, world.config().rules())?;
+    let silences = silence_findings(alloc, alphabet, space, world, alerts)?;
+    match report_of(
+        alloc,
+        form,
+        world,
+        &routes,
+        rules.as_slice(),
+        silences.as_slice(),
+    ) {
         Ok(report) => Ok(report),
         Err(_) => Err(Fault::memory(alloc)),
     }
+}
+
+/// Returns the report on what is found, and on values that no firing alert has, in a form. Fails
+/// only if memory runs out.
+fn report_of<'a>(
+    alloc: Global,
+    form: Form,
+    world: &'a World,
+    routes: &'a RouteFindings,
+    rules: &[Option<IdleReason>],
+    silences: &[Option<SilenceFinding>],
+) -> Result<LintReport, AllocError>
+    requires shown { AllByRecursion
+        (IsShown (sizes routes.now.universe) world.now.config) routes.now.routes.items }
+    requires receivers { length routes.now.receivers.items
+        ≡ length world.now.config.receivers }
+    requires rules { length rules.now ≡ length world.now.config.rules }
+    requires positions { AllZip HasPositionsIfAny world.now.config.rules rules.now }
+    requires silences { length silences.now ≡ length world.now.silences }
+    ensures findings { IfOk result (λ report. report.findings
+        ≡ count_findings (found_lines routes.now rules.now silences.now world.now)) }
+    ensures text { IfOk result (λ report. IsWritten form
+        (lint_report (found_lines routes.now rules.now silences.now world.now))
+        (string_bytes report.text)) }
+{
+    let config = world.config();
+    let values = unseen_values(alloc, world)?;
+    let mut lines: Vec<Line<'a>> = Vec::new(alloc);
+    push_lint_lines(
+        alloc,
+        &mut lines,
+        &routes.universe,
+        config,
+        routes.routes.as_slice(),
+        routes.receivers.as_slice(),
+    )?;
+    push_rules(alloc, &mut lines, config.rules(), rules)?;
+    push_silences(alloc, &mut lines, world.silences(), silences)?;
+    push_unseen(alloc, &mut lines, values.as_slice())?;
+    let findings = count_findings(lines.as_slice());
+    let notes = count_notes(lines.as_slice());
+    let last = count_pieces(alloc, findings, notes)?;
+    let text = written(alloc, form, &Report { lines, last })?;
+    Ok(LintReport { text, findings })
 }

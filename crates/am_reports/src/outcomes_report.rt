@@ -7,7 +7,8 @@ use crate::ReportInputs;
 use crate::all_outcomes::all_outcomes;
 use crate::configs::Configs;
 use crate::report_inputs::read_inputs;
-use am_outcomes::outcomes_text;
+use am_outcomes::outcomes_report;
+use am_report_texts::written;
 use am_universe::{Fault, Sink, answer_of_write, put_str};
 use std::alloc::Global;
 
@@ -44,7 +45,11 @@ pub fn outcomes<W: Sink>(alloc: Global, inputs: &ReportInputs<'_>, out: &mut W) 
     let mut read = read_inputs(alloc, inputs)?;
     let configs = Configs::One(&read.config);
     let outcomes = all_outcomes(alloc, inputs.alphabet, &mut read.space, configs)?;
-    let Ok(text) = outcomes_text(alloc, read.space.universe(), &read.config, &outcomes) else {
+    let universe = read.space.universe();
+    let Ok(report) = outcomes_report(alloc, universe, &read.config, &outcomes) else {
+        return Err(Fault::memory(alloc));
+    };
+    let Ok(text) = written(alloc, inputs.form, &report) else {
         return Err(Fault::memory(alloc));
     };
     answer_of_write(alloc, put_str(out, text.as_str()))

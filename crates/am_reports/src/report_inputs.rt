@@ -9,6 +9,7 @@ use am_classes::Alphabet;
 use am_config::{Config, read_config};
 use am_files::read_universe_if_any;
 use am_labels::Space;
+use am_report_texts::Form;
 use am_universe::Fault;
 use std::alloc::Global;
 use std::marker::Model;
@@ -23,6 +24,8 @@ pub struct ReportInputs<'a> {
     pub config: &'a [u8],
     /// Which texts the labels of alerts may have.
     pub alphabet: Alphabet,
+    /// The form of the report.
+    pub form: Form,
 }
 
 impl<'a> Model for ReportInputs<'a> {
@@ -35,6 +38,7 @@ impl<'a> Model for ReportInputs<'a> {
       universe = option_copied inputs.universe;
       config = inputs.config.now;
       alphabet = inputs.alphabet;
+      form = inputs.form;
     } };
 }
 

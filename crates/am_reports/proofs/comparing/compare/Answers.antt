@@ -1,11 +1,15 @@
 -- The faults of the inputs come first, and the comparison is what is written.
-use Rattle.std.proofs.Common.{Ok, refl, sym, ap, string_bytes}
+use Rattle.std.proofs.Common.{◌≡◌, Ok, length, refl, sym, ap, ◌∙◌, string_bytes, arith}
+use Rattle.std.proofs.lemmas.List.{length-map}
 use Rattle.std.specs.Result.{result_and}
 use Rattle.am_json.specs.Reading.{refusal_of}
 use Rattle.am_config.specs.ConfigView.{config_view}
 use Rattle.am_files.proofs.FirstFaults.{first_of_more}
 use Rattle.am_files.proofs.Promises.{refused, written}
 use Rattle.am_every_alert.specs.Deciding.{space_of}
+use Rattle.am_report_texts.specs.Line.{Report}
+use Rattle.am_report_texts.specs.LineView.{line_view}
+use Rattle.am_outcomes.specs.OutcomeLines.{changes_of}
 use Rattle.am_files.specs.Faults.{later_stages}
 use Rattle.am_asked.specs.OriginPointer.{matcher_places}
 use Rattle.am_reports.specs.CompareInputs.{CompareInputs, compare_input_stages}
@@ -42,8 +46,8 @@ returns-in_err-outcomes g c =
           at (c.in_err-outcomes.ensures.refused remembered)));
     }
 
-pub changes_text-requires : goal.changes_text-requires
-changes_text-requires g c =
+pub changes_report-requires : goal.changes_report-requires
+changes_report-requires g c =
     let u = c.all_outcomes.new.space.labels in (
       space_of c.in_ok-read.read.space.impossible u,
       sym c.universe.ensures.labels,
@@ -58,11 +62,16 @@ returns g c =
     let new = config_view c.in_ok-read.read.new in
     let after = c.all_outcomes.new.space in
     let outcomes = c.in_ok-outcomes.outcomes in
-    let changes = c.in-Ok.changes in
+    let count = c.len-count.result in
     let over = ap (λ (i : CompareInputs). i.alphabet) c.inputs.view_is in
+    let formed = ap (λ (i : CompareInputs). i.form) c.inputs.view_is in
+    let reported = rw c.universe.ensures.labels at c.in-Ok.ensures.report in
+    let lines : length c.in-Ok.report.lines.items ≡ length (changes_of old new outcomes) =
+    sym (length-map _ line_view) ∙ ap (λ (r : Report). length r.lines) reported ∙ length-map _ _ in
+    let counted : count ≡ length (changes_of old new outcomes) = omega arith in
     record {
-      kept = written (compare_promise inputs) changes.count (string_bytes changes.text)
-          (result_and c.put_str.result (Ok changes.count)) c.answer_of_write.result
+      kept = written (compare_promise inputs) count (string_bytes c.in-Ok-written.text)
+          (result_and c.put_str.result (Ok count)) c.answer_of_write.result
           (record {
             space = s;
             old = old;
@@ -70,11 +79,12 @@ returns g c =
             accepts = c.in_ok-read.ensures.accepts;
             whole = rw over at c.in_ok-outcomes.ensures.whole;
             compares = compared inputs.alphabet s old new after.labels outcomes
-                (rw over at c.in_ok-outcomes.ensures.are) changes.count _ c.in-Ok.ensures.count
-                (rw c.universe.ensures.labels at c.in-Ok.ensures.text);
+                (rw over at c.in_ok-outcomes.ensures.are) inputs.form count _
+                counted
+                (rw (formed, reported) at c.in-Ok-written.ensures.written);
           })
-          (told_beside c.put_str.result changes.count)
-          (writes_beside c.put_str.result changes.count
+          (told_beside c.put_str.result count)
+          (writes_beside c.put_str.result count
           (rw c.as_str.ensures.value at c.put_str.ensures.written))
           (rw c.and.ensures at c.answer_of_write.ensures.answer);
     }

@@ -44,6 +44,7 @@ returns g c =
     let lint = c.in_ok-lint.lint in
     let found = nat_lt 0 lint.findings in
     let over = ap (λ (i : LintInputs). i.alphabet) c.inputs.view_is in
+    let formed = ap (λ (i : LintInputs). i.form) c.inputs.view_is in
     record {
       kept = written (lint_promise inputs) found (string_bytes lint.text)
           (result_and c.put_str.result (Ok found)) c.answer_of_write.result
@@ -53,7 +54,7 @@ returns g c =
             accepts = c.in_ok-read.ensures.accepts;
             findings = lint.findings;
             is_found = refl;
-            linted = rw (over, c.alerts_if_any-alerts.ensures) at c.in_ok-lint.ensures.reports;
+            linted = rw (over, formed, c.alerts_if_any-alerts.ensures) at c.in_ok-lint.ensures.reports;
           })
           (told_beside c.put_str.result found)
           (writes_beside c.put_str.result found

@@ -38,11 +38,11 @@ returns-in_err-outcomes g c =
           at (c.in_err-outcomes.ensures.refused remembered)));
     }
 
-pub outcomes_text-requires : goal.outcomes_text-requires
-outcomes_text-requires g c =
+pub outcomes_report-requires : goal.outcomes_report-requires
+outcomes_report-requires g c =
     let u = c.all_outcomes.new.space.labels in (
       space_of c.in_ok-read.read.space.impossible u,
-      sym c.universe.ensures.labels,
+      sym c.universe-universe.ensures.labels,
       c.in_ok-outcomes.ensures.are.order,
     )
 
@@ -52,8 +52,9 @@ returns g c =
     let s = c.in_ok-read.read.space in
     let config = config_view c.in_ok-read.read.config in
     let over = ap (λ (i : ReportInputs). i.alphabet) c.inputs.view_is in
+    let formed = ap (λ (i : ReportInputs). i.form) c.inputs.view_is in
     record {
-      kept = written (outcomes_promise inputs) tt (string_bytes c.in-Ok.text)
+      kept = written (outcomes_promise inputs) tt (string_bytes c.in-Ok-written.text)
           c.put_str.result c.answer_of_write.result
           (record {
             space = s;
@@ -64,7 +65,8 @@ returns g c =
               labels = c.all_outcomes.new.space.labels;
               outcomes = c.in_ok-outcomes.outcomes;
               are = rw over at c.in_ok-outcomes.ensures.are;
-              text = rw c.universe.ensures.labels at c.in-Ok.ensures.text;
+              text = rw (formed, c.in-Ok.ensures.report, c.universe-universe.ensures.labels)
+                  at c.in-Ok-written.ensures.written;
             };
           })
           (nothing_told c.put_str.result) (rw (← c.as_str.ensures.value) c.put_str.ensures.written)

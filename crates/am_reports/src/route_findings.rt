@@ -1,42 +1,57 @@
-//! The section of a report on routes and receivers.
+//! What is found of routes and receivers, for every alert.
 //!
 //! A route that hands on is a note, since many routes only group their children. Each route below a
 //! dead route has a line too. So there is a line for exactly the routes that are dead, and these
 //! lines go when the upper route is mended.
 
-ghost use Rattle.std.specs.Prelude.{◌≡◌, ◌≢◌, [], IfOk, IfErr, OnOk, IfSome};
+ghost use Rattle.std.specs.Prelude.{◌≡◌, ◌≢◌, [], length, map, IfOk, IfErr, OnOk, IfSome};
+ghost use Rattle.std.specs.List.{AllByRecursion};
 ghost use Rattle.am_universe.specs.declared.kind.Kind.TheVariants as kinds;
+ghost use Rattle.am_universe.specs.Universe.{sizes};
 ghost use Rattle.am_classes.specs.declared.alphabet.Alphabet.TheVariants.{Unicode, Ascii};
 ghost use Rattle.am_json.specs.Reading.{refusal_of};
 ghost use Rattle.am_config.specs.ConfigView.{config_view};
+ghost use Rattle.am_lint.specs.FoundView.{said_of, IsShown};
+ghost use Rattle.am_lint.specs.LintLines.{report_lines};
 ghost use Rattle.am_reports.specs.Configurations.{One};
-ghost use Rattle.am_reports.specs.LintSections.{SaysOfAllRoutes};
+ghost use Rattle.am_reports.specs.LintLines.{SaysOfAllRoutes};
 ghost use Rattle.am_reports.specs.Made.{StandsForAll, IsMadeRefusal, IsRoutesRefusal};
 ghost use Rattle.am_reports.specs.Made.{alphabet_over};
 
 use crate::configs::Configs;
 use crate::made::universe_for_routes;
-use crate::section::Section;
 use am_classes::Alphabet;
 use am_config::Config;
 use am_labels::Space;
-use am_lint::{
-    count_findings, count_notes, found_receivers, found_routes, lint_lines, look_further,
-};
+use am_lint::{FoundRoute, ReceiverFinding, found_receivers, found_routes, look_further};
 use am_universe::{Fault, Universe};
 use std::alloc::{AllocError, Global};
 
-/// Makes the section on the routes and receivers of a configuration, for every alert over an
+/// What is found of the routes and receivers of a configuration.
+#[derive(Drop)]
+pub(crate) struct RouteFindings {
+    /// It has the labels of the label sets that are shown.
+    pub universe: Universe,
+    pub routes: Vec<FoundRoute>,
+    pub receivers: Vec<Option<ReceiverFinding>>,
+}
+
+/// Finds what is wrong with the routes and receivers of a configuration, for every alert over an
 /// alphabet of a space that declares no label.
-pub(crate) fn route_section(
+pub(crate) fn route_findings(
     alloc: Global,
     alphabet: Alphabet,
     space: &mut Space,
     config: &Config,
-) -> Result<Section, Fault>
+) -> Result<RouteFindings, Fault>
     requires { space.old.labels ≡ [] }
-    ensures says { IfOk result
-        (SaysOfAllRoutes alphabet space.old (config_view config.now)) }
+    ensures says { IfOk result (λ found. SaysOfAllRoutes alphabet space.old
+        (config_view config.now) (report_lines found.universe (config_view config.now)
+        (map said_of found.routes.items) found.receivers.items)) }
+    ensures shown { IfOk result (λ found. AllByRecursion
+        (IsShown (sizes found.universe) (config_view config.now)) found.routes.items) }
+    ensures each { IfOk result (λ found.
+        length found.receivers.items ≡ length (config_view config.now).receivers) }
     ensures labels { OnOk result (space.new.labels ≡ []) }
     ensures impossible { OnOk result (space.new.impossible ≡ space.old.impossible) }
     ensures refused { IfErr result (λ fault. fault.kind ≢ kinds.Memory
@@ -45,11 +60,10 @@ pub(crate) fn route_section(
 {
     let every = every_universe(alloc, alphabet, space, config)?;
     let ordinary = universe_for_routes(alloc, Alphabet::Ascii, space, Configs::One(config))?;
-    let Ok(section) = section_over(alloc, space, config, ordinary, every) else {
-        return Err(Fault::memory(alloc));
-    };
-    space.declare(Universe::empty(alloc));
-    Ok(section)
+    match findings_over(alloc, space, config, ordinary, every) {
+        Ok(found) => Ok(found),
+        Err(_) => Err(Fault::memory(alloc)),
+    }
 }
 
 /// Makes a universe for every alert, unless only printable ASCII counts.
@@ -76,21 +90,27 @@ fn every_universe(
     }
 }
 
-/// Makes the section over a universe for ordinary alerts and, if others count, one for every alert.
-/// The impossible lists are those of `space`.
-fn section_over(
+/// Finds the same over a universe for ordinary alerts and, if others count, one for every alert.
+/// The impossible lists are those of `space`, which declares no label at the end.
+fn findings_over(
     alloc: Global,
     space: &mut Space,
     config: &Config,
     ordinary: Universe,
     every: Option<Universe>,
-) -> Result<Section, AllocError>
+) -> Result<RouteFindings, AllocError>
     requires ordinary { StandsForAll Ascii space.old.impossible (One (config_view config.now))
         ordinary }
     requires every { IfSome every
         (StandsForAll Unicode space.old.impossible (One (config_view config.now))) }
-    ensures says { IfOk result
-        (SaysOfAllRoutes (alphabet_over every) space.old (config_view config.now)) }
+    ensures says { IfOk result (λ found. SaysOfAllRoutes (alphabet_over every) space.old
+        (config_view config.now) (report_lines found.universe (config_view config.now)
+        (map said_of found.routes.items) found.receivers.items)) }
+    ensures shown { IfOk result (λ found. AllByRecursion
+        (IsShown (sizes found.universe) (config_view config.now)) found.routes.items) }
+    ensures each { IfOk result (λ found.
+        length found.receivers.items ≡ length (config_view config.now).receivers) }
+    ensures labels { OnOk result (space.new.labels ≡ []) }
     ensures impossible { space.new.impossible ≡ space.old.impossible }
 {
     space.declare(ordinary);
@@ -100,16 +120,9 @@ fn section_over(
         look_further(alloc, space, config, &mut routes)?;
     }
     let receivers = found_receivers(alloc, config, routes.as_slice())?;
-    let lines = lint_lines(
-        alloc,
-        space.universe(),
-        config,
-        routes.as_slice(),
-        receivers.as_slice(),
-    )?;
-    Ok(Section {
-        lines,
-        findings: count_findings(routes.as_slice(), receivers.as_slice()),
-        notes: count_notes(routes.as_slice(), receivers.as_slice()),
+    Ok(RouteFindings {
+        universe: space.undeclare(alloc),
+        routes,
+        receivers,
     })
 }

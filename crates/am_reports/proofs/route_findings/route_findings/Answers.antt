@@ -5,7 +5,7 @@ use Rattle.am_json.specs.Reading.{refusal_of}
 use Rattle.am_config.specs.ConfigView.{config_view}
 use Rattle.am_files.proofs.FirstFaults.{handed_on}
 use Rattle.am_reports.specs.Made.{IsRoutesRefusal}
-use Rattle.am_reports.proofs.route_section.route_section.Goals as goal
+use Rattle.am_reports.proofs.route_findings.route_findings.Goals as goal
 
 pub returns-in_err-ordinary-clause-refused : goal.returns-in_err-ordinary-clause-refused
 returns-in_err-ordinary-clause-refused c =

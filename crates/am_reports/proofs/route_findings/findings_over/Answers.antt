@@ -1,5 +1,5 @@
 -- What is found over the universes is true of the alerts that they stand for, and the lines say it.
-use Rattle.std.proofs.Common.{List, length, sym, ap, subst, ◌∙◌}
+use Rattle.std.proofs.Common.{List, length, refl, sym, ap, subst, ◌∙◌}
 use Rattle.std.specs.List.{AllByRecursion, AllZip}
 use Rattle.std.proofs.lemmas.List.FromFn.{length-map-range_with_len}
 use Rattle.am_config.specs.ConfigView.{config_view}
@@ -10,9 +10,9 @@ use Rattle.am_lint.proofs.FoundLemmas.{lines_so}
 use Rattle.am_lint.proofs.FoundOver.{found_there, found_shown}
 use Rattle.am_reports.specs.Made.{alphabet_over}
 use Rattle.am_reports.proofs.RoutesFound.{AreFoundSo, IsSpaceWith, found_ordinary, found_every}
-use Rattle.am_reports.proofs.route_section.section_over.Goals as goal
-use Rattle.am_reports.proofs.route_section.section_over.Goals.{in-Some+in_ok-look_further, in_default}
-use Rattle.am_reports.proofs.route_section.section_over.Goals.{After-as_slice-2}
+use Rattle.am_reports.proofs.route_findings.findings_over.Goals as goal
+use Rattle.am_reports.proofs.route_findings.findings_over.Goals.{in-Some+in_ok-look_further, in_default}
+use Rattle.am_reports.proofs.route_findings.findings_over.Goals.{In_ok-receivers}
 
 pub look_further-requires : goal.look_further-requires
 look_further-requires c =
@@ -25,7 +25,7 @@ look_further-requires c =
     }
 
 -- what is found about the routes is true, whether every alert counts or only ordinary ones
-so : (c : After-as_slice-2)
+so : (c : In_ok-receivers)
     → AreFoundSo (alphabet_over c.args.every) c.args.space.now c.match-every-2.space.labels
     (config_view c.args.config.now) c.match-every-2.routes.items
 so c =
@@ -53,42 +53,30 @@ so c =
           c.in_ok-routes.ensures.found c.in_ok-routes.ensures.once)
     ]
 
-pub lint_lines-requires-clause-shown : goal.lint_lines-requires-clause-shown
-lint_lines-requires-clause-shown c =
-    let s = c.args.space.now in
+pub returns-clause-shown : goal.returns-clause-shown
+returns-clause-shown c =
     let config = config_view c.args.config.now in
-    let every = c.args.every in
-    let labels = c.match-every-2.space.labels in
     let routes = c.match-every-2.routes.items in
-    let found = so (goal.at.lint_lines-requires-clause-shown c).After-as_slice-2 in
-    rw (c.universe.ensures.labels, c.as_slice-2.ensures.value)
-    (found_shown (alphabet_over every) s found.1 labels config routes c.args.config.now.sound found.2)
+    let found = so (goal.at.returns-clause-shown c).In_ok-receivers in
+    rw c.undeclare.ensures.returned
+    (found_shown (alphabet_over c.args.every) c.args.space.now found.1
+    c.match-every-2.space.labels config routes c.args.config.now.sound found.2)
 
-pub lint_lines-requires-clause-each : goal.lint_lines-requires-clause-each
-lint_lines-requires-clause-each c =
+pub returns-clause-each : goal.returns-clause-each
+returns-clause-each c =
     let config = config_view c.args.config.now in
-    ap length (c.as_slice-3.ensures.value ∙ c.in_ok-receivers.ensures.found)
+    ap length c.in_ok-receivers.ensures.found
     ∙ length-map-range_with_len (receiver_finding c.as_slice.result.now) 0 (length config.receivers)
 
 pub returns-clause-says : goal.returns-clause-says
 returns-clause-says c =
-    let s = c.args.space.now in
     let config = config_view c.args.config.now in
-    let every = c.args.every in
     let labels = c.match-every-2.space.labels in
-    let routes = c.match-every-2.routes.items in
-    let found = so (goal.at.returns-clause-says c).After-as_slice-2 in
-    let are = rw (c.as_slice.ensures.value) at c.in_ok-receivers.ensures.found in
-    let count = rw (c.as_slice-4.ensures.value, c.as_slice-5.ensures.value)
-    at c.count_findings.ensures.count in
-    let notes = rw (c.as_slice-6.ensures.value, c.as_slice-7.ensures.value)
-    at c.count_notes.ensures.count in
-    let text = rw (c.universe.ensures.labels, c.as_slice-2.ensures.value, c.as_slice-3.ensures.value)
-    at c.in_ok-lines.ensures.text in
-    record {
+    let found = so (goal.at.returns-clause-says c).In_ok-receivers in
+    rw c.undeclare.ensures.returned (record {
       labels = labels;
       stands = found.0;
-      says = lines_so (alphabet_over every) s found.1 labels config routes found.2
-          c.in_ok-receivers.receivers.items c.count_findings.result c.count_notes.result _ are count
-          notes text;
-    }
+      says = lines_so (alphabet_over c.args.every) c.args.space.now found.1 labels config
+          c.match-every-2.routes.items found.2 c.in_ok-receivers.receivers.items _
+          (rw c.as_slice.ensures.value at c.in_ok-receivers.ensures.found) refl;
+    })
