@@ -26,14 +26,14 @@ _amcover() {
         options="lint compare outcomes ask dead receivers explain alerts universe --help --version"
     else
         case ${COMP_WORDS[1]} in
-        lint) options="--config --silences --alerts --at --universe --ascii --help" ;;
-        compare) options="--old --new --universe --ascii --help" ;;
-        outcomes) options="--config --universe --ascii --help" ;;
+        lint) options="--config --silences --alerts --at --universe --ascii --json --help" ;;
+        compare) options="--old --new --universe --ascii --json --help" ;;
+        outcomes) options="--config --universe --ascii --json --help" ;;
         ask) options="--universe --config --silences --alerts --at --limit --steps --after --help" ;;
         dead) options="--universe --config --help" ;;
         receivers) options="--universe --config --help" ;;
         explain) options="--config --silences --alerts --at --help" ;;
-        alerts) options="--config --alerts --silences --at --help" ;;
+        alerts) options="--config --alerts --silences --at --json --help" ;;
         universe) options="--check --from --config --question --routes --ascii --silences --alerts --open --help" ;;
         esac
     fi

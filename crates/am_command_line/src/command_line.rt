@@ -18,6 +18,8 @@ pub struct CommandLine<'a, F> {
     pub silences: Option<F>,
     pub alerts: Option<F>,
     pub at: Option<&'a str>,
+    /// Whether the report is to be JSON.
+    pub json: bool,
 }
 
 /// A command line whose files are read.
@@ -43,6 +45,7 @@ pub fn parse_command_line<'a>(
             silences: matches.get_str("silences"),
             alerts: matches.get_str("alerts"),
             at: matches.get_str("at"),
+            json: matches.get_flag("json"),
         });
     }
     Err(command.error(ErrorKind::MissingSubcommand, "a command is missing")?)

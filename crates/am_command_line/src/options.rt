@@ -101,6 +101,12 @@ pub(crate) const ASCII: Argument = Argument {
     help: "Count only alerts whose values are printable ASCII",
 };
 
+pub(crate) const JSON: Argument = Argument {
+    id: "json",
+    form: Form::Flag("json"),
+    help: "Print one JSON document, for programs such as jq",
+};
+
 pub(crate) const LIMIT: Argument = Argument {
     id: "limit",
     form: Form::Number("limit", 1),

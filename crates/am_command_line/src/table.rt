@@ -3,7 +3,7 @@
 
 use crate::options::{
     AFTER, ALERTS, ASCII, ASKED, ASKED_OF_ALERTS, AT, CHECK, CONFIG, COUNTED, CommandRow, FROM,
-    IMPOSSIBLE, LIMIT, NEW, Need, OLD, OPEN, ROUTES, SET, SILENCES, STEPS, UNIVERSE,
+    IMPOSSIBLE, JSON, LIMIT, NEW, Need, OLD, OPEN, ROUTES, SET, SILENCES, STEPS, UNIVERSE,
 };
 use crate::requests::{ask_request, universe_request, words_of};
 use crate::steps::Steps;
@@ -226,6 +226,7 @@ output failed, 5 done with a finding.",
             (AT, Need::Optional),
             (IMPOSSIBLE, Need::Optional),
             (ASCII, Need::Optional),
+            (JSON, Need::Optional),
         ],
     },
     CommandRow {
@@ -286,6 +287,7 @@ output failed, 5 done with a change.",
             (NEW, Need::Required),
             (IMPOSSIBLE, Need::Optional),
             (ASCII, Need::Optional),
+            (JSON, Need::Optional),
         ],
     },
     CommandRow {
@@ -339,6 +341,7 @@ Exit status: 0 done, 1 refused input, 2 usage, 3 out of memory, 4 the output fai
             (CONFIG, Need::Required),
             (IMPOSSIBLE, Need::Optional),
             (ASCII, Need::Optional),
+            (JSON, Need::Optional),
         ],
     },
     CommandRow {
@@ -687,6 +690,7 @@ Exit status: 0 done, 1 refused input, 2 usage, 3 out of memory, 4 the output fai
             (ALERTS, Need::Required),
             (SILENCES, Need::Optional),
             (AT, Need::Optional),
+            (JSON, Need::Optional),
             (ASKED_OF_ALERTS, Need::Optional),
         ],
     },

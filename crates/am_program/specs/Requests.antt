@@ -14,6 +14,8 @@ use Rattle.am_commands.specs.Explanation.{explain_promise}
 use Rattle.am_files.specs.Promise.{Promise}
 use Rattle.am_commands.specs.AskOutcome.{ask_promise}
 use Rattle.am_commands.specs.Reports.{dead_promise, receivers_promise}
+use Rattle.am_report_texts.specs.declared.writing.Form.{Form}
+use Rattle.am_report_texts.specs.declared.writing.Form.TheVariants as form_is
 use Rattle.am_alerts.specs.Alerts.{alerts_promise}
 use Rattle.am_universe_command.specs.Universes.{universe_promise, check_promise}
 use Rattle.am_reports.specs.Linting.{lint_promise}
@@ -43,6 +45,10 @@ files_of call = record {
 -- The texts that the labels of alerts may have: with `--ascii`, only those of printable ASCII.
 abbrev pub alphabet_of : Bool → Alphabet
 alphabet_of ascii = if ascii then Ascii else Unicode
+
+-- The form of a report: with `--json` a JSON document, and else lines.
+abbrev pub form_of : Bool → Form
+form_of json = if json then form_is.Json else form_is.Lines
 
 -- What is owed if the answer is whether something was found: by a command that looks for nothing
 -- wrong, and so finds nothing; and by a command that returns how many changes there are.
@@ -74,6 +80,7 @@ owed (requests.Lint ascii) call =
       universe = bytes_if_any call.universe;
       files = files_of call;
       alphabet = alphabet_of ascii;
+      form = form_of call.json;
     })
 owed (requests.Compare ascii) call =
     finds (compare_promise (record {
@@ -81,12 +88,14 @@ owed (requests.Compare ascii) call =
       old = bytes_of call.old;
       new = bytes_of call.new;
       alphabet = alphabet_of ascii;
+      form = form_of call.json;
     }))
 owed (requests.Outcomes ascii) call =
     finds_nothing (outcomes_promise (record {
       universe = bytes_if_any call.universe;
       config = config_of (bytes_if_any call.config);
       alphabet = alphabet_of ascii;
+      form = form_of call.json;
     }))
 owed (requests.Ask question after limit steps) call =
     finds_nothing (ask_promise (record {
@@ -103,7 +112,7 @@ owed requests.Receivers call =
 owed (requests.Explain set) call =
     finds_nothing (explain_promise (files_of call) (map (λ word. word.now) set.items))
 owed (requests.Alerts question) call =
-    finds_nothing (alerts_promise (files_of call) (option_copied question))
+    finds_nothing (alerts_promise (files_of call) (option_copied question) (form_of call.json))
 owed (requests.Universe routes ascii open_form questions) call =
     finds_nothing (universe_promise (record {
       universe = bytes_if_any call.universe;

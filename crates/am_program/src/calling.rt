@@ -6,13 +6,14 @@ ghost use Rattle.std.specs.Int.NonZero.{non_zero_u64_get};
 ghost use Rattle.am_universe.specs.declared.limits.TheConstants.{MAX_LABELS};
 ghost use Rattle.am_command_line.specs.StepsView.{step_count};
 ghost use Rattle.am_files.specs.Promise.{IsKept};
-ghost use Rattle.am_program.specs.Requests.{alphabet_of, bytes_of, files_of, promise_of};
+ghost use Rattle.am_program.specs.Requests.{alphabet_of, bytes_of, files_of, form_of, promise_of};
 
 use am_alerts::alerts;
 use am_classes::Alphabet;
 use am_command_line::{Call, Request, Steps};
 use am_commands::{ask, dead, explain_words, receivers};
 use am_files::Files;
+use am_report_texts::Form;
 use am_reports::{CompareInputs, LintInputs, ReportInputs, compare, lint, outcomes};
 use am_search::Page;
 use am_universe::{Fault, Sink};
@@ -27,12 +28,14 @@ pub fn make_call<W: Sink>(alloc: Global, call: &Call<'_>, out: &mut W) -> Result
 {
     let given = call.universe.as_deref();
     let files = &files_of(call);
+    let form = form_of(call.json);
     match &call.request {
         Request::Lint { ascii } => {
             let inputs = LintInputs {
                 universe: given,
                 files,
                 alphabet: alphabet_of(*ascii),
+                form,
             };
             lint(alloc, &inputs, out)
         }
@@ -42,6 +45,7 @@ pub fn make_call<W: Sink>(alloc: Global, call: &Call<'_>, out: &mut W) -> Result
                 old: bytes_of(&call.old),
                 new: bytes_of(&call.new),
                 alphabet: alphabet_of(*ascii),
+                form,
             };
             something_found(compare(alloc, &inputs, out))
         }
@@ -50,6 +54,7 @@ pub fn make_call<W: Sink>(alloc: Global, call: &Call<'_>, out: &mut W) -> Result
                 universe: given,
                 config: files.config(),
                 alphabet: alphabet_of(*ascii),
+                form,
             };
             nothing_found(outcomes(alloc, &inputs, out))
         }
@@ -76,7 +81,7 @@ pub fn make_call<W: Sink>(alloc: Global, call: &Call<'_>, out: &mut W) -> Result
         Request::Explain { set } => {
             nothing_found(explain_words(alloc, files, set.as_slice(), out))
         }
-        Request::Alerts { question } => nothing_found(alerts(alloc, files, *question, out)),
+        Request::Alerts { question } => nothing_found(alerts(alloc, files, *question, form, out)),
         Request::Universe {
             routes,
             ascii,
@@ -161,6 +166,13 @@ fn alphabet_of(ascii: bool) -> Alphabet
     } else {
         Alphabet::Unicode
     }
+}
+
+/// The form of a report.
+fn form_of(json: bool) -> Form
+    ensures { result ≡ form_of json }
+{
+    if json { Form::Json } else { Form::Lines }
 }
 
 /// The most lines of a page, if there is a limit.

@@ -2,7 +2,7 @@ use crate::calling::make_call;
 use crate::read_file::read_file;
 use am_command_line::{Call, CommandLine, parse_command_line};
 use am_notes::{notes_of_answer, notes_of_refusal};
-use am_universe::{Fault, Out, Place, report};
+use am_universe::{Fault, Out, Place, Terminal, report};
 use clap::Error;
 use clap::error::ErrorKind;
 use std::alloc::{AllocError, Global};
@@ -57,18 +57,17 @@ pub fn run_with_notes<R: Files + AllocGlobal, W: Write + Drop, E: Write + Drop>(
 }
 
 /// Runs the program with the command line, the files and the streams of its process. Notes are
-/// written if standard error is a terminal. A command line that is not UTF-8 is a usage fault.
+/// written if standard error is a terminal. A terminal gets hidden characters as escapes, so that
+/// no text of a file can change it. A command line that is not UTF-8 is a usage fault.
 pub fn run_process(rt: &HostRuntime) -> ExitCode {
-    match arguments(rt) {
-        Ok(words) => ExitCode::from(run_with_notes(
-            rt,
-            words.as_slice(),
-            &mut io::writer(rt),
-            &mut rt.stderr(),
-            rt.stderr().is_terminal(),
-        )),
-        Err(error) => ExitCode::from(refuse_arguments(&error, rt.alloc(), &mut rt.stderr())),
-    }
+    let mut out = Terminal::new(Out::new(io::writer(rt)), rt.stdout().is_terminal());
+    let notes = rt.stderr().is_terminal();
+    let mut err = Terminal::new(Out::new(rt.stderr()), notes);
+    let status = match arguments(rt) {
+        Ok(words) => run_with_notes(rt, words.as_slice(), &mut out, &mut err, notes),
+        Err(error) => refuse_arguments(&error, rt.alloc(), &mut err),
+    };
+    ExitCode::from(status)
 }
 
 /// The words of the command line, the program's name first.
@@ -147,6 +146,7 @@ fn read_files<'a, R: Files + AllocGlobal>(
         alerts: read_input(rt, line.alerts, Place::Alerts)?,
         request: line.request,
         at: line.at,
+        json: line.json,
     })
 }
 

@@ -4,14 +4,18 @@ use Rattle.am_program.proofs.calling.make_call.Goals as goal
 
 pub returns-in-Lint : goal.returns-in-Lint
 returns-in-Lint g c = record {
-  kept = rw c.in-Lint.is (rw (c.as_deref-given.ensures.value, c.files_of.ensures, c.alphabet_of.ensures)
-      at c.lint.ensures.kept);
+  kept = rw c.in-Lint.is (rw (
+    c.as_deref-given.ensures.value,
+    c.files_of.ensures,
+    c.alphabet_of.ensures,
+    c.form_of-form.ensures,
+  ) at c.lint.ensures.kept);
 }
 
 pub returns-in-Compare : goal.returns-in-Compare
 returns-in-Compare g c = record {
   kept = rw c.in-Compare.is (so_many_found c.something_found.ensures
-      (rw c.alphabet_of-in-Compare.ensures
+      (rw (c.alphabet_of-in-Compare.ensures, c.form_of-form.ensures)
       at (rw (c.as_deref-given.ensures.value, c.bytes_of.ensures, c.bytes_of-in-Compare.ensures)
       at c.compare.ensures.kept)));
 }
@@ -19,7 +23,7 @@ returns-in-Compare g c = record {
 pub returns-in-Outcomes : goal.returns-in-Outcomes
 returns-in-Outcomes g c = record {
   kept = rw c.in-Outcomes.is (nothing_found c.nothing_found.ensures
-      (rw c.alphabet_of-in-Outcomes.ensures
+      (rw (c.alphabet_of-in-Outcomes.ensures, c.form_of-form.ensures)
       at (rw (c.as_deref-given.ensures.value, c.config.ensures.bytes, c.files_of.ensures)
       at c.outcomes.ensures.kept)));
 }
@@ -55,7 +59,7 @@ returns-in-Explain g c = record {
 pub returns-in-Alerts : goal.returns-in-Alerts
 returns-in-Alerts g c = record {
   kept = rw c.in-Alerts.is (nothing_found c.nothing_found-in-Alerts.ensures
-      (rw c.files_of.ensures at c.alerts.ensures.kept));
+      (rw (c.files_of.ensures, c.form_of-form.ensures) at c.alerts.ensures.kept));
 }
 
 pub returns-in-Universe : goal.returns-in-Universe
