@@ -4,7 +4,7 @@ use Rattle.serde_json.specs.Data.{Data}
 use Rattle.am_labels.specs.Matcher.{Matcher}
 use Rattle.am_labels.specs.declared.op.Op.{Op}
 use Rattle.am_json.specs.Reading.{IsLawful, StopsAtFirst}
-use Rattle.am_config.specs.ConfigFile.{SaysConfig, FileSaysConfig}
+use Rattle.am_config.specs.ConfigFile.{Parent, SaysConfig, FileSaysConfig}
 use Rattle.am_config.specs.ConfigForm.{config_form, config_file_form, effective_receiver}
 use Rattle.am_config.specs.ConfigForm.{equal_name_form, matcher_pair_form, matchers_form}
 use Rattle.am_config.specs.ConfigForm.{next_pair_form, next_receiver_form, next_text_form}
@@ -38,18 +38,18 @@ pairs_stop is_root op key before (Some d) = search all_stop depth 30
 
 -- ---- The routes.
 
-fields_stop : (names : List (List ℕ)) (parent : Option ℕ) (before : ℕ) (d : Data)
+fields_stop : (names : List (List ℕ)) (parent : Parent) (before : ℕ) (d : Data)
     → StopsAtFirst (route_fields_form names parent before d)
 unfolding route_fields_form route_settings_form receiver_form matchers_form
 fields_stop names parent before d =
     search (all_stop, effective_stops, texts_stop, pairs_stop) depth 30
 
-route_stops : (names : List (List ℕ)) (left : ℕ) (parent : Option ℕ) (before : ℕ) (d : Data)
+route_stops : (names : List (List ℕ)) (left : ℕ) (parent : Parent) (before : ℕ) (d : Data)
     → StopsAtFirst (route_form names left parent before d)
 unfolding route_form
 route_stops names zero parent before d = search all_stop
 route_stops names (suc left) parent before d =
-    let deeper : (above : Option ℕ) (n : ℕ) (e : Data)
+    let deeper : (above : Parent) (n : ℕ) (e : Data)
     → StopsAtFirst (route_form names left above n e) = λ above n e. route_stops names left above n e
     in
     search (all_stop, fields_stop, deeper) depth 20

@@ -7,13 +7,15 @@ use Rattle.std.specs.List.{AllZip}
 use Rattle.std.proofs.lemmas.Bool.{and_from}
 use Rattle.std.proofs.lemmas.List.Quantifiers.{position-Some}
 use borrow.Author.Tests.{lt-ltb}
-use Rattle.serde_json.specs.Data.{Data}
+use Rattle.serde_json.specs.Data.{Data, Members}
 use Rattle.am_universe.specs.Text.{same_text}
 use Rattle.am_universe.specs.declared.kind.Kind.TheVariants as kinds
 use Rattle.am_config.specs.declared.limits.TheConstants.{MAX_ROUTES, MAX_LEVELS, MAX_RULES}
 use Rattle.am_json.specs.Json.{field}
 use Rattle.am_json.specs.OptionalItems.{HasItems}
 use Rattle.am_json.specs.Pointer.{refusal_here, refusal_within, to_field}
+use Rattle.am_config.specs.RouteOptions.{options_below}
+use Rattle.am_config.specs.ConfigFile.{Parent, receiver_above, options_above, rest_of}
 use Rattle.am_config.specs.ConfigFile.{RouteSettings, RouteTree, route, Routes, no_routes}
 use Rattle.am_config.specs.ConfigFile.{next_route, Configuration, IsConfig, Rule}
 use Rattle.am_config.specs.ConfigFile.{routes_of, matchers_of, route_count, routes_count}
@@ -39,42 +41,58 @@ use Rattle.am_config.proofs.RuleSays.{rule_decides}
 -- ---- The fields of a route.
 
 -- the settings that are said; those of the top-level route have no matchers
-abbrev AreSettings : List (List ℕ) → Option ℕ → Data → RouteSettings → Type 0
+abbrev AreSettings : List (List ℕ) → Parent → Data → RouteSettings → Type 0
 AreSettings names parent d settings =
     SaysSettings names parent d settings × (is_none parent ≡ true → settings.matchers ≡ [])
 
-settings_decide : (names : List (List ℕ)) (parent : Option ℕ) (d : Data)
+settings_decide : (names : List (List ℕ)) (parent : Parent) (d : Data)
     → Decides (AreSettings names parent d) ((route_settings_form names parent d).result)
 unfolding route_settings_form
 settings_decide names parent d =
     said_as
     (then_decides (only_fields_decide route_fields d)
-    (λ _. then_decides (receiver_decides names parent d)
+    (λ _. then_decides (receiver_decides names (receiver_above parent) d)
     (λ receiver. then_decides (matchers_decide route_matcher_fields (is_none parent) d)
     (λ matchers. then_decides (boolean_decides false (codes "continue") d)
-    (λ continues. accept_decides
-    (record { receiver = receiver; matchers = matchers; continues = continues }))))))
+    (λ continues. accept_decides (record {
+      receiver = receiver;
+      matchers = matchers;
+      continues = continues;
+      options = options_below (options_above parent) d;
+    }))))))
     (λ settings (_, only, (receiver, r, (matchers, (m, none), (continues, c, is)))).
-    subst (λ (s : RouteSettings). AreSettings names parent d s) is
-    (record { only = only; receiver_is = r; matchers_are = m; continues_is = c }, none))
+    subst (λ (s : RouteSettings). AreSettings names parent d s) is (
+      record {
+        only = only;
+        receiver_is = r;
+        matchers_are = m;
+        continues_is = c;
+        options_are = refl;
+      },
+      none,
+    ))
     (λ settings (said, none). (
       tt,
       said.only,
       (
         settings.receiver,
         said.receiver_is,
-        (settings.matchers, (said.matchers_are, none), (settings.continues, said.continues_is, refl)),
+        (
+          settings.matchers,
+          (said.matchers_are, none),
+          (settings.continues, said.continues_is, rw (← said.options_are) refl),
+        ),
       ),
     ))
 
 -- there is room for a route, and these are its settings and the values of its children
-pub record AreFields (names : List (List ℕ)) (parent : Option ℕ) (before : ℕ) (d : Data)
+pub record AreFields (names : List (List ℕ)) (parent : Parent) (before : ℕ) (d : Data)
     (fields : RouteFields) : Type 0 where
   pub room : before + 1 ≤ MAX_ROUTES
   pub settings : AreSettings names parent d fields.settings
   pub items : HasItems (codes "routes") d fields.items
 
-pub fields_decide : (names : List (List ℕ)) (parent : Option ℕ) (before : ℕ) (d : Data)
+pub fields_decide : (names : List (List ℕ)) (parent : Parent) (before : ℕ) (d : Data)
     → Decides (AreFields names parent before d) ((route_fields_form names parent before d).result)
 unfolding route_fields_form
 fields_decide names parent before d =
@@ -92,7 +110,7 @@ fields_decide names parent before d =
 -- ---- Routes.
 
 -- a route that is said, with `left` levels left and `before` routes before it
-pub record IsSaid (names : List (List ℕ)) (left : ℕ) (parent : Option ℕ) (before : ℕ) (d : Data)
+pub record IsSaid (names : List (List ℕ)) (left : ℕ) (parent : Parent) (before : ℕ) (d : Data)
     (t : RouteTree) : Type 0 where
   pub says : SaysRoute names parent d t
   pub levels : route_levels t ≤ left
@@ -126,16 +144,16 @@ module _ (left before : ℕ) where
         (omega (arith, total, count_push earlier t)),
   )
 
-module _ (names : List (List ℕ)) (receiver : ℕ) where
-  each_said : (ds : List Data) (ts : List RouteTree) → AllZip (SaysRoute names (Some receiver)) ds ts
-      → SaysRoutes names receiver ds (routes_of ts)
+module _ (names : List (List ℕ)) (parent : RouteSettings) where
+  each_said : (ds : List Data) (ts : List RouteTree) → AllZip (SaysRoute names (Some parent)) ds ts
+      → SaysRoutes names parent ds (routes_of ts)
   each_said [] [] said = tt
   each_said [] (t ∷ ts) said = absurd said
   each_said (d ∷ ds) [] said = absurd said
   each_said (d ∷ ds) (t ∷ ts) said = (said.0, each_said ds ts said.1)
 
-  said_each : (ds : List Data) (ts : Routes) → SaysRoutes names receiver ds ts
-      → AllZip (SaysRoute names (Some receiver)) ds (list_of ts)
+  said_each : (ds : List Data) (ts : Routes) → SaysRoutes names parent ds ts
+      → AllZip (SaysRoute names (Some parent)) ds (list_of ts)
   said_each [] no_routes said = tt
   said_each [] (next_route t ts) said = absurd said
   said_each (d ∷ ds) no_routes said = absurd said
@@ -148,10 +166,10 @@ of_list (next_route t ts) = ap (λ (us : Routes). next_route t us) (of_list ts)
 -- the children that are read of the values of a route
 abbrev AreChildren : List (List ℕ) → ℕ → ℕ → RouteFields → List RouteTree → Type 0
 AreChildren names left before fields ts =
-    AllZip (SaysRoute names (Some fields.settings.receiver)) fields.items ts
+    AllZip (SaysRoute names (Some fields.settings)) fields.items ts
     × AllFit (ChildFits left (before + 1)) [] ts
 
-in_parts : (names : List (List ℕ)) (left : ℕ) (parent : Option ℕ) (before : ℕ) (d : Data)
+in_parts : (names : List (List ℕ)) (left : ℕ) (parent : Parent) (before : ℕ) (d : Data)
     (t : RouteTree) → IsSaid names (suc left) parent before d t
     → (fields : RouteFields) × AreFields names parent before d fields
     × ((ts : List RouteTree) × AreChildren names left before fields ts
@@ -167,7 +185,7 @@ in_parts names left parent before d (route settings children) said =
       (
         list_of children,
         (
-          said_each names settings.receiver said.says.items children said.says.children,
+          said_each names settings said.says.items children said.says.children,
           fitting left (before + 1) [] (list_of children)
               (omega (arith, said.levels, ap routes_levels same))
               (omega (arith, said.number, ap routes_count same)),
@@ -176,7 +194,7 @@ in_parts names left parent before d (route settings children) said =
       ),
     )
 
-route_decides : (names : List (List ℕ)) (left : ℕ) (parent : Option ℕ) (before : ℕ) (d : Data)
+route_decides : (names : List (List ℕ)) (left : ℕ) (parent : Parent) (before : ℕ) (d : Data)
     → Decides (IsSaid names left parent before d) ((route_form names left parent before d).result)
 unfolding route_form
 route_decides names zero parent before d = record {
@@ -188,10 +206,10 @@ route_decides names (suc left) parent before d =
     (then_decides (fields_decide names parent before d)
     (λ fields. then_decides
     (within_decides (to_field (codes "routes"))
-    (read_items_decide (SaysRoute names (Some fields.settings.receiver))
-    (ChildFits left (before + 1)) (next_child_form names left fields.settings.receiver (before + 1))
+    (read_items_decide (SaysRoute names (Some fields.settings))
+    (ChildFits left (before + 1)) (next_child_form names left fields.settings (before + 1))
     (λ earlier e. said_as
-    (route_decides names left (Some fields.settings.receiver)
+    (route_decides names left (Some fields.settings)
     (before + 1 + routes_count (routes_of earlier)) e)
     (λ t said. (said.says, record { levels = said.levels; number = said.number }))
     (λ t (said, fits). record {
@@ -208,7 +226,7 @@ route_decides names (suc left) parent before d =
         settings_are = are.settings.0;
         items = fields.items;
         is_array = are.items;
-        children = each_said names fields.settings.receiver fields.items ts each;
+        children = each_said names fields.settings fields.items ts each;
       };
       levels = omega (arith, fit.0);
       number = omega (arith, fit.1);
@@ -229,28 +247,30 @@ module _ (names : List (List ℕ)) where
   receiver_below parent d r below (inr said) = rw said.inherited at below
 
   mutual
-    route_below : (parent : Option ℕ) (d : Data) (t : RouteTree) → IsBelow parent
+    route_below : (parent : Parent) (d : Data) (t : RouteTree) → IsBelow (receiver_above parent)
         → SaysRoute names parent d t → has_receivers_below (length names) t ≡ true
     route_below parent d (route settings children) below said =
         let here =
-        receiver_below parent d settings.receiver below said.settings_are.receiver_is in
+        receiver_below (receiver_above parent) d settings.receiver below
+        said.settings_are.receiver_is in
         and_from _ _ (lt-ltb settings.receiver (length names) here)
-        (routes_below settings.receiver said.items children here said.children)
+        (routes_below settings said.items children here said.children)
 
-    routes_below : (receiver : ℕ) (ds : List Data) (ts : Routes) → receiver < length names
-        → SaysRoutes names receiver ds ts → have_receivers_below (length names) ts ≡ true
-    routes_below receiver ds no_routes below said = refl
-    routes_below receiver [] (next_route t ts) below said = absurd said
-    routes_below receiver (d ∷ ds) (next_route t ts) below said =
-        and_from _ _ (route_below (Some receiver) d t below said.0)
-        (routes_below receiver ds ts below said.1)
+    routes_below : (parent : RouteSettings) (ds : List Data) (ts : Routes)
+        → parent.receiver < length names → SaysRoutes names parent ds ts
+        → have_receivers_below (length names) ts ≡ true
+    routes_below parent ds no_routes below said = refl
+    routes_below parent [] (next_route t ts) below said = absurd said
+    routes_below parent (d ∷ ds) (next_route t ts) below said =
+        and_from _ _ (route_below (Some parent) d t below said.0)
+        (routes_below parent ds ts below said.1)
 
 -- ---- The configuration.
 
 pub config_sound : (names : List (List ℕ)) (d : Data) (t : RouteTree) (rules : List Rule)
-    → (route_form names MAX_LEVELS None 0 d).result ≡ Ok t
-    → IsConfig (record { receivers = names; root = t; rules = rules })
-config_sound names d t rules h =
+    (rest : Members) → (route_form names MAX_LEVELS None 0 d).result ≡ Ok t
+    → IsConfig (record { receivers = names; root = t; rules = rules; rest = rest })
+config_sound names d t rules rest h =
     let said = (route_decides names MAX_LEVELS None 0 d).says t h in
     record {
       receivers_declared = route_below names None d t tt said.says;
@@ -272,7 +292,8 @@ config_decides d =
     (within_decides (to_field (codes "route")) (route_decides names MAX_LEVELS None 0 value))
     (λ root. then_decides
     (optional_array_decides SaysRule rule_form rule_decides MAX_RULES (codes "inhibit_rules") d)
-    (λ rules. accept_decides (record { receivers = names; root = root; rules = rules }))))))
+    (λ rules. accept_decides
+    (record { receivers = names; root = root; rules = rules; rest = rest_of d }))))))
     (λ c (
       names,
       (items, is_array, named, few, distinct),
@@ -291,6 +312,7 @@ config_decides d =
       few_routes = omega (arith, said.number);
       few_levels = said.levels;
       rules = ruled;
+      rest = refl;
     }))
     (λ c said. (
       c.receivers,
@@ -306,7 +328,7 @@ config_decides d =
             number = omega (arith, said.few_routes);
             unmatched = λ _. said.unmatched;
           },
-          (c.rules, said.rules, refl),
+          (c.rules, said.rules, rw (← said.rest) refl),
         ),
       ),
     )))

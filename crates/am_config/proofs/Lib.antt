@@ -2,6 +2,7 @@ pub mod Routing
 pub mod ConfigParts
 pub mod MatchersSay
 pub mod RuleSays
+pub mod RestOfFile
 pub mod ConfigSays
 pub mod ConfigLaws
 pub mod SmallestConfig

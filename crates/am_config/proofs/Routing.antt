@@ -1,5 +1,5 @@
 -- Routes: reading one reads its own fields and then its children.
-use Rattle.std.proofs.Common.{◌≡◌, ◌≢◌, ℕ, suc, ◌+◌, ◌-◌, List, [], ◌∷◌, ◌++◌, Option, Ok}
+use Rattle.std.proofs.Common.{◌≡◌, ◌≢◌, ℕ, suc, ◌+◌, ◌-◌, List, [], ◌∷◌, ◌++◌, Ok}
 use Rattle.std.proofs.Common.{refl, sym, arith, inl}
 use Rattle.std.specs.Prelude.{codes}
 use Rattle.serde_json.specs.Data.{Data}
@@ -9,7 +9,8 @@ use Rattle.am_json.specs.Pointer.{refusal_here, to_field}
 use Rattle.am_json.specs.Reading.{Reading, ◌>>=◌, accept, reading_within}
 use Rattle.am_json.specs.Reading.{read_items}
 use Rattle.am_json.specs.Reading.{IsRefusalOrMemory, Fails}
-use Rattle.am_config.specs.ConfigFile.{RouteTree, route, routes_of, route_count, routes_count}
+use Rattle.am_config.specs.ConfigFile.{Parent, RouteTree, route, routes_of, route_count}
+use Rattle.am_config.specs.ConfigFile.{routes_count}
 use Rattle.am_config.specs.ConfigForm.{RouteFields, route_fields_form, route_form}
 use Rattle.am_config.specs.ConfigForm.{next_child_form}
 use Rattle.am_json.proofs.Readings.{Leads, leads-refl, leads_on, fails_led, fails_first}
@@ -18,7 +19,7 @@ use Rattle.am_json.proofs.Readings.{fails_refused}
 abbrev children_of : List (List ℕ) → ℕ → ℕ → RouteFields → Reading (List RouteTree)
 children_of names left before fields =
     reading_within (to_field (codes "routes"))
-    (read_items (next_child_form names left fields.settings.receiver (before + 1))
+    (read_items (next_child_form names left fields.settings (before + 1))
     [] fields.items)
 
 abbrev behind_fields : List (List ℕ) → ℕ → ℕ → RouteFields → Reading RouteTree
@@ -26,7 +27,7 @@ behind_fields names left before fields =
     children_of names left before fields
     >>= λ children. accept (route fields.settings (routes_of children))
 
-route_leads : (names : List (List ℕ)) (levels left : ℕ) (parent : Option ℕ) (before : ℕ) (d : Data)
+route_leads : (names : List (List ℕ)) (levels left : ℕ) (parent : Parent) (before : ℕ) (d : Data)
     → levels ≡ suc left
     → Leads (route_fields_form names parent before d >>= behind_fields names left before)
     (route_form names levels parent before d)
@@ -38,7 +39,7 @@ is_suc : (levels : ℕ) → levels ≢ 0 → levels ≡ suc (levels - 1)
 is_suc levels h = omega arith
 
 -- if no level is left, the route is refused
-pub too_deep : (names : List (List ℕ)) (levels : ℕ) (parent : Option ℕ) (before : ℕ) (d : Data)
+pub too_deep : (names : List (List ℕ)) (levels : ℕ) (parent : Parent) (before : ℕ) (d : Data)
     (e : ReadError) → levels ≡ 0 → IsRefusalOrMemory e (refusal_here kinds.Limit)
     → Fails e (route_form names levels parent before d)
 unfolding route_form
@@ -46,7 +47,7 @@ too_deep names levels parent before d e is tells =
     fails_refused e (route_form names levels parent before d) (refusal_here kinds.Limit) tells
     (rw is (inl refl))
 
-pub fields_fail : (names : List (List ℕ)) (levels : ℕ) (parent : Option ℕ) (before : ℕ) (d : Data)
+pub fields_fail : (names : List (List ℕ)) (levels : ℕ) (parent : Parent) (before : ℕ) (d : Data)
     (e : ReadError) → levels ≢ 0 → Fails e (route_fields_form names parent before d)
     → Fails e (route_form names levels parent before d)
 fields_fail names levels parent before d e some fails =
@@ -56,7 +57,7 @@ fields_fail names levels parent before d e some fails =
     (fails_first e (route_fields_form names parent before d)
     (behind_fields names (levels - 1) before) fails)
 
-children_lead : (names : List (List ℕ)) (levels : ℕ) (parent : Option ℕ) (before : ℕ) (d : Data)
+children_lead : (names : List (List ℕ)) (levels : ℕ) (parent : Parent) (before : ℕ) (d : Data)
     (fields : RouteFields) → levels ≢ 0
     → (route_fields_form names parent before d).result ≡ Ok fields
     → Leads (behind_fields names (levels - 1) before fields)
@@ -66,7 +67,7 @@ children_lead names levels parent before d fields some gives =
     fields (route_form names levels parent before d) gives
     (route_leads names levels (levels - 1) parent before d (is_suc levels some))
 
-pub children_fail : (names : List (List ℕ)) (levels : ℕ) (parent : Option ℕ) (before : ℕ) (d : Data)
+pub children_fail : (names : List (List ℕ)) (levels : ℕ) (parent : Parent) (before : ℕ) (d : Data)
     (fields : RouteFields) (e : ReadError) → levels ≢ 0
     → (route_fields_form names parent before d).result ≡ Ok fields
     → Fails e (children_of names (levels - 1) before fields)
@@ -78,7 +79,7 @@ children_fail names levels parent before d fields e some gives fails =
     (fails_first e (children_of names (levels - 1) before fields)
     (λ children. accept (route fields.settings (routes_of children))) fails)
 
-pub children_give : (names : List (List ℕ)) (levels : ℕ) (parent : Option ℕ) (before : ℕ) (d : Data)
+pub children_give : (names : List (List ℕ)) (levels : ℕ) (parent : Parent) (before : ℕ) (d : Data)
     (fields : RouteFields) (children : List RouteTree) → levels ≢ 0
     → (route_fields_form names parent before d).result ≡ Ok fields
     → (children_of names (levels - 1) before fields).result ≡ Ok children

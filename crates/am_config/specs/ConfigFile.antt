@@ -1,10 +1,12 @@
 -- Configurations, and which JSON value says which. (Alertmanager configuration reference 0.25. The
--- limits, and which fields are ignored, are this project's own.)
+-- limits, and which fields may have any value, are this project's own.)
 use Rattle.std.specs.Prelude.{◌≡◌, ◌≢◌, ◌⊎◌, ◌≤◌, ◌+◌, ℕ, max, List, [], ◌∷◌, ◌++◌, length, Bool}
 use Rattle.std.specs.Prelude.{true, false, ◌&&◌, nat_lt, IsTrue, Option, Some, None}
-use Rattle.std.specs.Prelude.{option_and_then, position, codes, ⊤}
+use Rattle.std.specs.Prelude.{option_map, option_and_then, unwrap_or, position, codes, ⊤}
+use Rattle.std.specs.Prelude.{if◌then◌else◌}
 use Rattle.std.specs.List.{IsDistinct, AllZip, flat_map}
-use Rattle.serde_json.specs.Data.{Data, string, object, Members}
+use Rattle.serde_json.specs.Data.{Data, string, object, Members, no_members, member}
+use Rattle.serde_json.specs.Find.{as_object}
 use Rattle.am_universe.specs.Text.{same_text}
 use Rattle.am_labels.specs.declared.limits.TheConstants.{MAX_MATCHERS}
 use Rattle.am_labels.specs.Matcher.{Matcher}
@@ -17,20 +19,26 @@ use Rattle.am_config.specs.declared.limits.TheConstants.{MAX_RECEIVERS, MAX_ROUT
 use Rattle.am_config.specs.declared.limits.TheConstants.{MAX_RULES, MAX_EQUAL_NAMES}
 use Rattle.am_json.specs.Json.{FileSays, field, items_of, member_list, SaysBooleanOr, HasOnlyFields}
 use Rattle.am_json.specs.OptionalItems.{HasItems, SaysItemsInField}
+use Rattle.am_config.specs.RouteOptions.{RouteOptions, no_options, options_below}
 
 -- ---- Configurations.
 
--- The settings of a route: the position of its receiver, its matchers, and whether later siblings
--- are tried after it. (Reference, "<route>".)
+-- The settings of a route: the position of its receiver, its matchers, whether later siblings are
+-- tried after it, and its options. (Reference, "<route>".)
 pub record RouteSettings : Type 0 where
   pub receiver : ℕ
   pub matchers : List Matcher
   pub continues : Bool
+  pub options : RouteOptions
 
 -- The settings of a route that sets nothing but these.
 abbrev pub settings_with : ℕ → List Matcher → Bool → RouteSettings
-settings_with receiver matchers continues =
-    record { receiver = receiver; matchers = matchers; continues = continues }
+settings_with receiver matchers continues = record {
+  receiver = receiver;
+  matchers = matchers;
+  continues = continues;
+  options = no_options;
+}
 
 -- A tree of routes.
 mutual
@@ -51,20 +59,27 @@ pub record Rule : Type 0 where
   pub target : List Matcher
   pub equal : List (List ℕ)
 
--- A configuration: the names of the receivers, the top-level route, and the inhibition rules.
--- (Reference, "File layout and global settings".)
+-- A configuration: the names of the receivers, the top-level route, the inhibition rules, and the
+-- fields of the file but `route`, as they were read. (Reference, "File layout and global
+-- settings".)
 pub record Configuration : Type 0 where
   pub receivers : List (List ℕ)
   pub root : RouteTree
   pub rules : List Rule
+  pub rest : Members
+
+-- The configuration that has nothing but these.
+abbrev pub config_with : List (List ℕ) → RouteTree → List Rule → Configuration
+config_with receivers root rules =
+    record { receivers = receivers; root = root; rules = rules; rest = no_members }
 
 -- A list of routes as the children of a route.
 abbrev pub routes_of : List RouteTree → Routes
 routes_of [] = no_routes
 routes_of (t ∷ ts) = next_route t (routes_of ts)
 
--- The parts of a route: its settings, which are its matchers, the position of its receiver, and
--- whether later siblings are tried after it; and its children.
+-- The parts of a route: its settings, which are its matchers, the position of its receiver, whether
+-- later siblings are tried after it, and its options; and its children.
 abbrev pub settings_of : RouteTree → RouteSettings
 settings_of (route settings children) = settings
 
@@ -76,6 +91,9 @@ receiver_of t = (settings_of t).receiver
 
 abbrev pub continues_of : RouteTree → Bool
 continues_of t = (settings_of t).continues
+
+abbrev pub options_of : RouteTree → RouteOptions
+options_of t = (settings_of t).options
 
 abbrev pub children_of : RouteTree → Routes
 children_of (route settings children) = children
@@ -122,7 +140,7 @@ pub record IsConfig (c : Configuration) : Type 0 where
   pub routes_within_limit : route_count c.root ≤ MAX_ROUTES
   pub levels_within_limit : route_levels c.root ≤ MAX_LEVELS
 
--- The fields that a route may have. Those for grouping and timing are ignored.
+-- The fields that a route may have. Those for grouping and timing are its options.
 abbrev pub route_fields : List (List ℕ)
 route_fields =
     codes "receiver" ∷ codes "matchers" ∷ codes "match" ∷ codes "match_re" ∷ codes "continue"
@@ -236,27 +254,40 @@ pub record SaysMatchers (fields : MatcherFields) (d : Data) (matchers : List Mat
 abbrev pub SaysContinue : Data → Bool → Type 0
 SaysContinue d continues = SaysBooleanOr false (codes "continue") d continues
 
+-- The settings of the parent of a route, if it has one; and what it inherits from them: a receiver,
+-- and options. The top-level route has no parent. It inherits no receiver, and no option that is
+-- set.
+abbrev pub Parent : Type 0
+Parent = Option RouteSettings
+
+abbrev pub receiver_above : Parent → Option ℕ
+receiver_above parent = option_map (λ settings. settings.receiver) parent
+
+abbrev pub options_above : Parent → RouteOptions
+options_above parent = unwrap_or (option_map (λ settings. settings.options) parent) no_options
+
 -- A JSON value says the settings of a route: it is an object that has only fields of a route, and
--- these say the receiver, the matchers, and whether later siblings are tried.
+-- these say the receiver, the matchers, whether later siblings are tried, and the options.
 -- Source: Alertmanager configuration reference 0.25, "<route>". Own choice: the fields for grouping
--- and timing are ignored, and other fields are refused.
+-- and timing may have any value, and other fields are refused.
 -- Example: let the receivers be `a` and `b`, and `a` the one of the parent. Then
--- `{"receiver": "b", "continue": true, "group_by": ["c"]}` says the receiver `b`, no matchers, and
--- that later siblings are tried. `{"group": ["c"]}` says nothing.
-pub record SaysSettings (names : List (List ℕ)) (parent : Option ℕ) (d : Data)
+-- `{"receiver": "b", "continue": true, "group_by": ["c"]}` says the receiver `b`, no matchers, that
+-- later siblings are tried, and this `group_by`. `{"group": ["c"]}` says nothing.
+pub record SaysSettings (names : List (List ℕ)) (parent : Parent) (d : Data)
     (settings : RouteSettings) : Type 0 where
   pub only : HasOnlyFields route_fields d
-  pub receiver_is : SaysReceiver names parent d settings.receiver
+  pub receiver_is : SaysReceiver names (receiver_above parent) d settings.receiver
   pub matchers_are : SaysMatchers route_matcher_fields d settings.matchers
   pub continues_is : SaysContinue d settings.continues
+  pub options_are : settings.options ≡ options_below (options_above parent) d
 
 -- A JSON value says a route: it says the settings of the route, and the items of its `routes` say
--- the children, which inherit the receiver.
+-- the children, which inherit the receiver and most options.
 -- Source: Alertmanager configuration reference 0.25, "<route>".
 -- Example: let the receivers be `a` and `b`. Then
 -- `{"receiver": "a", "routes": [{"receiver": "b"}, {}]}` says a route with the receiver `a` and two
 -- children. The first child has the receiver `b`, and the second has `a`.
-pub record SaysRouteFields (names : List (List ℕ)) (parent : Option ℕ) (d : Data)
+pub record SaysRouteFields (names : List (List ℕ)) (parent : Parent) (d : Data)
     (settings : RouteSettings) (SaysChildren : List Data → Type 0) : Type 0 where
   pub settings_are : SaysSettings names parent d settings
   pub items : List Data
@@ -264,17 +295,17 @@ pub record SaysRouteFields (names : List (List ℕ)) (parent : Option ℕ) (d : 
   pub children : SaysChildren items
 
 abbrev mutual
-  pub SaysRoute : List (List ℕ) → Option ℕ → Data → RouteTree → Type 0
+  pub SaysRoute : List (List ℕ) → Parent → Data → RouteTree → Type 0
   SaysRoute names parent d (route settings children) =
       SaysRouteFields names parent d settings
-      (λ items. SaysRoutes names settings.receiver items children)
+      (λ items. SaysRoutes names settings items children)
 
-  pub SaysRoutes : List (List ℕ) → ℕ → List Data → Routes → Type 0
-  SaysRoutes names receiver [] no_routes = ⊤
-  SaysRoutes names receiver (d ∷ ds) no_routes = ⊥
-  SaysRoutes names receiver [] (next_route t ts) = ⊥
-  SaysRoutes names receiver (d ∷ ds) (next_route t ts) =
-      SaysRoute names (Some receiver) d t × SaysRoutes names receiver ds ts
+  pub SaysRoutes : List (List ℕ) → RouteSettings → List Data → Routes → Type 0
+  SaysRoutes names parent [] no_routes = ⊤
+  SaysRoutes names parent (d ∷ ds) no_routes = ⊥
+  SaysRoutes names parent [] (next_route t ts) = ⊥
+  SaysRoutes names parent (d ∷ ds) (next_route t ts) =
+      SaysRoute names (Some parent) d t × SaysRoutes names parent ds ts
 
 -- An item of `equal` says the name of a label: it is a text that is not empty.
 -- Source: Alertmanager configuration reference 0.25, "<inhibit_rule>": `equal`. Own choice: any
@@ -297,8 +328,20 @@ pub record SaysRule (d : Data) (rule : Rule) : Type 0 where
   pub target : SaysMatchers target_matcher_fields d rule.target
   pub equal : SaysItemsInField SaysEqualName (codes "equal") MAX_EQUAL_NAMES d rule.equal
 
+-- Members without the first one that has this key. (An object has each key once.)
+abbrev pub without : List ℕ → Members → Members
+without key no_members = no_members
+without key (member k d rest) =
+    if same_text key k then rest else member k d (without key rest)
+
+-- The fields of an object but `route`, with their values.
+-- Source: own choice.
+-- Example: those of `{"receivers": [], "route": {}, "x": null}` are `receivers` and `x`.
+abbrev pub rest_of : Data → Members
+rest_of d = without (codes "route") (unwrap_or (as_object d) no_members)
+
 -- A JSON value says a configuration: it is an object with receivers of different names, a top-level
--- route without matchers, and inhibition rules, if it has any. Its other fields are ignored.
+-- route without matchers, and inhibition rules, if it has any. Its other fields may have any value.
 -- Source: Alertmanager configuration reference 0.25, "File layout and global settings", "<route>",
 -- "<inhibit_rule>" and "<receiver>". Own choice: the limits.
 -- Example: `{"receivers": [{"name": "a"}], "route": {"receiver": "a"}}` says one receiver, and one
@@ -316,6 +359,7 @@ pub record SaysConfig (d : Data) (c : Configuration) : Type 0 where
   pub few_routes : route_count c.root ≤ MAX_ROUTES
   pub few_levels : route_levels c.root ≤ MAX_LEVELS
   pub rules : SaysItemsInField SaysRule (codes "inhibit_rules") MAX_RULES d c.rules
+  pub rest : c.rest ≡ rest_of d
 
 -- The bytes of a file, at most `MAX_FILE_BYTES`, say the configuration that their JSON value says.
 abbrev pub FileSaysConfig : List ℕ → Configuration → Type 0

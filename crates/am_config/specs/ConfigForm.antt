@@ -26,7 +26,9 @@ use Rattle.am_json.specs.Reading.{refuse_for, check_count, as_object, as_text, a
 use Rattle.am_json.specs.Reading.{check_only_fields, required_field, required_text, required_items}
 use Rattle.am_json.specs.Reading.{read_boolean_or, read_each, read_items, read_json}
 use Rattle.am_config.specs.ConfigFile.{RouteSettings, RouteTree, route, no_routes, Configuration}
-use Rattle.am_config.specs.ConfigFile.{MatcherFields, settings_with}
+use Rattle.am_config.specs.RouteOptions.{options_below}
+use Rattle.am_config.specs.ConfigFile.{MatcherFields, settings_with, receiver_above, options_above}
+use Rattle.am_config.specs.ConfigFile.{Parent, rest_of}
 use Rattle.am_config.specs.ConfigFile.{route_matcher_fields, routes_of, routes_count, route_fields}
 use Rattle.am_config.specs.ConfigFile.{Rule, rule_fields, source_matcher_fields}
 use Rattle.am_config.specs.ConfigFile.{target_matcher_fields}
@@ -174,14 +176,19 @@ matchers_form fields is_root d = do
 
 -- ---- The routes.
 
--- The settings of a route. `parent` is the receiver of its parent, if it has one.
-unfoldable pub route_settings_form : List (List ℕ) → Option ℕ → Data → Reading RouteSettings
+-- The settings of a route. `parent` has the settings of its parent, if it has one.
+unfoldable pub route_settings_form : List (List ℕ) → Parent → Data → Reading RouteSettings
 route_settings_form names parent d = do
   _ ← check_only_fields route_fields d
-  receiver ← receiver_form names parent d
+  receiver ← receiver_form names (receiver_above parent) d
   matchers ← matchers_form route_matcher_fields (is_none parent) d
   continues ← read_boolean_or false (codes "continue") d
-  accept (record { receiver = receiver; matchers = matchers; continues = continues })
+  accept (record {
+    receiver = receiver;
+    matchers = matchers;
+    continues = continues;
+    options = options_below (options_above parent) d;
+  })
 
 -- What is read of a route before its children: its settings, and the JSON values of the children.
 pub record RouteFields : Type 0 where
@@ -189,7 +196,7 @@ pub record RouteFields : Type 0 where
   pub items : List Data
 
 -- The fields of a route. `before` is the number of routes before it in preorder.
-unfoldable pub route_fields_form : List (List ℕ) → Option ℕ → ℕ → Data → Reading RouteFields
+unfoldable pub route_fields_form : List (List ℕ) → Parent → ℕ → Data → Reading RouteFields
 route_fields_form names parent before d = do
   _ ← check_count MAX_ROUTES (before + 1)
   settings ← route_settings_form names parent d
@@ -201,21 +208,22 @@ abbrev pub bare_route : RouteTree
 bare_route = route (settings_with 0 [] false) no_routes
 
 -- A route. `left` is the number of levels that are left, its own included. `before` is the number
--- of routes before it in preorder, and `parent` is the receiver of its parent, if it has one.
-unfoldable pub route_form : List (List ℕ) → ℕ → Option ℕ → ℕ → Data → Reading RouteTree
+-- of routes before it in preorder, and `parent` has the settings of its parent, if it has one.
+unfoldable pub route_form : List (List ℕ) → ℕ → Parent → ℕ → Data → Reading RouteTree
 route_form names zero parent before d = refuse bare_route (refusal_here kinds.Limit)
 route_form names (suc left) parent before d = do
   fields ← route_fields_form names parent before d
   children ← reading_within (to_field (codes "routes")) (read_items
-      (λ earlier. route_form names left (Some fields.settings.receiver)
+      (λ earlier. route_form names left (Some fields.settings)
       (before + 1 + routes_count (routes_of earlier)))
       [] fields.items)
   accept (route fields.settings (routes_of children))
 
 -- A child of a route, after the children that were read before it.
-abbrev pub next_child_form : List (List ℕ) → ℕ → ℕ → ℕ → List RouteTree → Data → Reading RouteTree
-next_child_form names left receiver before earlier =
-    route_form names left (Some receiver) (before + routes_count (routes_of earlier))
+abbrev pub next_child_form : List (List ℕ) → ℕ → RouteSettings → ℕ → List RouteTree → Data
+    → Reading RouteTree
+next_child_form names left parent before earlier =
+    route_form names left (Some parent) (before + routes_count (routes_of earlier))
 
 -- ---- Inhibition rules.
 
@@ -245,7 +253,7 @@ rules_form d = read_optional_array (codes "inhibit_rules") MAX_RULES rule_form d
 
 -- ---- The file.
 
--- The configuration of a value. Its other fields are not read.
+-- The configuration of a value. Its other fields may have any value.
 unfoldable pub config_form : Form Data Configuration
 config_form d = do
   _ ← as_object d
@@ -253,7 +261,7 @@ config_form d = do
   value ← required_field (codes "route") d
   root ← reading_within (to_field (codes "route")) (route_form names MAX_LEVELS None 0 value)
   rules ← rules_form d
-  accept (record { receivers = names; root = root; rules = rules })
+  accept (record { receivers = names; root = root; rules = rules; rest = rest_of d })
 
 -- The configuration of the bytes of a file.
 unfoldable pub config_file_form : Form (List ℕ) Configuration

@@ -1,10 +1,11 @@
 -- The configuration that a `Config` stands for, and what is read of a route before its children.
-use Rattle.std.specs.Prelude.{map}
-use Rattle.serde_json.specs.View.{view}
+use Rattle.std.specs.Prelude.{map, Option, option_map}
+use Rattle.std.specs.Borrow.{Bor}
+use Rattle.serde_json.specs.View.{view, members_view}
 use Rattle.am_config.specs.declared.config.Config.{Config}
 use Rattle.am_config.specs.declared.config_file as declared
 use Rattle.am_config.specs.declared.route_matchers as keys
-use Rattle.am_config.specs.ConfigFile.{Configuration, MatcherFields}
+use Rattle.am_config.specs.ConfigFile.{Configuration, MatcherFields, RouteSettings, Parent}
 use Rattle.am_config.specs.ConfigForm.{RouteFields}
 use Rattle.am_config.specs.RouteView.{route_view, names_of}
 
@@ -14,7 +15,12 @@ config_view c = record {
   receivers = names_of c.receivers.items;
   root = route_view c.root;
   rules = c.rules.items;
+  rest = members_view c.rest.entries;
 }
+
+-- The settings of the parent of a route, if it has one.
+abbrev pub parent_view : Option (Bor RouteSettings) → Parent
+parent_view parent = option_map (λ settings. settings.now) parent
 
 -- What is read of a route before its children, with their JSON values.
 abbrev pub fields_view : declared.RouteFields.RouteFields → RouteFields

@@ -1,4 +1,7 @@
+pub mod RouteOptions
 pub mod ConfigFile
+pub mod SettingsCode
+pub mod ConfigCode
 pub mod SmallestConfig
 pub mod RuleExample
 pub mod FaultExamples

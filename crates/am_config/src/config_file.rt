@@ -3,15 +3,17 @@
 ghost use Rattle.std.specs.Prelude.{◌≡◌, ◌≤◌, ◌+◌, ℕ, List, [], map, None, IfOk, IfErr};
 ghost use Rattle.std.specs.Prelude.{string_bytes, option_map, false};
 ghost use Rattle.serde_json.specs.Data.{Data};
-ghost use Rattle.serde_json.specs.View.{view};
+ghost use Rattle.serde_json.specs.View.{view, members_view};
 ghost use Rattle.am_universe.specs.declared.place.Place.TheVariants as places;
 ghost use Rattle.am_json.specs.Json.{is_one_of};
 ghost use Rattle.am_json.specs.Reading.{Gives, IsRefusalAt, Reading, check_only_fields};
 ghost use Rattle.am_json.specs.Reading.{read_counted, read_items};
 ghost use Rattle.am_config.specs.ConfigFile.{FileSaysConfig, route_fields, route_matcher_fields};
-ghost use Rattle.am_config.specs.ConfigFile.{route_count, routes_count, routes_of};
+ghost use Rattle.am_config.specs.ConfigFile.{route_count, routes_count, routes_of, rest_of};
+ghost use Rattle.am_config.specs.ConfigFile.{receiver_above, options_above};
+ghost use Rattle.am_config.specs.RouteOptions.{options_below, options_view};
 ghost use Rattle.am_config.specs.RouteView.{route_view, names_of};
-ghost use Rattle.am_config.specs.ConfigView.{config_view, fields_view};
+ghost use Rattle.am_config.specs.ConfigView.{config_view, parent_view, fields_view};
 ghost use Rattle.am_config.specs.ConfigForm.{next_receiver_form, receiver_names_form};
 ghost use Rattle.am_config.specs.ConfigForm.{receivers_form, parent_receiver, receiver_position};
 ghost use Rattle.am_config.specs.ConfigForm.{effective_receiver, receiver_form, matchers_form};
@@ -24,6 +26,7 @@ use crate::config::{Config, position};
 use crate::limits::{MAX_EQUAL_NAMES, MAX_LEVELS, MAX_RECEIVERS, MAX_ROUTES, MAX_RULES};
 use crate::route::{Route, RouteSettings};
 use crate::route_matchers::{MatcherFields, read_matchers};
+use crate::route_options::RouteOptions;
 use crate::rule::Rule;
 use am_json::{
     ReadError, as_object, as_text, check_count, check_only_fields, field, read_boolean_or,
@@ -33,10 +36,11 @@ use am_json::{
 use am_labels::Matchers;
 use am_list_files::label_name_fault;
 use am_universe::{Fault, Kind, Place};
-use serde_json::Value;
-use std::alloc::Global;
+use serde_json::{Map, Value};
+use std::alloc::{AllocError, Global};
 
-/// The fields of a route. Those that say how alerts are grouped and when they are sent are ignored.
+/// The fields of a route. Those that say how alerts are grouped and when they are sent may have any
+/// value.
 const ROUTE_FIELDS: [&str; 12] = [
     "receiver",
     "matchers",
@@ -54,12 +58,13 @@ const ROUTE_FIELDS: [&str; 12] = [
 
 /// Reads a configuration file: an Alertmanager configuration (reference 0.25) as JSON.
 ///
-/// A field that is `null` is absent. Some fields are ignored: of a route, those that say how alerts
-/// are grouped and when they are sent; of an inhibition rule, `name`; of a receiver, all but
+/// A field that is `null` is absent. Some fields may have any value: of a route, those that say how
+/// alerts are grouped and when they are sent; of an inhibition rule, `name`; of a receiver, all but
 /// `name`; and of the file, all but `receivers`, `route` and `inhibit_rules`. The JSON value of the
-/// whole file is in memory until the call returns. Each name of a receiver is compared with those
-/// before it, and each that a route has with those declared. Fails with the first fault of the
-/// file, at the place `Config`, with the pointer to the part at fault:
+/// whole file is in memory until the call returns, and the configuration keeps all of it but
+/// `route`. Each name of a receiver is compared with those before it, and each that a route has
+/// with those declared. Fails with the first fault of the file, at the place `Config`, with the
+/// pointer to the part at fault:
 /// - `Limit`: more than `MAX_FILE_BYTES` bytes, [`MAX_RECEIVERS`] receivers, [`MAX_ROUTES`] routes,
 ///   [`MAX_LEVELS`] levels of routes, `MAX_MATCHERS` matchers of a route or of one side of a rule,
 ///   [`MAX_RULES`] inhibition rules or [`MAX_EQUAL_NAMES`] names in `equal`;
@@ -93,23 +98,36 @@ fn read_config_file(alloc: Global, bytes: &[u8]) -> Result<Config, ReadError>
     ensures { Gives config_view result (config_file_form bytes.now) }
 {
     let value = read_json(alloc, bytes)?;
-    read_config_object(alloc, &value)
+    read_config_object(alloc, value)
 }
 
 #[tactic(auto, using(am_json::proofs::Readings::steps), unfolding(crate::specs::ConfigForm::config_form))]
-fn read_config_object(alloc: Global, value: &Value) -> Result<Config, ReadError>
-    ensures { Gives config_view result (config_form (view value.now)) }
+fn read_config_object(alloc: Global, value: Value) -> Result<Config, ReadError>
+    ensures { Gives config_view result (config_form (view value)) }
 {
-    as_object(alloc, value)?;
-    let receivers = read_receivers(alloc, value)?;
-    let root = required_field(alloc, value, "route")?;
+    as_object(alloc, &value)?;
+    let receivers = read_receivers(alloc, &value)?;
+    let root = required_field(alloc, &value, "route")?;
     let root = within_field(alloc, "route", read_root(alloc, &receivers, root))?;
-    let rules = read_rules(alloc, value)?;
+    let rules = read_rules(alloc, &value)?;
+    let rest = rest_of(alloc, value);
     Ok(Config {
         receivers,
         root,
         rules,
+        rest,
     })
+}
+
+/// The fields of an object but `route`.
+fn rest_of(alloc: Global, value: Value) -> Map<String, Value>
+    ensures { members_view result.entries ≡ rest_of (view value) }
+{
+    let Value::Object(mut members) = value else {
+        return Map::new(alloc);
+    };
+    drop(members.remove("route"));
+    members
 }
 
 // ---- The receivers.
@@ -207,26 +225,50 @@ const MATCHER_FIELDS: MatcherFields<'static> = MatcherFields {
     patterns: "match_re",
 };
 
-/// Reads the settings of a route.
+/// Reads the settings of a route. `parent` has those of its parent, if it has one.
 #[tactic(auto, using(am_json::proofs::Readings::steps), unfolding(crate::specs::ConfigForm::route_settings_form))]
 fn read_route_settings(
     alloc: Global,
     names: &[String],
-    parent: Option<usize>,
+    parent: Option<&RouteSettings>,
     value: &Value,
 ) -> Result<RouteSettings, ReadError>
     ensures { Gives (λ s. s) result
-        (route_settings_form (names_of names.now) parent (view value.now)) }
+        (route_settings_form (names_of names.now) (parent_view parent.entry) (view value.now)) }
 {
     check_route_fields(alloc, value)?;
-    let receiver = read_receiver(alloc, names, parent, value)?;
+    let receiver = read_receiver(alloc, names, receiver_above(parent), value)?;
     let matchers = read_route_matchers(alloc, parent.is_none(), value)?;
     let continues = read_boolean_or(alloc, value, "continue", false)?;
+    let options = read_options(alloc, parent, value)?;
     Ok(RouteSettings {
         receiver,
         matchers,
         continues,
+        options,
     })
+}
+
+/// The receiver that a route inherits, if it has a parent.
+fn receiver_above(parent: Option<&RouteSettings>) -> Option<usize>
+    ensures { result ≡ receiver_above (parent_view parent.entry) }
+{
+    parent.map(RouteSettings::receiver)
+}
+
+/// Reads the options of a route. Fails only if memory runs out.
+fn read_options(
+    alloc: Global,
+    parent: Option<&RouteSettings>,
+    value: &Value,
+) -> Result<RouteOptions, AllocError>
+    ensures { IfOk result (λ o. options_view o
+        ≡ options_below (options_above (parent_view parent.entry)) (view value.now)) }
+{
+    match parent {
+        Some(parent) => parent.options.below(alloc, value),
+        None => RouteOptions::none(alloc)?.below(alloc, value),
+    }
 }
 
 /// What is read of a route before its children: its settings, and the JSON values of the children.
@@ -241,13 +283,13 @@ struct RouteFields<'v> {
 fn read_route_fields<'v>(
     alloc: Global,
     names: &[String],
-    parent: Option<usize>,
+    parent: Option<&RouteSettings>,
     before: usize,
     value: &'v Value,
 ) -> Result<RouteFields<'v>, ReadError>
     requires { before ≤ MAX_ROUTES }
-    ensures { Gives fields_view result
-        (route_fields_form (names_of names.now) parent before (view value.now)) }
+    ensures { Gives fields_view result (route_fields_form (names_of names.now)
+        (parent_view parent.entry) before (view value.now)) }
 {
     check_count(alloc, MAX_ROUTES, before + 1)?;
     let settings = read_route_settings(alloc, names, parent, value)?;
@@ -271,20 +313,20 @@ fn read_route_matchers(alloc: Global, is_root: bool, value: &Value) -> Result<Ma
 
 /// Reads one route, and the routes below it.
 ///
-/// `levels` is the number of levels that are left, its own included. `parent` is the receiver of
+/// `levels` is the number of levels that are left, its own included. `parent` has the settings of
 /// its parent, if it has one. `before` counts the routes read so far; the new count is returned.
 #[cycle(routes)]
 fn read_route(
     alloc: Global,
     names: &[String],
     levels: usize,
-    parent: Option<usize>,
+    parent: Option<&RouteSettings>,
     before: usize,
     value: &Value,
 ) -> Result<(Route, usize), ReadError>
     requires { before ≤ MAX_ROUTES }
-    ensures reads { Gives (λ r. route_view r.0) result
-        (route_form (names_of names.now) levels parent before (view value.now)) }
+    ensures reads { Gives (λ r. route_view r.0) result (route_form (names_of names.now) levels
+        (parent_view parent.entry) before (view value.now)) }
     ensures number { IfOk result (λ r.
         (r.1 ≡ before + route_count (route_view r.0)) × (r.1 ≤ MAX_ROUTES)) }
 {
@@ -292,29 +334,28 @@ fn read_route(
         return Err(ReadError::refused(alloc, Kind::Limit));
     }
     let RouteFields { settings, items } = read_route_fields(alloc, names, parent, before, value)?;
-    let receiver = settings.receiver();
     let (routes, after) = within_field(
         alloc,
         "routes",
-        read_routes(alloc, names, levels - 1, receiver, before + 1, items),
+        read_routes(alloc, names, levels - 1, &settings, before + 1, items),
     )?;
     Ok((Route { settings, routes }, after))
 }
 
-/// Reads the children of a route with this receiver. `before` counts the routes read so far; the
+/// Reads the children of a route with these settings. `before` counts the routes read so far; the
 /// new count is returned.
 #[cycle(routes)]
 fn read_routes(
     alloc: Global,
     names: &[String],
     levels: usize,
-    receiver: usize,
+    parent: &RouteSettings,
     before: usize,
     items: &[Value],
 ) -> Result<(Vec<Route>, usize), ReadError>
     requires { before ≤ MAX_ROUTES }
     ensures reads { Gives (λ rs. map route_view rs.0.items) result
-        (read_items (next_child_form (names_of names.now) levels receiver before) []
+        (read_items (next_child_form (names_of names.now) levels parent.now before) []
         (map view items.now)) }
     ensures number { IfOk result (λ rs.
         (rs.1 ≡ before + routes_count (routes_of (map route_view rs.0.items)))
@@ -323,7 +364,7 @@ fn read_routes(
     let mut routes = Vec::new(alloc);
     let mut after = before;
     for item in items {
-        let found = read_route(alloc, names, levels, Some(receiver), after, item);
+        let found = read_route(alloc, names, levels, Some(parent), after, item);
         let (next, count) = within_item(alloc, routes.len(), found)?;
         routes.push(next)?;
         after = count;

@@ -12,12 +12,14 @@ pub mod limits;
 mod config;
 mod path;
 mod route;
+mod route_options;
 mod routes;
 mod rule;
 
 pub use config::Config;
 pub use path::Path;
 pub use route::Route;
+pub use route_options::RouteOptions;
 pub use routes::RouteList;
 pub use rule::Rule;
 

@@ -3,9 +3,11 @@
 // The `impl Model` has imports of its own. None is from a module that uses these types.
 ghost use Rattle.std.specs.Prelude.{◌≡◌, map};
 ghost use Rattle.am_config.specs.ConfigFile.{matchers_of, continues_of, receiver_of, children_of};
-ghost use Rattle.am_config.specs.ConfigFile.{routes_of};
+ghost use Rattle.am_config.specs.ConfigFile.{options_of, routes_of};
+ghost use Rattle.am_config.specs.RouteOptions.{options_view};
 ghost use Rattle.am_config.specs.RouteView.{route_view};
 
+use crate::route_options::RouteOptions;
 use am_labels::Matchers;
 use std::marker::Model;
 
@@ -15,17 +17,23 @@ pub struct RouteSettings {
     pub(crate) receiver: usize,
     pub(crate) matchers: Matchers,
     pub(crate) continues: bool,
+    pub(crate) options: RouteOptions,
 }
 
 impl Model for RouteSettings {
     ghost use Rattle.am_config.specs.ConfigFile as spec;
+    ghost use Rattle.am_config.specs.RouteOptions.{options_view};
+    ghost use Rattle.am_config.specs.SettingsCode.{coded_settings};
 
     ghost Value = { spec.RouteSettings };
+
+    ghost coded = { coded_settings };
 
     ghost view = { λ s. record {
       receiver = s.receiver;
       matchers = s.matchers;
       continues = s.continues;
+      options = options_view s.options;
     } };
 }
 
@@ -72,6 +80,16 @@ impl Route {
         ensures receiver { result ≡ receiver_of (route_view self.now) }
     {
         self.settings.receiver()
+    }
+
+    /// How its alerts are grouped and when they are sent, which routing ignores.
+    ///
+    /// An option that it does not set is that of its parent, but `mute_time_intervals` and
+    /// `active_time_intervals` are never inherited.
+    pub fn options(&self) -> &RouteOptions
+        ensures options { options_view result.now ≡ options_of (route_view self.now) }
+    {
+        &self.settings.options
     }
 
     /// Its children, in the order of the file.

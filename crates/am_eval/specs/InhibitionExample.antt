@@ -4,7 +4,7 @@ use Rattle.std.specs.FinMap.{from_entries}
 use Rattle.am_universe.specs.LabelSet.{LabelMap}
 use Rattle.am_labels.specs.Matcher.{Matcher}
 use Rattle.am_labels.specs.declared.op.Op.TheVariants.{Equal, NotEqual}
-use Rattle.am_config.specs.ConfigFile.{Rule}
+use Rattle.am_config.specs.ConfigFile.{Rule, config_with}
 use Rattle.am_eval.specs.RoutingExamples.{worked, severity_critical}
 use Rattle.am_eval.specs.World.{World}
 
@@ -29,7 +29,7 @@ example_rule source target label =
 -- The world of that alert and some rules, and the world of that alert and one rule.
 abbrev pub world_of_rules : List Rule → World
 world_of_rules rules = record {
-  config = record { receivers = worked.receivers; root = worked.root; rules = rules };
+  config = config_with worked.receivers worked.root rules;
   silences = [];
   alerts = team_db_critical ∷ [];
   instant = None;

@@ -4,7 +4,8 @@ use Rattle.std.specs.Prelude.{◌≡◌, ℕ, List, [], ◌∷◌, Bool, true, f
 use Rattle.am_universe.specs.LabelSet.{LabelMap, value_of}
 use Rattle.am_labels.specs.Matcher.{Matcher}
 use Rattle.am_labels.specs.declared.op.Op.TheVariants.{Equal}
-use Rattle.am_config.specs.ConfigFile.{Configuration, RouteTree, route, routes_of, settings_with}
+use Rattle.am_config.specs.ConfigFile.{Configuration, RouteTree, config_with, route, routes_of}
+use Rattle.am_config.specs.ConfigFile.{settings_with}
 
 -- A route with this receiver, these matchers, with or without `continue`, and with these children.
 abbrev pub node : ℕ → List Matcher → Bool → List RouteTree → RouteTree
@@ -22,15 +23,14 @@ severity_critical = record { name = codes "severity"; op = Equal; value = codes 
 -- team `db` and has `continue`, and its child asks for the severity `critical`. `/1` asks for that
 -- severity too, and `/2` asks for both. Each route has a receiver of its own.
 abbrev pub worked : Configuration
-worked = record {
-  receivers = codes "default" ∷ codes "dba" ∷ codes "pager" ∷ codes "ops" ∷ codes "late"
-      ∷ codes "idle" ∷ [];
-  root = node 0 [] false
-      (node 1 (team_db ∷ []) true (node 2 (severity_critical ∷ []) false [] ∷ [])
-      ∷ node 3 (severity_critical ∷ []) false []
-      ∷ node 4 (team_db ∷ severity_critical ∷ []) false [] ∷ []);
-  rules = [];
-}
+worked =
+    config_with
+    (codes "default" ∷ codes "dba" ∷ codes "pager" ∷ codes "ops" ∷ codes "late" ∷ codes "idle" ∷ [])
+    (node 0 [] false
+    (node 1 (team_db ∷ []) true (node 2 (severity_critical ∷ []) false [] ∷ [])
+    ∷ node 3 (severity_critical ∷ []) false []
+    ∷ node 4 (team_db ∷ severity_critical ∷ []) false [] ∷ []))
+    []
 
 -- A label set has these values of `team` and `severity`. An empty text is a missing label.
 abbrev pub Has : LabelMap → List ℕ → List ℕ → Type 0

@@ -7,7 +7,7 @@ use Rattle.am_config.specs.declared.route.Route.{fold-roll-Route}
 use Rattle.am_json.specs.Pointer.{to_field, to_item}
 use Rattle.am_json.specs.Reading.{read_items, Gives, IsReadingWithin}
 use Rattle.am_config.specs.RouteView.{view_step, route_view, names_of}
-use Rattle.am_config.specs.ConfigView.{fields_view}
+use Rattle.am_config.specs.ConfigView.{parent_view, fields_view}
 use Rattle.am_config.specs.ConfigFile.{RouteTree, routes_count, routes_of, route_count}
 use Rattle.am_config.specs.ConfigForm.{next_child_form}
 use Rattle.am_json.proofs.Readings.{leads-refl, within_gives, within_if_ok}
@@ -20,22 +20,23 @@ use Rattle.am_config.proofs.config_file.+routes.Goals as goal
 pub read_route-returns-then-levels-eq0-clause-reads :
     goal.read_route-returns-then-levels-eq0-clause-reads
 read_route-returns-then-levels-eq0-clause-reads t c =
-    too_deep (names_of c.args.names.now) c.args.levels c.args.parent c.args.before
+    too_deep (names_of c.args.names.now) c.args.levels (parent_view c.args.parent) c.args.before
     (view c.args.value.now) c.refused.result c.if-levels-eq0.true c.refused.ensures.refusal
 
 pub read_route-returns-in_err-settings-clause-reads :
     goal.read_route-returns-in_err-settings-clause-reads
 read_route-returns-in_err-settings-clause-reads t c =
     let p = err_from_is_err_and c.from_residual.result c.from_residual.ensures.1 in
-    rw (p.1, p.2) (fields_fail (names_of c.args.names.now) c.args.levels c.args.parent c.args.before
-    (view c.args.value.now) c.in_err-settings.field-0.0 c.if-levels-eq0.false
-    c.in_err-settings.ensures)
+    rw (p.1, p.2) (fields_fail (names_of c.args.names.now) c.args.levels
+    (parent_view c.args.parent) c.args.before (view c.args.value.now) c.in_err-settings.field-0.0
+    c.if-levels-eq0.false c.in_err-settings.ensures)
 
 pub read_route-read_routes-requires : goal.read_route-read_routes-requires
 read_route-read_routes-requires t c = (
   omega (arith, c.decreases, c.if-levels-eq0.false),
-  ((fields_decide (names_of c.args.names.now) c.args.parent c.args.before (view c.args.value.now)).says
-      (fields_view c.in_ok-settings.field-0) c.in_ok-settings.ensures).room,
+  ((fields_decide (names_of c.args.names.now) (parent_view c.args.parent) c.args.before
+      (view c.args.value.now)).says (fields_view c.in_ok-settings.field-0)
+      c.in_ok-settings.ensures).room,
 )
 
 pub read_route-returns-in_err-routes-clause-reads :
@@ -45,12 +46,12 @@ read_route-returns-in_err-routes-clause-reads t c =
     c.from_residual-in_err-routes.ensures.1 in
     let fields = fields_view c.in_ok-settings.field-0 in
     let m = read_items (next_child_form (names_of c.args.names.now) (c.args.levels - 1)
-    fields.settings.receiver (c.args.before + 1)) [] fields.items in
+    fields.settings (c.args.before + 1)) [] fields.items in
     let g = within_gives (λ rs. map route_view rs.0.items) (to_field (codes "routes"))
-    c.read_routes.result c.within_field.result m
-    (rw c.receiver-receiver.ensures at c.read_routes.ensures.reads) c.within_field.ensures.within in
-    rw (p.1, p.2) (children_fail (names_of c.args.names.now) c.args.levels c.args.parent
-    c.args.before (view c.args.value.now) fields
+    c.read_routes.result c.within_field.result m c.read_routes.ensures.reads
+    c.within_field.ensures.within in
+    rw (p.1, p.2) (children_fail (names_of c.args.names.now) c.args.levels
+    (parent_view c.args.parent) c.args.before (view c.args.value.now) fields
     c.in_err-routes.field-0.0 c.if-levels-eq0.false c.in_ok-settings.ensures
     (rw c.in_err-routes.was at g))
 
@@ -58,13 +59,13 @@ pub read_route-returns-clause-reads : goal.read_route-returns-clause-reads
 read_route-returns-clause-reads t c =
     let fields = fields_view c.in_ok-settings.field-0 in
     let m = read_items (next_child_form (names_of c.args.names.now) (c.args.levels - 1)
-    fields.settings.receiver (c.args.before + 1)) [] fields.items in
+    fields.settings (c.args.before + 1)) [] fields.items in
     let g = within_gives (λ rs. map route_view rs.0.items) (to_field (codes "routes"))
-    c.read_routes.result c.within_field.result m
-    (rw c.receiver-receiver.ensures at c.read_routes.ensures.reads) c.within_field.ensures.within in
+    c.read_routes.result c.within_field.result m c.read_routes.ensures.reads
+    c.within_field.ensures.within in
     rw (fold-roll-Route RouteTree view_step _)
-    (children_give (names_of c.args.names.now) c.args.levels c.args.parent c.args.before
-    (view c.args.value.now) fields
+    (children_give (names_of c.args.names.now) c.args.levels (parent_view c.args.parent)
+    c.args.before (view c.args.value.now) fields
     (map route_view c.in_ok-routes.routes.items) c.if-levels-eq0.false c.in_ok-settings.ensures
     (rw c.in_ok-routes.was at g))
 
@@ -79,7 +80,7 @@ read_route-returns-clause-number t c =
 pub read_routes-loop-item-init : goal.read_routes-loop-item-init
 read_routes-loop-item-init t c = rw c.new-routes.ensures.items (record {
   leads = leads-refl (read_items
-      (next_child_form (names_of c.args.names.now) c.args.levels c.args.receiver c.args.before) []
+      (next_child_form (names_of c.args.names.now) c.args.levels c.args.parent.now c.args.before) []
       (map view c.args.items.now));
   counted = omega arith;
   few = c.requires;
@@ -94,7 +95,7 @@ read_routes-returns-in_err-next-clause-reads t c =
     let l = c.loop-item in
     let p = err_from_is_err_and c.from_residual.result c.from_residual.ensures.1 in
     let read =
-    next_child_form (names_of c.args.names.now) c.args.levels c.args.receiver c.args.before in
+    next_child_form (names_of c.args.names.now) c.args.levels c.args.parent.now c.args.before in
     let so_far = map route_view l.routes.items in
     let one : Gives (λ r. route_view r.0) c.read_route-found.result
     (read so_far (view c.item-item.result)) = rw (← l.invariant.counted)
@@ -113,7 +114,7 @@ pub read_routes-loop-item-preserved : goal.read_routes-loop-item-preserved
 read_routes-loop-item-preserved t c =
     let l = c.loop-item in
     let read =
-    next_child_form (names_of c.args.names.now) c.args.levels c.args.receiver c.args.before in
+    next_child_form (names_of c.args.names.now) c.args.levels c.args.parent.now c.args.before in
     let so_far = map route_view l.routes.items in
     let tree = route_view c.in_ok-next.next in
     let one : Gives (λ r. route_view r.0) c.read_route-found.result
@@ -141,7 +142,7 @@ read_routes-loop-item-preserved t c =
 
 pub read_routes-returns-clause-reads : goal.read_routes-returns-clause-reads
 read_routes-returns-clause-reads t c =
-    items_done view (next_child_form (names_of c.args.names.now) c.args.levels c.args.receiver
+    items_done view (next_child_form (names_of c.args.names.now) c.args.levels c.args.parent.now
     c.args.before) (map route_view c.loop-item.routes.items) c.args.items.now
     c.loop-item.item-index _ c.loop-item-test.false c.loop-item.invariant.leads
 

@@ -12,9 +12,9 @@ use Rattle.am_config.proofs.config_file.+routes.Given as goal
 -- and the children so far are counted
 abbrev pub invariant-read_routes-loop-item : goal.invariant-read_routes-loop-item
 invariant-read_routes-loop-item l = record {
-  leads : Leads (read_items (next_child_form (names_of l.names) l.levels l.receiver l.before)
+  leads : Leads (read_items (next_child_form (names_of l.names) l.levels l.parent l.before)
       (map route_view l.routes.items) (map view (drop l.item-index l.items)))
-      (read_items (next_child_form (names_of l.names) l.levels l.receiver l.before) []
+      (read_items (next_child_form (names_of l.names) l.levels l.parent l.before) []
       (map view l.items));
   counted : l.after ≡ l.before + routes_count (routes_of (map route_view l.routes.items));
   few : l.after ≤ MAX_ROUTES;

@@ -17,7 +17,7 @@ invariant_of-result c =
     c.within_field.result (route_form names MAX_LEVELS None 0 d) read c.within_field.ensures.within in
     let h = rw c.in_ok-root-2.was at g in
     record {
-      sound = config_sound names d (route_view c.in_ok-root-2.root) c.in_ok-rules.rules.items
+      sound = config_sound names d (route_view c.in_ok-root-2.root) c.in_ok-rules.rules.items _
           (within_ok (to_field (codes "route")) ((route_form names MAX_LEVELS None 0 d).result)
           (route_view c.in_ok-root-2.root) h);
     }
