@@ -85,7 +85,7 @@ impl Route {
     /// How its alerts are grouped and when they are sent, which routing ignores.
     ///
     /// An option that it does not set is that of its parent, but `mute_time_intervals` and
-    /// `active_time_intervals` are never inherited.
+    /// `active_time_intervals` are never inherited. An empty array sets none.
     pub fn options(&self) -> &RouteOptions
         ensures options { options_view result.now ≡ options_of (route_view self.now) }
     {
