@@ -1,7 +1,9 @@
 pub mod Separated
 pub mod NameText
 pub mod MatchersText
+pub mod EachOnce
 pub mod Plural
+pub mod ReceiverNames
 pub mod Lines
 pub mod Line
 pub mod LineData

@@ -22,13 +22,14 @@ pub record ShownRoute : Type 0 where
   pub matchers : List Matcher
   pub kind : List ℕ
 
--- What a piece shows: a word, a number, the name of a label, a JSON pointer, a text, texts, the
--- path of a route, a label set with its labels in order, matchers, routes, or inhibition rules with
--- firing alerts, by their positions.
+-- What a piece shows: a word, a number, the name of a label or of a field, such names, a JSON
+-- pointer, a text, texts, the path of a route, a label set with its labels in order, matchers,
+-- routes, or inhibition rules with firing alerts, by their positions.
 pub data Shown : Type 0 where
   Word : List ℕ → Shown
   Number : ℕ → Shown
   Name : List ℕ → Shown
+  Names : List (List ℕ) → Shown
   Pointer : List ℕ → Shown
   Text : List ℕ → Shown
   Texts : List (List ℕ) → Shown
@@ -91,6 +92,7 @@ abbrev pub shown_text : Shown → List ℕ
 shown_text (Word w) = unbroken w
 shown_text (Number n) = decimal n
 shown_text (Name n) = name_text n
+shown_text (Names ns) = texts_behind [] (codes ",") name_text ns
 shown_text (Pointer p) = unbroken p
 shown_text (Text t) = quoted_text t
 shown_text (Texts ts) = texts_behind [] (codes ",") quoted_text ts

@@ -12,8 +12,8 @@ use Rattle.am_report_texts.specs.declared.lines.Level.{Level}
 use Rattle.am_report_texts.specs.declared.lines.Level.TheVariants as level_is
 use Rattle.am_report_texts.specs.MatchersText.{matcher_text}
 use Rattle.am_report_texts.specs.Line.{Shown, ShownRoute, Piece, Line, Report}
-use Rattle.am_report_texts.specs.Line.{Word, Number, Name, Pointer, Text, Texts, Path, Labels}
-use Rattle.am_report_texts.specs.Line.{Matchers, Routes, Inhibitors, Words, Value}
+use Rattle.am_report_texts.specs.Line.{Word, Number, Name, Names, Pointer, Text, Texts, Path}
+use Rattle.am_report_texts.specs.Line.{Labels, Matchers, Routes, Inhibitors, Words, Value}
 
 -- An object gets members, in their order. A later one takes the place of one with the same name.
 abbrev pub with_members : Members → List (List ℕ × Data) → Members
@@ -31,19 +31,25 @@ abbrev pub field_name : Field → List ℕ
 field_name field_is.Alert = codes "alert"
 field_name field_is.Changes = codes "changes"
 field_name field_is.Classes = codes "classes"
+field_name field_is.Equal = codes "equal"
 field_name field_is.Findings = codes "findings"
+field_name field_is.Gains = codes "gains"
 field_name field_is.Impossible = codes "impossible"
 field_name field_is.Inhibited = codes "inhibited"
+field_name field_is.Intervals = codes "intervals"
 field_name field_is.Kind = codes "kind"
 field_name field_is.Label = codes "label"
 field_name field_is.Labels = codes "labels"
 field_name field_is.LabelSets = codes "label_sets"
 field_name field_is.Lacks = codes "lacks"
+field_name field_is.Losses = codes "losses"
 field_name field_is.Matchers = codes "matchers"
 field_name field_is.Name = codes "name"
 field_name field_is.New = codes "new"
 field_name field_is.Notes = codes "notes"
 field_name field_is.Old = codes "old"
+field_name field_is.Options = codes "options"
+field_name field_is.Part = codes "part"
 field_name field_is.Path = codes "path"
 field_name field_is.Place = codes "place"
 field_name field_is.Pointer = codes "pointer"
@@ -93,6 +99,7 @@ abbrev pub shown_members : List ℕ → Shown → List (List ℕ × Data)
 shown_members name (Word w) = (name, string w) ∷ []
 shown_members name (Number n) = (name, number_data n) ∷ []
 shown_members name (Name n) = (name, string n) ∷ []
+shown_members name (Names ns) = (name, array_of string ns) ∷ []
 shown_members name (Pointer p) = (name, string p) ∷ []
 shown_members name (Text t) = (name, string t) ∷ []
 shown_members name (Texts ts) = (name, array_of string ts) ∷ []

@@ -21,6 +21,7 @@ abbrev pub shown_view : Shown → line.Shown
 shown_view (shown_is.Word w) = line.Word w.now
 shown_view (shown_is.Number n) = line.Number n
 shown_view (shown_is.Name n) = line.Name n.now
+shown_view (shown_is.Names ns) = line.Names (map (λ n. n.0.now) ns.items)
 shown_view (shown_is.Pointer p) = line.Pointer (string_bytes p)
 shown_view (shown_is.Text t) = line.Text t.now
 shown_view (shown_is.Texts ts) = line.Texts (map (λ t. t.now) ts.items)

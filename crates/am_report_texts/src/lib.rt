@@ -19,8 +19,8 @@ mod shown;
 mod writing;
 
 pub use counts::{count_findings, count_notes};
-pub use lines::{Field, Level, Line, Piece, Report, Shown, ShownRoute};
-pub use shown::{all_matchers, label_set};
+pub use lines::{Field, Level, Line, Name, Piece, Report, Shown, ShownRoute};
+pub use shown::{all_matchers, label_set, push_new, receiver_name, receiver_names, texts_of};
 pub use writing::{Form, written};
 
 // Facts about the definitions alone.

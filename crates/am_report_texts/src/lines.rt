@@ -15,19 +15,25 @@ pub enum Field {
     Alert,
     Changes,
     Classes,
+    Equal,
     Findings,
+    Gains,
     Impossible,
     Inhibited,
+    Intervals,
     Kind,
     Label,
     Labels,
     LabelSets,
     Lacks,
+    Losses,
     Matchers,
     Name,
     New,
     Notes,
     Old,
+    Options,
+    Part,
     Path,
     Place,
     Pointer,
@@ -55,19 +61,25 @@ impl Field {
             Field::Alert => "alert",
             Field::Changes => "changes",
             Field::Classes => "classes",
+            Field::Equal => "equal",
             Field::Findings => "findings",
+            Field::Gains => "gains",
             Field::Impossible => "impossible",
             Field::Inhibited => "inhibited",
+            Field::Intervals => "intervals",
             Field::Kind => "kind",
             Field::Label => "label",
             Field::Labels => "labels",
             Field::LabelSets => "label_sets",
             Field::Lacks => "lacks",
+            Field::Losses => "losses",
             Field::Matchers => "matchers",
             Field::Name => "name",
             Field::New => "new",
             Field::Notes => "notes",
             Field::Old => "old",
+            Field::Options => "options",
+            Field::Part => "part",
             Field::Path => "path",
             Field::Place => "place",
             Field::Pointer => "pointer",
@@ -106,14 +118,19 @@ pub struct ShownRoute<'a> {
     pub kind: &'a str,
 }
 
+/// The name of a label or of a field.
+#[derive(Clone, Copy, Drop)]
+pub struct Name<'a>(pub &'a str);
+
 /// What a piece shows.
 #[derive(Drop)]
 pub enum Shown<'a> {
     /// A word, as it is.
     Word(&'a str),
     Number(u64),
-    /// The name of a label.
+    /// The name of a label or of a field.
     Name(&'a str),
+    Names(Vec<Name<'a>>),
     /// A text, in quotes.
     Text(&'a str),
     /// Texts, each in quotes.

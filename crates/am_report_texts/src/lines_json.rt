@@ -14,7 +14,7 @@ ghost use Rattle.am_report_texts.specs.LineView.{line_view, piece_view, pieces_v
 ghost use Rattle.am_report_texts.specs.LineView.{route_view, shown_view};
 ghost use Rattle.am_report_texts.specs.MatchersText.{matcher_text};
 
-use crate::lines::{Level, Line, Piece, Report, Shown, ShownRoute};
+use crate::lines::{Level, Line, Name, Piece, Report, Shown, ShownRoute};
 use crate::lines_text::{TextItem, push_path};
 use am_config::Path;
 use am_labels::Matcher;
@@ -112,6 +112,14 @@ impl Item for &str {
     }
 }
 
+impl Item for Name<'_> {
+    ghost item_data = { λ name. string name.0.now };
+
+    fn json(&self, alloc: Global) -> Result<Value, AllocError> {
+        Value::try_from_str(alloc, self.0)
+    }
+}
+
 impl Item for u16 {
     ghost item_data = { number_data };
 
@@ -175,6 +183,7 @@ fn put_shown(
         }
         Shown::Pointer(pointer) => put_text(alloc, object, name, pointer.as_str()),
         Shown::Number(number) => put(object, alloc, name, Value::from(*number)),
+        Shown::Names(names) => put_each(alloc, object, name, names.as_slice()),
         Shown::Texts(texts) => put_each(alloc, object, name, texts.as_slice()),
         Shown::Path(path) => put_path(alloc, object, name, path),
         Shown::Labels(labels) => put_labels(alloc, object, name, labels.as_slice()),

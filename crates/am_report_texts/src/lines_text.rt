@@ -6,6 +6,7 @@ ghost use Rattle.std.specs.Prelude.{IfOk, OnOk};
 ghost use Rattle.am_universe.specs.Text.{quoted_text};
 ghost use Rattle.am_config.specs.Path.{path_text, step_text};
 ghost use Rattle.am_report_texts.specs.MatchersText.{matcher_text};
+ghost use Rattle.am_report_texts.specs.NameText.{name_text};
 ghost use Rattle.am_report_texts.specs.Separated.{texts_behind};
 ghost use Rattle.am_report_texts.specs.Line.{inhibitor_text, label_text, line_text, piece_text};
 ghost use Rattle.am_report_texts.specs.Line.{pieces_line, report_text, shown_route_text};
@@ -13,7 +14,7 @@ ghost use Rattle.am_report_texts.specs.Line.{shown_text, unbroken, word_behind};
 ghost use Rattle.am_report_texts.specs.LineView.{line_view, piece_view, pieces_view, report_view};
 ghost use Rattle.am_report_texts.specs.LineView.{route_view, shown_view};
 
-use crate::lines::{Line, Piece, Report, Shown, ShownRoute};
+use crate::lines::{Line, Name, Piece, Report, Shown, ShownRoute};
 use crate::{gap_before, push_name, push_quoted};
 use am_config::Path;
 use am_labels::Matcher;
@@ -104,6 +105,7 @@ fn push_shown(alloc: Global, text: &mut String, shown: &Shown<'_>) -> Result<(),
         Shown::Word(word) => push_unbroken(text, word),
         Shown::Number(number) => push_number(text, *number),
         Shown::Name(name) => push_name(text, name),
+        Shown::Names(names) => push_each(alloc, text, ",", names.as_slice()),
         Shown::Pointer(pointer) => push_unbroken(text, pointer.as_str()),
         Shown::Text(shown) => push_quoted(text, shown),
         Shown::Texts(texts) => push_each(alloc, text, ",", texts.as_slice()),
@@ -162,6 +164,14 @@ impl TextItem for &str {
 
     fn push_to(&self, _alloc: Global, text: &mut String) -> Result<(), AllocError> {
         push_quoted(text, self)
+    }
+}
+
+impl TextItem for Name<'_> {
+    ghost item_text = { λ name. name_text name.0.now };
+
+    fn push_to(&self, _alloc: Global, text: &mut String) -> Result<(), AllocError> {
+        push_name(text, self.0)
     }
 }
 

@@ -9,7 +9,7 @@ use Rattle.am_universe.specs.Text.{same_text}
 use Rattle.am_universe.proofs.ListLemmas.{IsIn, IsIn-left, IsIn-right}
 use Rattle.am_labels.proofs.Passing.{any_in}
 use Rattle.am_complete.proofs.Pushed.{in_pushed}
-use Rattle.am_unseen.specs.Unseen.{with_text}
+use Rattle.am_report_texts.specs.EachOnce.{with_text}
 
 -- ---- One more text.
 

@@ -13,7 +13,8 @@ use Rattle.am_universe.specs.LabelSet.{LabelMap, value_of}
 use Rattle.am_universe.specs.Text.{same_text}
 use Rattle.am_complete.specs.FoundState.{begins}
 use Rattle.am_complete.proofs.Pushed.{one_longer}
-use Rattle.am_unseen.specs.Unseen.{seen_values, is_missing, with_text, each_once}
+use Rattle.am_report_texts.specs.EachOnce.{with_text, each_once}
+use Rattle.am_unseen.specs.Unseen.{seen_values, is_missing}
 
 -- ---- One more alert.
 

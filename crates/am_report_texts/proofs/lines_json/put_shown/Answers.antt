@@ -4,6 +4,9 @@ use Rattle.am_report_texts.specs.LineData.{route_data}
 use Rattle.am_report_texts.specs.LineView.{route_view}
 use Rattle.am_report_texts.proofs.lines_json.put_shown.Goals as goal
 
+pub returns-in-Names : goal.returns-in-Names
+returns-in-Names c = rw c.in-Names.is (simp map-map (search rules))
+
 pub returns-in-Texts : goal.returns-in-Texts
 returns-in-Texts c = rw c.in-Texts.is (simp map-map (search rules))
 

@@ -3,7 +3,7 @@ use Rattle.std.proofs.Common.{◌≡◌, ◌==◌, ℕ, List, Bor, length, map, 
 use Rattle.am_complete.specs.FoundState.{begins}
 use Rattle.am_complete.proofs.LabelStates.{empty_begins}
 use Rattle.am_universe.specs.LabelSet.{value_of}
-use Rattle.am_unseen.specs.Unseen.{with_text}
+use Rattle.am_report_texts.specs.EachOnce.{with_text}
 use Rattle.am_unseen.specs.Search.{texts_of}
 use Rattle.am_unseen.proofs.SeenValues.{none_more, value_more, texts_inserted}
 use Rattle.am_unseen.proofs.search.values_of.Goals as goal
