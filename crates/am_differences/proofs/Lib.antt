@@ -1,0 +1,5 @@
+pub mod ValueSteps
+pub mod PartSteps
+pub mod ListTests
+pub mod SameOptions
+pub mod SameParts
