@@ -231,7 +231,7 @@ output failed, 5 done with a finding.",
     },
     CommandRow {
         name: "compare",
-        about: "Say which alerts a change sends to other receivers",
+        about: "Say what a change does to alerts, and what else differs",
         help: "\
 In a merge request, compare your alertmanager.yml with that of the main branch:
 
@@ -240,26 +240,28 @@ In a merge request, compare your alertmanager.yml with that of the main branch:
   yq -o=json . alertmanager.yml > alertmanager.json  # Debian's yq: yq . alertmanager.yml
   amcover compare --old old.json --new alertmanager.json
 
-The exit status is 0 if the merge sends no alert elsewhere, and 5 if it does. With any other
-status there is no answer.
+The exit status is 0 if nothing changes, and 5 if something does. With any other status there
+is no answer. The last line counts the changes. For example:
 
-The output has a line for each change, and the last line counts them. For example:
-
-  \"db-mail\" -> \"web-pager\" {team=\"web\",severity=\"info\"}
+  \"db-mail\" loses alerts such as {team=\"web\"}
+  \"incident-log\" gains alerts such as {team=\"web\",severity=\"critical\"}
+  \"db-mail\" -> \"web-pager\" {team=\"web\"}
   \"web-pager\" -> \"web-pager\",\"incident-log\" {team=\"web\",severity=\"critical\"}
-  # 2 changes
+  \"db-pager\" other repeat_interval {team=\"db\"}
+  receiver \"web-pager\" differs
+  rule only in old: source {severity=\"critical\"} target {severity=\"warning\"}
+  # 5 changes, 1 receiver loses alerts, 1 gains
 
-Before the arrow are the receivers of an alert under the old configuration, and after it
-those under the new one. They are in the order of the routes at which the alert ends. A
-receiver appears twice if the alert ends at two routes that have it. The line ends with the
-first label set of such an alert. All alerts that go from the same receivers to the same other
-ones share a line, however many they are.
+First come the receivers that lose alerts, and those that gain some. Before an arrow are the
+receivers of an alert under the old configuration, and after it those under the new one, in
+the order of the routes at which the alert ends. Behind `other` are the options of these
+routes that differ: how they group and time alerts, and when they mute them. A line ends with
+the first label set of such an alert, and stands for all alerts of which the same is true.
 
-Every alert counts, whatever its labels are. If it goes to other receivers than before, it has
-a line. So if there is no line, each alert goes to the same receivers as before, in the same
-order, however the routes are written. Receivers with the same name are the same. compare
-ignores what a receiver does with an alert, and also grouping, silences, inhibition and time
-intervals.
+Last come the receivers, inhibition rules, time intervals and other fields that differ in the
+files, or are in only one of them. If there is no line, each alert goes to the same receivers
+as before, by routes with the same options, and all else in the files is the same. It does
+not matter how routes and matchers are written, or in which order receivers and rules stand.
 
 If some alerts never occur, say so in a universe file, such as never.json:
 
@@ -681,8 +683,10 @@ This prints the alerts of web-pager that no silence and no other alert hides now
     'receiver web-pager and not silenced and not inhibited'
 
 With the question `silenced or inhibited` it prints the alerts that are hidden, and with
-`silenced` and a file with only one silence what that silence hides. alerts ignores time
-intervals, which may mute alerts too.
+`silenced` and a file with only one silence what that silence hides.
+
+A line that ends in, say, intervals \"offhours\" names the time intervals of the routes that
+handle the alert. alerts does not know whether they mute it at that time.
 
 Exit status: 0 done, 1 refused input, 2 usage, 3 out of memory, 4 the output failed.",
         takes: &[

@@ -24,18 +24,18 @@ use Rattle.am_universe.specs.Text.{same_text}
 use Rattle.am_universe.proofs.ListLemmas.{IsIn, IsIn-from_Contains, Contains-from_IsIn}
 use Rattle.am_labels.specs.Space.{Space, all_choices}
 use Rattle.am_labels.proofs.SpaceLaws.{space_choices, space_choices_sorted}
-use Rattle.am_config.specs.ConfigFile.{Configuration}
 use Rattle.am_search.specs.Start.{comes_before}
 use Rattle.am_search.proofs.ChoiceOrder.{Ascends, above_first, ascends_rest, not_itself, not_back}
-use Rattle.am_outcomes.specs.Outcomes.{have_same_receivers, with_first, with_receivers, receivers_under, outcomes_of}
-use Rattle.am_outcomes.specs.ReceiversView.{receivers_view, entry_view}
+use Rattle.am_outcomes.specs.Configurations.{Configurations, each_of}
+use Rattle.am_outcomes.specs.Outcomes.{same_outcome, with_first, with_outcome, outcome_of, outcomes_of}
+use Rattle.am_outcomes.specs.OutcomesView.{lists_view, entry_view}
 use Rattle.am_outcomes.specs.FirstsOfWays.{AreFirstsOfWays}
-use Rattle.am_outcomes.proofs.WayReceivers.{same_lists}
+use Rattle.am_outcomes.proofs.WayReceivers.{same_on_way}
 
 -- ---- The first of each key.
 
-pub same_receivers_laws : IsEquivalence have_same_receivers
-same_receivers_laws = lists_equiv nat_list_eq_equiv
+pub same_outcome_laws : IsEquivalence same_outcome
+same_outcome_laws = lists_equiv nat_list_eq_equiv
 
 module _ {K A : Type 0} (same : K → K → Bool) where
   abbrev pub is_there : List (K × A) → K → Bool
@@ -52,16 +52,16 @@ module _ {K A : Type 0} (same : K → K → Bool) where
       → is_there (with_first same found x) x.0 ≡ true
   now_there itself found x = grind (arith, common_steps, cases_Bool, list_any-append, or_right)
 
--- ---- Receivers in memory.
+-- ---- Outcomes in memory.
 
-abbrev pub same_receivers : Vec ℕ → Vec ℕ → Bool
-same_receivers a b = pointwise nat_eq a.items b.items
+abbrev pub same_list : Vec ℕ → Vec ℕ → Bool
+same_list a b = pointwise nat_eq a.items b.items
 
-abbrev pub same_receivers_kept : Vec (Vec ℕ) → Vec (Vec ℕ) → Bool
-same_receivers_kept a b = pointwise same_receivers a.items b.items
+abbrev pub same_kept : Vec (Vec ℕ) → Vec (Vec ℕ) → Bool
+same_kept a b = pointwise same_list a.items b.items
 
 same_seen : (xs ys : List (Vec ℕ))
-    → pointwise same_receivers xs ys ≡ pointwise same_text (receivers_view xs) (receivers_view ys)
+    → pointwise same_list xs ys ≡ pointwise same_text (lists_view xs) (lists_view ys)
 same_seen [] [] = refl
 same_seen [] (y ∷ ys) = refl
 same_seen (x ∷ xs) [] = refl
@@ -71,8 +71,8 @@ abbrev Entry : Type 0
 Entry = Vec (Vec ℕ) × List ℕ
 
 there_alike : (entries : List Entry) (key : Vec (Vec ℕ))
-    → list_any (λ e. same_receivers_kept key e.0) entries
-    ≡ list_any (λ e. have_same_receivers (receivers_view key.items) e.0) (map entry_view entries)
+    → list_any (λ e. same_kept key e.0) entries
+    ≡ list_any (λ e. same_outcome (lists_view key.items) e.0) (map entry_view entries)
 there_alike [] key = refl
 there_alike (e ∷ entries) key =
     λ i. same_seen key.items e.0.items i || there_alike entries key i
@@ -84,17 +84,17 @@ if_there true entries one = refl
 if_there false entries one = map-append entry_view entries (one ∷ [])
 
 pub seen_alike : (entries : List Entry) (one : Entry)
-    → map entry_view (with_first same_receivers_kept entries one)
-    ≡ with_first have_same_receivers (map entry_view entries) (entry_view one)
+    → map entry_view (with_first same_kept entries one)
+    ≡ with_first same_outcome (map entry_view entries) (entry_view one)
 seen_alike entries one =
-    if_there (list_any (λ e. same_receivers_kept one.0 e.0) entries) entries one
+    if_there (list_any (λ e. same_kept one.0 e.0) entries) entries one
     ∙ ap (λ b. cond b (map entry_view entries) (map entry_view entries ++ entry_view one ∷ []))
     (there_alike entries one.0)
 
 -- an outcome that is there adds nothing
 pub there_already : (entries : List Entry) (one : Entry)
-    → list_any (λ e. same_receivers_kept one.0 e.0) entries ≡ true
-    → entries ≡ with_first same_receivers_kept entries one
+    → list_any (λ e. same_kept one.0 e.0) entries ≡ true
+    → entries ≡ with_first same_kept entries one
 there_already entries one there = sym (ap (λ b. cond b entries (entries ++ one ∷ [])) there)
 
 -- ---- Choices in order.
@@ -147,46 +147,46 @@ same_choice x y before behind = by (slice_cmp nat_cmp x y) refl
 
 -- ---- Only the first choices of ways are looked at.
 
-module _ (s : Space) (cs : List Configuration) where
+module _ (s : Space) (k : Configurations) where
   abbrev Found : Type 0
   Found = List (List (List ℕ) × List ℕ)
 
-  abbrev receivers_of_choice : List ℕ → List (List ℕ)
-  receivers_of_choice c = receivers_under cs (label_set_of s.labels c)
+  abbrev outcome_of_choice : List ℕ → List (List ℕ)
+  outcome_of_choice c = outcome_of k (label_set_of s.labels c)
 
   -- the outcomes of some choices, behind those that are found
   abbrev pub outcomes_after : Found → List (List ℕ) → Found
-  outcomes_after found choices = fold (with_first have_same_receivers) found (map (with_receivers s cs) choices)
+  outcomes_after found choices = fold (with_first same_outcome) found (map (with_outcome s k) choices)
 
-  -- the receivers of a choice are found, or are those of one of some others that does not come after it
+  -- the outcome of a choice is found, or is that of one of some others that does not come after it
   abbrev IsKnown : Found → List (List ℕ) → List ℕ → Type 0
   IsKnown found ys x =
-      (is_there have_same_receivers found (receivers_of_choice x) ≡ true)
-      ⊎ ((y : List ℕ) × IsIn ys y × (receivers_of_choice y ≡ receivers_of_choice x) × (comes_before x y ≡ false))
+      (is_there same_outcome found (outcome_of_choice x) ≡ true)
+      ⊎ ((y : List ℕ) × IsIn ys y × (outcome_of_choice y ≡ outcome_of_choice x) × (comes_before x y ≡ false))
 
   abbrev AreKnown : Found → List (List ℕ) → List (List ℕ) → Type 0
   AreKnown found ys xs = (x : List ℕ) → IsIn xs x → IsKnown found ys x
 
-  there_anyway : (found : Found) (x : List ℕ) → is_there have_same_receivers found (receivers_of_choice x) ≡ true
-      → with_first have_same_receivers found (with_receivers s cs x) ≡ found
+  there_anyway : (found : Found) (x : List ℕ) → is_there same_outcome found (outcome_of_choice x) ≡ true
+      → with_first same_outcome found (with_outcome s k x) ≡ found
   there_anyway found x there =
-      ap (λ b. cond b found (found ++ with_receivers s cs x ∷ [])) there
+      ap (λ b. cond b found (found ++ with_outcome s k x ∷ [])) there
 
-  -- whoever is known by a choice whose receivers are found is known without it
+  -- whoever is known by a choice whose outcome is found is known without it
   known_without : (found : Found) (y : List ℕ) (ys : List (List ℕ)) (x : List ℕ)
-      → is_there have_same_receivers found (receivers_of_choice y) ≡ true → IsKnown found (y ∷ ys) x
+      → is_there same_outcome found (outcome_of_choice y) ≡ true → IsKnown found (y ∷ ys) x
       → IsKnown found ys x
   known_without found y ys x there (inl already) = inl already
   known_without found y ys x there (inr (z, inl first, same, before)) =
-      inl (subst (λ k. is_there have_same_receivers found k ≡ true) (ap receivers_of_choice first ∙ same) there)
+      inl (subst (λ k. is_there same_outcome found k ≡ true) (ap outcome_of_choice first ∙ same) there)
   known_without found y ys x there (inr (z, inr later, same, before)) =
       inr (z, later, same, before)
 
   known_more : (found : Found) (one : List ℕ) (ys : List (List ℕ)) (x : List ℕ)
-      → IsKnown found ys x → IsKnown (with_first have_same_receivers found (with_receivers s cs one)) ys x
+      → IsKnown found ys x → IsKnown (with_first same_outcome found (with_outcome s k one)) ys x
   known_more found one ys x (inl there) =
-      inl (there_or_not have_same_receivers (is_there have_same_receivers found (receivers_of_choice one)) found
-      (with_receivers s cs one) (receivers_of_choice x) there)
+      inl (there_or_not same_outcome (is_there same_outcome found (outcome_of_choice one)) found
+      (with_outcome s k one) (outcome_of_choice x) there)
   known_more found one ys x (inr by) = inr by
 
   -- the first of some choices in order does not come after another that knows one of them
@@ -228,20 +228,20 @@ module _ (s : Space) (cs : List Configuration) where
               let equal : x ≡ y =
               same_choice x y (not_after_first x y by.0 ys by.1 ups by.3)
               (not_after_first y x back.0 xs back.1 up back.3) in
-              let more = with_first have_same_receivers found (with_receivers s cs x) in
-              let there = now_there have_same_receivers same_receivers_laws.refl found (with_receivers s cs x) in
+              let more = with_first same_outcome found (with_outcome s k x) in
+              let there = now_there same_outcome same_outcome_laws.refl found (with_outcome s k x) in
               same_outcomes xs ys more up.1 ups.1
               (λ z i. known_without more y ys z
-              (subst (λ w. is_there have_same_receivers more (receivers_of_choice w) ≡ true) equal there)
+              (subst (λ w. is_there same_outcome more (outcome_of_choice w) ≡ true) equal there)
               (known_more found x (y ∷ ys) z (known z (inr i))))
               (λ z i. known_without more x xs z there
               (known_more found x (x ∷ xs) z (knowns z (inr i))))
-              ∙ ap (λ w. outcomes_after (with_first have_same_receivers found (with_receivers s cs w)) ys) equal
+              ∙ ap (λ w. outcomes_after (with_first same_outcome found (with_outcome s k w)) ys) equal
         ]
   ]
 
-  pub outcomes_are : (firsts : List (List ℕ)) → AreFirstsOfWays s cs firsts
-      → IsSortedBy comes_before firsts → outcomes_after [] firsts ≡ outcomes_of s cs
+  pub outcomes_are : (firsts : List (List ℕ)) → AreFirstsOfWays s (each_of k) firsts
+      → IsSortedBy comes_before firsts → outcomes_after [] firsts ≡ outcomes_of s k
   outcomes_are firsts are up =
       sym (same_outcomes (all_choices s) firsts []
       (order_of_ascending (all_choices s) (space_choices_sorted s)) (order_of_sorted firsts up)
@@ -251,7 +251,7 @@ module _ (s : Space) (cs : List Configuration) where
       inr (
         r.0,
         IsIn-from_Contains firsts r.0 r.1,
-        same_lists (label_set_of s.labels r.0) (label_set_of s.labels x) cs r.2,
+        same_on_way (label_set_of s.labels r.0) (label_set_of s.labels x) k r.2,
         (are.each r.0 r.1).before x choice (sym r.2),
       ))
       (λ y i.
@@ -268,16 +268,16 @@ module _ (s : Space) (cs : List Configuration) where
       (now after : List (Vec (Vec ℕ) × List ℕ)) (found : Vec (Vec ℕ)) → i < length choices
       → choice ≡ get_or choices i choice
       → map entry_view now ≡ outcomes_after [] (take i choices)
-      → receivers_view found.items ≡ receivers_of_choice choice
-      → after ≡ with_first same_receivers_kept now (found, choice)
+      → lists_view found.items ≡ outcome_of_choice choice
+      → after ≡ with_first same_kept now (found, choice)
       → map entry_view after ≡ outcomes_after [] (take (i + 1) choices)
   one_outcome_more choices i choice now after found within at so_far is adds =
       let more : take (i + 1) choices ≡ take i choices ++ choice ∷ [] =
       take_more choices i choice within ∙ ap (λ c. take i choices ++ c ∷ []) (sym at) in
       ap (map entry_view) adds ∙ seen_alike now (found, choice)
-      ∙ (λ j. with_first have_same_receivers (so_far j) (is j, choice))
-      ∙ sym (fold-append (with_first have_same_receivers) [] (map (with_receivers s cs) (take i choices))
-      (with_receivers s cs choice ∷ []))
-      ∙ ap (fold (with_first have_same_receivers) [])
-      (sym (map-append (with_receivers s cs) (take i choices) (choice ∷ [])))
+      ∙ (λ j. with_first same_outcome (so_far j) (is j, choice))
+      ∙ sym (fold-append (with_first same_outcome) [] (map (with_outcome s k) (take i choices))
+      (with_outcome s k choice ∷ []))
+      ∙ ap (fold (with_first same_outcome) [])
+      (sym (map-append (with_outcome s k) (take i choices) (choice ∷ [])))
       ∙ ap (outcomes_after []) (sym more)

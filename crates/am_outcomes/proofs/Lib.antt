@@ -6,3 +6,8 @@ pub mod WalkLemmas
 pub mod WaysFound
 pub mod Gathered
 pub mod LineSteps
+pub mod HandlerReceivers
+pub mod AlikeRoutes
+pub mod RoutePairs
+pub mod ChangesFound
+pub mod ChangeSteps

@@ -12,22 +12,24 @@ use Rattle.am_universe.specs.Choice.{IsWhole, choices}
 use Rattle.am_labels.specs.Space.{Space, all_choices, is_possible_choice}
 use Rattle.am_config.specs.ConfigFile.{Configuration}
 use Rattle.am_search.proofs.ChoiceOrder.{in_filter}
-use Rattle.am_outcomes.specs.Outcomes.{have_same_receivers, with_receivers, outcomes_of}
-use Rattle.am_outcomes.specs.OutcomeLines.{names_of, same_names}
+use Rattle.am_outcomes.specs.Outcomes.{same_outcome, with_outcome, outcomes_of}
+use Rattle.am_report_texts.specs.ReceiverNames.{receiver_names}
+use Rattle.am_outcomes.specs.Configurations.{Configurations}
+use Rattle.am_outcomes.specs.Handling.{same_names}
 use Rattle.am_outcomes.proofs.FirstsLemmas.{first_is_one}
 
 -- ---- The outcome at a position.
 
 -- its choice is whole
-pub whole_at : (s : Space) (cs : List Configuration) (outcomes : List (List (List ℕ) × List ℕ))
+pub whole_at : (s : Space) (k : Configurations) (outcomes : List (List (List ℕ) × List ℕ))
     (u : List Label) (i : ℕ) (outcome : List (List ℕ) × List ℕ) → s.labels ≡ u
-    → outcomes ≡ outcomes_of s cs → slice_get outcomes i ≡ Some outcome
+    → outcomes ≡ outcomes_of s k → slice_get outcomes i ≡ Some outcome
     → IsWhole (sizes u) outcome.1
-whole_at s cs outcomes u i outcome labels are at =
-    let all = map (with_receivers s cs) (all_choices s) in
-    let there = in_at (outcomes_of s cs) i outcome (ap (λ os. slice_get os i) (sym are) ∙ at) in
-    let from = IsIn-unmap (with_receivers s cs) (all_choices s) outcome
-    (first_is_one have_same_receivers all outcome there) in
+whole_at s k outcomes u i outcome labels are at =
+    let all = map (with_outcome s k) (all_choices s) in
+    let there = in_at (outcomes_of s k) i outcome (ap (λ os. slice_get os i) (sym are) ∙ at) in
+    let from = IsIn-unmap (with_outcome s k) (all_choices s) outcome
+    (first_is_one same_outcome all outcome there) in
     let kept = in_filter (is_possible_choice s) (choices (sizes s.labels)) from.0 from.1 in
     subst₂ (λ (l : List Label) (o : List (List ℕ) × List ℕ). IsWhole (sizes l) o.1) labels from.2
     (whole_from_in (sizes s.labels) from.0 kept.0)
@@ -37,8 +39,8 @@ whole_at s cs outcomes u i outcome labels are at =
 -- the names from a position on decide whether all are the same
 abbrev pub SameFrom : Configuration → Configuration → List ℕ → List ℕ → ℕ → Type 0
 SameFrom old new before after i =
-    same_names (names_of old (drop i before)) (names_of new (drop i after))
-    ≡ same_names (names_of old before) (names_of new after)
+    same_names (receiver_names old (drop i before)) (receiver_names new (drop i after))
+    ≡ same_names (receiver_names old before) (receiver_names new after)
 
 -- ---- Lines.
 

@@ -1,20 +1,37 @@
--- Alerts that go the same way have the same receivers.
+-- Alerts that go the same way have the same outcome.
 use Rattle.std.proofs.Common.{◌≡◌, ℕ, ◌+◌, Bool, true, false, cond, List, [], ◌∷◌, ◌++◌, map}
 use Rattle.std.proofs.Common.{append_assoc, refl, ap, sym, ◌∙◌}
 use Rattle.std.specs.Prelude.{not, ◌&&◌}
-use Rattle.std.specs.List.{filter_map, flat_map}
+use Rattle.std.specs.List.{AllByRecursion, filter_map, flat_map}
 use Rattle.am_universe.specs.LabelSet.{LabelMap}
 use Rattle.am_labels.specs.Matcher.{all_hold}
 use Rattle.am_config.specs.ConfigFile.{Configuration, RouteTree, Routes, route, no_routes}
-use Rattle.am_config.specs.ConfigFile.{next_route, matchers_of, continues_of}
+use Rattle.am_config.specs.ConfigFile.{next_route, matchers_of, continues_of, options_of}
+use Rattle.am_config.specs.Path.{route_at}
 use Rattle.am_eval.specs.Routing.{Child, ends_at, children_seen, ends_tried, tried, or_own_path}
-use Rattle.am_eval.specs.Routing.{is_last, receiver_at}
-use Rattle.am_outcomes.specs.Outcomes.{receivers_under}
+use Rattle.am_eval.specs.Routing.{is_last, receiver_at, ends}
+use Rattle.am_differences.specs.Options.{differing_options}
+use Rattle.am_outcomes.specs.Configurations.{Configurations, One, Pair, each_of}
+use Rattle.am_outcomes.specs.Handling.{route_pairs}
+use Rattle.am_outcomes.specs.Outcomes.{outcome_of}
 use Rattle.am_outcomes.specs.Ways.{way_at, child_way, way}
 
 -- the ends at the children behind one, which may be the last that is tried
 abbrev ends_behind : Bool → List Child → List (List ℕ)
 ends_behind last cs = flat_map (λ c. c.ends) (cond last [] (tried cs))
+
+-- the outcome by the ends
+abbrev one_outcome : Configuration → List (List ℕ) → List (List ℕ)
+one_outcome c paths = filter_map (receiver_at c) paths ∷ []
+
+abbrev two_outcomes :
+    Configuration → Configuration → List (List ℕ) → List (List ℕ) → List (List ℕ)
+two_outcomes old new before after =
+    filter_map (receiver_at old) before ∷ filter_map (receiver_at new) after
+    ∷ differing_options (map (λ p. (options_of p.0, options_of p.1))
+    (route_pairs old new (filter_map (route_at old.root) before)
+    (filter_map (route_at new.root) after)))
+    ∷ []
 
 module _ (s z : LabelMap) where
   -- the route is matched by both or by neither, what follows its way is the same, and so are its
@@ -72,8 +89,18 @@ module _ (s z : LabelMap) where
         (continues_of t) x y one.0 (λ v w same. same_below ts v w same) one.1 in
         (later.0, λ i j. map (λ path. i ∷ path) (one.2 j) ++ later.1 (i + 1) j)
 
-  pub same_lists : (cs : List Configuration) → way s cs ≡ way z cs → receivers_under cs s ≡ receivers_under cs z
-  same_lists [] e = refl
-  same_lists (c ∷ cs) e =
-      let one = same_at c.root (way s cs) (way z cs) e in
-      let later = same_lists cs one.1 in λ j. filter_map (receiver_at c) (one.2 j) ∷ later j
+  -- the ends under each of some configurations are the same
+  abbrev HaveSameEnds : List Configuration → Type 0
+  HaveSameEnds cs = AllByRecursion (λ c. ends s c ≡ ends z c) cs
+
+  same_ends : (cs : List Configuration) → way s cs ≡ way z cs → HaveSameEnds cs
+  same_ends [] e = tt
+  same_ends (c ∷ cs) e =
+      let one = same_at c.root (way s cs) (way z cs) e in (one.2, same_ends cs one.1)
+
+  pub same_on_way : (k : Configurations) → way s (each_of k) ≡ way z (each_of k)
+      → outcome_of k s ≡ outcome_of k z
+  same_on_way (One c) e = ap (one_outcome c) (same_ends (c ∷ []) e).0
+  same_on_way (Pair old new) e =
+      let same = same_ends (old ∷ new ∷ []) e in
+      λ j. two_outcomes old new (same.0 j) (same.1.0 j)

@@ -1,7 +1,11 @@
+pub mod Configurations
+pub mod Handling
 pub mod Outcomes
 pub mod Ways
 pub mod RouteSteps
 pub mod Walks
 pub mod FirstsOfWays
 pub mod OutcomeLines
-pub mod ReceiversView
+pub mod Changes
+pub mod ChangeLines
+pub mod OutcomesView

@@ -1,23 +1,23 @@
 //! The outcomes of the alerts of a space.
 //!
-//! An *outcome* is the list of receivers under each configuration, with the first choice that has
-//! them. The receivers of the first choice of each way are looked up, in declared order, and of the
-//! choices with the same receivers the first is kept. Of all choices that have these receivers, it
-//! is the first in declared order.
+//! The outcome of the first choice of each way is looked up, in declared order, and of the choices
+//! with the same outcome the first is kept. Of all choices that have this outcome, it is the first
+//! in declared order.
 
 ghost use Rattle.std.specs.Prelude.{◌≡◌, ◌<◌, [], Some, length, slice_get, IfOk, IfSome, IfNone};
 ghost use Rattle.std.specs.List.Sorted.{IsSortedBy};
 ghost use Rattle.am_search.specs.Start.{comes_before};
-ghost use Rattle.am_outcomes.specs.ReceiversView.{configs_view, receivers_view};
+ghost use Rattle.am_outcomes.specs.Configurations.{configurations_of, each_of};
+ghost use Rattle.am_outcomes.specs.OutcomesView.{lists_view};
 ghost use Rattle.am_outcomes.specs.FirstsOfWays.{AreFirstsOfWays};
-ghost use Rattle.am_outcomes.specs.Outcomes.{receivers_under, outcomes_of};
+ghost use Rattle.am_outcomes.specs.Outcomes.{outcomes_of};
 ghost use Rattle.am_outcomes.specs.Ways.{HaveManyWays};
 
+use crate::configs::Configs;
+use crate::handling::outcome_of;
 use crate::ways::firsts_of_ways;
-use am_config::Config;
-use am_eval::receivers_of;
 use am_labels::Space;
-use am_universe::{Choice, LabelSet, set_of};
+use am_universe::{Choice, set_of};
 use indexmap::IndexMap;
 use std::alloc::{AllocError, Global};
 use std::marker::Model;
@@ -31,7 +31,7 @@ pub struct Outcomes {
 
 impl Model for Outcomes {
     ghost use Rattle.std.specs.Prelude.{List, ℕ, map};
-    ghost use Rattle.am_outcomes.specs.ReceiversView.{entry_view};
+    ghost use Rattle.am_outcomes.specs.OutcomesView.{entry_view};
 
     ghost Value = { List (List (List ℕ) × List ℕ) };
 
@@ -46,37 +46,59 @@ impl Outcomes {
         self.firsts.len()
     }
 
-    /// Returns the outcome at a position: the receivers under each configuration, by their
-    /// positions, and the first choice that has them. The position must be less than
-    /// [`Outcomes::len`].
+    /// Returns the outcome at a position, and the first choice that has it. The position must be
+    /// less than [`Outcomes::len`].
     pub fn get(&self, i: usize) -> (&[Vec<usize>], &Choice)
         requires { i < length self.now }
-        ensures outcome { slice_get self.now i ≡ Some (receivers_view result.0.now, result.1.now) }
+        ensures outcome { slice_get self.now i ≡ Some (lists_view result.0.now, result.1.now) }
     {
         match self.firsts.get_index(i) {
-            Some((receivers, first)) => (receivers.as_slice(), first),
+            Some((lists, first)) => (lists.as_slice(), first),
             None => unreachable!(),
         }
     }
 }
 
-/// Finds each outcome that some choice of a space has: the receivers to which its label set goes
-/// under each of some configurations, by their positions, and the first choice that has them.
-/// Returns `None` if there are more ways through the routes than there is room for. Fails only if
-/// memory runs out.
+/// Finds each outcome that some choice of a space has, and the first choice that has it. Returns
+/// `None` if there are more ways through the routes than there is room for. Fails only if memory
+/// runs out.
+///
+/// Under one configuration, the outcome of a choice is the list of the receivers to which its label
+/// set goes, by their positions. Under two, it is this list under each, and the positions of the
+/// options that differ at ends with receivers of the same name.
 pub fn find_outcomes(
     alloc: Global,
     space: &Space,
-    configs: &[&Config],
+    configs: Configs<'_>,
 ) -> Result<Option<Outcomes>, AllocError>
     ensures some { IfOk result (λ found. IfSome found (λ outcomes.
-        outcomes ≡ outcomes_of space.now (configs_view configs.now))) }
+        outcomes ≡ outcomes_of space.now (configurations_of configs.entry))) }
     ensures none { IfOk result (λ found. IfNone found
-        (HaveManyWays space.now (configs_view configs.now))) }
+        (HaveManyWays space.now (each_of (configurations_of configs.entry)))) }
 {
-    match firsts_of_ways(alloc, space, configs)? {
+    match firsts_of_each(alloc, space, configs)? {
         Some(firsts) => Ok(Some(outcomes_in(alloc, space, configs, firsts.as_slice())?)),
         None => Ok(None),
+    }
+}
+
+/// Finds the first choice of each way through the routes of the configurations, in declared order,
+/// as [`firsts_of_ways`] does.
+fn firsts_of_each(
+    alloc: Global,
+    space: &Space,
+    configs: Configs<'_>,
+) -> Result<Option<Vec<Choice>>, AllocError>
+    ensures firsts { IfOk result (λ found. IfSome found (λ firsts.
+        AreFirstsOfWays space.now (each_of (configurations_of configs.entry)) firsts.items)) }
+    ensures sorted { IfOk result (λ found. IfSome found (λ firsts.
+        IsSortedBy comes_before firsts.items)) }
+    ensures many { IfOk result (λ found. IfNone found
+        (HaveManyWays space.now (each_of (configurations_of configs.entry)))) }
+{
+    match configs {
+        Configs::One(config) => firsts_of_ways(alloc, space, &[config]),
+        Configs::Pair(old, new) => firsts_of_ways(alloc, space, &[old, new]),
     }
 }
 
@@ -85,37 +107,21 @@ pub fn find_outcomes(
 fn outcomes_in(
     alloc: Global,
     space: &Space,
-    configs: &[&Config],
+    configs: Configs<'_>,
     choices: &[Choice],
 ) -> Result<Outcomes, AllocError>
-    requires firsts { AreFirstsOfWays space.now (configs_view configs.now) choices.now }
+    requires firsts { AreFirstsOfWays space.now (each_of (configurations_of configs)) choices.now }
     requires sorted { IsSortedBy comes_before choices.now }
     ensures { IfOk result (λ outcomes.
-        outcomes ≡ outcomes_of space.now (configs_view configs.now)) }
+        outcomes ≡ outcomes_of space.now (configurations_of configs.entry)) }
 {
     let mut firsts = IndexMap::new(alloc);
     for choice in choices {
         let set = set_of(alloc, space.universe(), choice)?;
-        let receivers = receivers_under(alloc, configs, &set)?;
-        if !firsts.contains_key(&receivers) {
-            firsts.insert(receivers, *choice)?;
+        let lists = outcome_of(alloc, configs, &set)?;
+        if !firsts.contains_key(&lists) {
+            firsts.insert(lists, *choice)?;
         }
     }
     Ok(Outcomes { firsts })
-}
-
-/// Returns the receivers of a label set under each configuration.
-fn receivers_under(
-    alloc: Global,
-    configs: &[&Config],
-    set: &LabelSet,
-) -> Result<Vec<Vec<usize>>, AllocError>
-    ensures { IfOk result (λ lists.
-        receivers_view lists.items ≡ receivers_under (configs_view configs.now) set.now) }
-{
-    let mut lists = Vec::with_capacity(alloc, configs.len())?;
-    for config in configs {
-        lists.push(receivers_of(alloc, config, set)?)?;
-    }
-    Ok(lists)
 }

@@ -1,12 +1,11 @@
-//! To which receivers the alerts of a space go, under one configuration or under each of several
-//! that are compared.
+//! What becomes of the alerts of a space, under one configuration or under two that are compared.
 //!
 //! [`find_outcomes`] lists each outcome that some choice has, with the first choice that has it. It
 //! does not go through the choices one by one. It goes through the routes, of one configuration
 //! after the other, and where an alert may match a route or not it goes on with both. What is at
-//! the end of such a walk is one *way* through the routes. All alerts that go it have the same
-//! receivers. [`outcomes_report`] and [`changes_report`] have a line for each outcome, or for each
-//! one that differs between two configurations.
+//! the end of such a walk is one *way* through the routes. All alerts that go it end at the same
+//! routes, and so have the same outcome. [`outcomes_report`] has a line for each outcome, and
+//! [`compare_outcomes`] one for each that differs between two configurations.
 #![tactic(auto)]
 
 // The limit of the search.
@@ -17,9 +16,21 @@ mod route_steps;
 mod walks;
 mod ways;
 
-// The outcomes that are found, and their lines.
+// The outcomes of alerts, and those that are found.
+mod configs;
 mod found;
+mod handling;
+
+pub use configs::Configs;
+pub use found::{Outcomes, find_outcomes};
+
+// The lines of outcomes.
 mod outcome_lines;
 
-pub use found::{Outcomes, find_outcomes};
-pub use outcome_lines::{changes_report, outcomes_report};
+pub use outcome_lines::outcomes_report;
+
+// The outcomes that are changes, and their lines.
+mod change_lines;
+mod changes;
+
+pub use change_lines::{Comparison, compare_outcomes};

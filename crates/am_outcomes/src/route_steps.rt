@@ -6,7 +6,7 @@
 
 ghost use Rattle.std.specs.Prelude.{◌≡◌, ◌≤◌, ◌++◌, List, length, IfOk};
 ghost use Rattle.am_config.specs.RouteView.{route_view};
-ghost use Rattle.am_outcomes.specs.ReceiversView.{configs_view};
+ghost use Rattle.am_outcomes.specs.OutcomesView.{configs_view};
 ghost use Rattle.am_outcomes.specs.RouteSteps.{AreSteps, GoesThrough, GoesPast};
 
 use am_config::{Config, Route};

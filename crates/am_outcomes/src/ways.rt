@@ -11,7 +11,7 @@ ghost use Rattle.std.specs.List.Sorted.{IsSortedBy};
 ghost use Rattle.am_config.specs.ConfigFile.{Configuration};
 ghost use Rattle.am_search.specs.Start.{comes_before};
 ghost use Rattle.am_first_sets.specs.PossibleSets.{possible_space};
-ghost use Rattle.am_outcomes.specs.ReceiversView.{configs_view};
+ghost use Rattle.am_outcomes.specs.OutcomesView.{configs_view};
 ghost use Rattle.am_outcomes.specs.FirstsOfWays.{AreFirstsOfWays};
 ghost use Rattle.am_outcomes.specs.RouteSteps.{AreSteps, GoesThrough};
 ghost use Rattle.am_outcomes.specs.Ways.{HaveManyWays};

@@ -20,8 +20,9 @@ use Rattle.am_complete.specs.AskedLabel.{AskedLabel}
 use Rattle.am_complete.specs.LabelState.{IsSoAt, IsSoIfNamed, is_settled, reported_names}
 use Rattle.am_complete.proofs.CompleteUniverses.{space_complete_without_matchers}
 use Rattle.am_complete.proofs.Pushed.{got_front}
-use Rattle.am_reports.specs.Configurations.{Configurations, routing_matchers}
-use Rattle.am_reports.specs.Configurations.{labels_of_routes}
+use Rattle.am_outcomes.specs.Configurations.{Configurations}
+use Rattle.am_reports.specs.RoutingLabels.{routing_matchers}
+use Rattle.am_reports.specs.RoutingLabels.{labels_of_routes}
 use Rattle.am_reports.specs.Made.{AreDeclaredWhole, IsDeclaredRefusal, LacksValue, IsUndecided}
 use Rattle.am_reports.specs.Made.{IsStateRefusal}
 

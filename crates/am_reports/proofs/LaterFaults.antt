@@ -18,7 +18,8 @@ use Rattle.am_complete.specs.declared.origin.Origin.TheVariants as origin_is
 use Rattle.am_asked.specs.OriginPointer.{matcher_places}
 use Rattle.am_files.proofs.FirstFaults.{refused_later}
 use Rattle.am_asked.proofs.MatcherPlaces.{origin_in}
-use Rattle.am_reports.specs.Configurations.{Configurations, One, Pair, asks_of, first_place}
+use Rattle.am_outcomes.specs.Configurations.{Configurations, One, Pair}
+use Rattle.am_reports.specs.RoutingLabels.{asks_of, first_place}
 use Rattle.am_reports.specs.ReportInputs.{ReportInputs, AcceptsReportInputs}
 use Rattle.am_reports.specs.CompareInputs.{CompareInputs, AcceptsCompareInputs}
 use Rattle.am_reports.specs.LintInputs.{LintInputs, AcceptsLintInputs}

@@ -4,5 +4,6 @@ pub mod EachLine
 pub mod RoutesFound
 pub mod KeptItems
 pub mod OutcomesOver
+pub mod OnlyUnder
 pub mod ChangeLemmas
 pub mod WrittenBeside

@@ -19,7 +19,7 @@ use Rattle.am_lint.proofs.Transfer.{StandsForAlerts}
 use Rattle.am_lint.proofs.FoundLemmas.{IsFoundSo}
 use Rattle.am_lint.proofs.FoundOver.{found_over_ascii, found_over_unicode}
 use Rattle.am_every_alert.specs.Deciding.{space_of}
-use Rattle.am_reports.specs.Configurations.{One}
+use Rattle.am_outcomes.specs.Configurations.{One}
 use Rattle.am_reports.specs.Made.{StandsForAll, alphabet_over}
 
 -- what is found about each route is true, with choices of some labels and, for every alert, of

@@ -10,7 +10,7 @@ use Rattle.am_json.specs.Pointer.{Refusal, refusal_here}
 use Rattle.am_classes.specs.declared.alphabet.Alphabet.{Alphabet}
 use Rattle.am_every_alert.specs.Deciding.{space_of}
 use Rattle.am_outcomes.specs.Ways.{HaveManyWays}
-use Rattle.am_reports.specs.Configurations.{Configurations, each_of}
+use Rattle.am_outcomes.specs.Configurations.{Configurations, each_of}
 use Rattle.am_reports.specs.Made.{StandsForAll, IsDeclaredRefusal, IsMadeRefusal, AreDeclaredWhole}
 
 -- A universe can be made, but with it there are more ways through the routes than there is room

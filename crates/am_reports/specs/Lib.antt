@@ -1,5 +1,4 @@
-pub mod Configurations
-pub mod ConfigsView
+pub mod RoutingLabels
 pub mod ReportInputs
 pub mod LintInputs
 pub mod CompareInputs

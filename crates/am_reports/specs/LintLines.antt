@@ -23,7 +23,7 @@ use Rattle.am_idle.specs.Silences.{IsSilenceFinding, IsFirstRefused}
 use Rattle.am_idle.specs.SilenceLines.{silence_lines}
 use Rattle.am_idle.specs.declared.rules.IdleReason.{IdleReason}
 use Rattle.am_idle.specs.declared.silences.SilenceFinding.{SilenceFinding}
-use Rattle.am_reports.specs.Configurations.{One}
+use Rattle.am_outcomes.specs.Configurations.{One}
 use Rattle.am_reports.specs.Made.{StandsForAll}
 
 -- The report of these lines, which ends with the numbers of findings and notes.

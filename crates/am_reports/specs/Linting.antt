@@ -9,7 +9,7 @@ use Rattle.am_eval.specs.World.{World}
 use Rattle.am_files.specs.Promise.{Promise}
 use Rattle.am_classes.specs.declared.alphabet.Alphabet.{Alphabet}
 use Rattle.am_asked.specs.Made.{undeclared}
-use Rattle.am_reports.specs.Configurations.{One}
+use Rattle.am_outcomes.specs.Configurations.{One}
 use Rattle.am_reports.specs.LintInputs.{LintInputs, AcceptsLintInputs, lint_input_stages}
 use Rattle.am_files.specs.Faults.{later_stages}
 use Rattle.am_asked.specs.OriginPointer.{matcher_places}

@@ -23,9 +23,9 @@ use Rattle.am_classes.specs.Limits.{MayBePastLimits}
 use Rattle.am_every_alert.specs.Deciding.{StandsFor, space_of}
 use Rattle.am_asked.specs.OriginPointer.{origin_pointer}
 use Rattle.am_asked.specs.Made.{NoRoomFor, UnprovedFor}
-use Rattle.am_reports.specs.Configurations.{Configurations, One}
-use Rattle.am_reports.specs.Configurations.{matchers_of_routes, routing_matchers}
-use Rattle.am_reports.specs.Configurations.{labels_of_routes, first_place}
+use Rattle.am_outcomes.specs.Configurations.{Configurations, One}
+use Rattle.am_reports.specs.RoutingLabels.{matchers_of_routes, routing_matchers}
+use Rattle.am_reports.specs.RoutingLabels.{labels_of_routes, first_place}
 
 -- A universe stands for every alert over an alphabet that no impossible list matches: it is
 -- complete for the matchers of the routes and of these lists, its texts are over the alphabet, and

@@ -10,7 +10,7 @@ use Rattle.am_classes.specs.declared.alphabet.Alphabet.{Alphabet}
 use Rattle.am_outcomes.specs.OutcomeLines.{outcomes_report}
 use Rattle.am_report_texts.specs.declared.writing.Form.{Form}
 use Rattle.am_report_texts.specs.Written.{IsWritten}
-use Rattle.am_reports.specs.Configurations.{One}
+use Rattle.am_outcomes.specs.Configurations.{One}
 use Rattle.am_files.specs.Faults.{later_stages}
 use Rattle.am_asked.specs.OriginPointer.{matcher_places}
 use Rattle.am_reports.specs.ReportInputs.{ReportInputs, AcceptsReportInputs, report_input_stages}

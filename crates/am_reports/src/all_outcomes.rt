@@ -2,7 +2,7 @@
 //!
 //! The space is made in memory, over all texts or over those of printable ASCII. Its universe is
 //! complete for the routes of all configurations of the call together, and for the impossible
-//! lists. So each alert has the receivers of a choice, under both configurations at once, and each
+//! lists. So each alert has the outcome of a choice, under both configurations at once, and each
 //! choice is an alert. The labels are in the order in which the files first ask about them, the
 //! old configuration before the new one.
 
@@ -11,19 +11,17 @@ ghost use Rattle.am_universe.specs.declared.kind.Kind.TheVariants as kinds;
 ghost use Rattle.am_universe.specs.declared.place.Place.TheVariants as places;
 ghost use Rattle.am_json.specs.Pointer.{refusal_here};
 ghost use Rattle.am_json.specs.Reading.{refusal_of};
+ghost use Rattle.am_outcomes.specs.Configurations.{configurations_of, each_of};
 ghost use Rattle.am_outcomes.specs.Outcomes.{outcomes_of};
 ghost use Rattle.am_outcomes.specs.Ways.{HaveManyWays};
-ghost use Rattle.am_reports.specs.Configurations.{each_of};
-ghost use Rattle.am_reports.specs.ConfigsView.{configurations_of};
 ghost use Rattle.am_reports.specs.Made.{AreDeclaredWhole};
 ghost use Rattle.am_reports.specs.AllOutcomes.{AreAllOutcomes};
 ghost use Rattle.am_reports.specs.LaterStages.{IsOutcomesRefusal};
 
-use crate::configs::Configs;
 use crate::made::{check_declared, universe_for_routes};
 use am_classes::Alphabet;
 use am_labels::Space;
-use am_outcomes::{Outcomes, find_outcomes};
+use am_outcomes::{Configs, Outcomes, find_outcomes};
 use am_universe::{Fault, Kind, Place, Universe};
 use std::alloc::Global;
 
@@ -64,17 +62,13 @@ fn outcomes_of_choices(
     configs: Configs<'_>,
 ) -> Result<Outcomes, Fault>
     ensures outcomes { IfOk result (λ outcomes.
-        outcomes ≡ outcomes_of space.now (each_of (configurations_of configs.entry))) }
+        outcomes ≡ outcomes_of space.now (configurations_of configs.entry)) }
     ensures refused { IfErr result (λ fault. fault.kind ≢ kinds.Memory
         → (fault.place ≡ places.Universe)
         × HaveManyWays space.now (each_of (configurations_of configs.entry))
         × (refusal_of fault ≡ refusal_here kinds.Limit)) }
 {
-    let found = match configs {
-        Configs::One(config) => find_outcomes(alloc, space, &[config]),
-        Configs::Pair(old, new) => find_outcomes(alloc, space, &[old, new]),
-    };
-    match found {
+    match find_outcomes(alloc, space, configs) {
         Ok(Some(found)) => Ok(found),
         Ok(None) => Err(Fault::at(alloc, Kind::Limit, Place::Universe)),
         Err(_) => Err(Fault::memory(alloc)),

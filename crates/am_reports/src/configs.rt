@@ -1,4 +1,4 @@
-//! The configurations of a call.
+//! The labels that the configurations of a call ask about.
 
 ghost use Rattle.std.specs.Prelude.{◌≡◌, ◌≢◌, IfOk};
 ghost use Rattle.std.specs.List.{list_any};
@@ -7,23 +7,17 @@ ghost use Rattle.am_universe.specs.declared.kind.Kind.TheVariants as kinds;
 ghost use Rattle.am_json.specs.Reading.{refusal_of};
 ghost use Rattle.am_config.specs.ConfigView.{config_view};
 ghost use Rattle.am_complete.specs.AskedLabel.{IsAskedOf};
-ghost use Rattle.am_reports.specs.Configurations.{routing_matchers, labels_of_routes, asks_of};
-ghost use Rattle.am_reports.specs.ConfigsView.{configurations_of};
+ghost use Rattle.am_reports.specs.RoutingLabels.{routing_matchers, labels_of_routes, asks_of};
+ghost use Rattle.am_outcomes.specs.Configurations.{configurations_of};
 ghost use Rattle.am_reports.specs.Made.{IsUnprovedAt};
 
 use am_asked::{asked_by_both, asked_by_routes, unproved_fault};
 use am_complete::{AskedLabel, Origin};
 use am_config::Config;
 use am_labels::Space;
+use am_outcomes::Configs;
 use am_universe::{Fault, Place};
 use std::alloc::{AllocError, Global};
-
-/// One configuration, or an old one and a new one that is compared with it.
-#[derive(Clone, Copy)]
-pub(crate) enum Configs<'a> {
-    One(&'a Config),
-    Pair(&'a Config, &'a Config),
-}
 
 /// The labels that the routes of the configurations ask about, and then those that the impossible
 /// lists of a space ask about. Fails only if memory runs out.

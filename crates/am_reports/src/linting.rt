@@ -15,7 +15,6 @@ ghost use Rattle.am_files.specs.Promise.{IsKept};
 ghost use Rattle.am_reports.specs.Linting.{lint_promise, IsLinted, IsLintRefusal};
 
 use crate::LintInputs;
-use crate::configs::Configs;
 use crate::lint_inputs::read_lint_inputs;
 use crate::listed_findings::{push_rules, push_silences, rule_findings, silence_findings};
 use crate::made::check_declared;
@@ -26,6 +25,7 @@ use am_idle::{IdleReason, SilenceFinding};
 use am_labels::Space;
 use am_lint::{count_pieces, push_lint_lines};
 use am_list_files::Alerts;
+use am_outcomes::Configs;
 use am_report_texts::{Form, Line, Report, count_findings, count_notes, written};
 use am_universe::{Fault, Sink, answer_of_write, put_str};
 use am_unseen::{push_unseen, unseen_values};

@@ -6,15 +6,16 @@ ghost use Rattle.am_universe.specs.declared.kind.Kind.TheVariants as kinds;
 ghost use Rattle.am_universe.specs.declared.place.Place.TheVariants as places;
 ghost use Rattle.am_json.specs.Reading.{refusal_of};
 ghost use Rattle.am_complete.specs.LabelState.{is_settled};
-ghost use Rattle.am_reports.specs.ConfigsView.{configurations_of};
+ghost use Rattle.am_outcomes.specs.Configurations.{configurations_of};
 ghost use Rattle.am_reports.specs.Made.{StandsForAll, AreDeclaredWhole, IsMadeRefusal};
 ghost use Rattle.am_reports.specs.Made.{IsDeclaredRefusal, IsStateRefusal};
 
-use crate::configs::{Configs, labels_asked, unproved_label};
+use crate::configs::{labels_asked, unproved_label};
 use am_asked::universe_for;
 use am_classes::Alphabet;
 use am_complete::{Completeness, LabelState, label_states};
 use am_labels::Space;
+use am_outcomes::Configs;
 use am_universe::{Fault, Kind, Place, Universe};
 use std::alloc::Global;
 

@@ -5,9 +5,8 @@ ghost use Rattle.am_reports.specs.OutcomesReport.{outcomes_promise};
 
 use crate::ReportInputs;
 use crate::all_outcomes::all_outcomes;
-use crate::configs::Configs;
 use crate::report_inputs::read_inputs;
-use am_outcomes::outcomes_report;
+use am_outcomes::{Configs, outcomes_report};
 use am_report_texts::written;
 use am_universe::{Fault, Sink, answer_of_write, put_str};
 use std::alloc::Global;

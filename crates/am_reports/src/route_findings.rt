@@ -13,17 +13,17 @@ ghost use Rattle.am_json.specs.Reading.{refusal_of};
 ghost use Rattle.am_config.specs.ConfigView.{config_view};
 ghost use Rattle.am_lint.specs.FoundView.{said_of, IsShown};
 ghost use Rattle.am_lint.specs.LintLines.{report_lines};
-ghost use Rattle.am_reports.specs.Configurations.{One};
+ghost use Rattle.am_outcomes.specs.Configurations.{One};
 ghost use Rattle.am_reports.specs.LintLines.{SaysOfAllRoutes};
 ghost use Rattle.am_reports.specs.Made.{StandsForAll, IsMadeRefusal, IsRoutesRefusal};
 ghost use Rattle.am_reports.specs.Made.{alphabet_over};
 
-use crate::configs::Configs;
 use crate::made::universe_for_routes;
 use am_classes::Alphabet;
 use am_config::Config;
 use am_labels::Space;
 use am_lint::{FoundRoute, ReceiverFinding, found_receivers, found_routes, look_further};
+use am_outcomes::Configs;
 use am_universe::{Fault, Universe};
 use std::alloc::{AllocError, Global};
 

@@ -1,4 +1,4 @@
-use Rattle.std.proofs.Common.{[], ◌∷◌}
+use Rattle.am_outcomes.specs.Configurations.{One}
 use Rattle.std.proofs.lemmas.List.{map_push}
 use Rattle.am_config.specs.ConfigView.{config_view}
 use Rattle.am_judged_lists.proofs.RowLemmas.{mapped_more}
@@ -8,7 +8,7 @@ use Rattle.am_outcomes.proofs.outcome_lines.outcomes_report.Goals as goal
 
 pub outcome_line-requires : goal.outcome_line-requires
 outcome_line-requires c =
-    whole_at c.requires.0 (config_view c.args.config.now ∷ []) c.args.outcomes.now
+    whole_at c.requires.0 (One (config_view c.args.config.now)) c.args.outcomes.now
     c.args.universe.now c.loop-i.i _ c.requires.1 c.requires.2 c.get.ensures.outcome
 
 pub loop-i-preserved : goal.loop-i-preserved

@@ -3,7 +3,7 @@ use Rattle.std.proofs.lemmas.List.{drop_all}
 use Rattle.am_config.specs.ConfigFile.{Configuration}
 use Rattle.am_config.specs.ConfigView.{config_view}
 use Rattle.am_outcomes.specs.declared.route_steps.RouteStep.{RouteStep}
-use Rattle.am_outcomes.specs.ReceiversView.{configs_view}
+use Rattle.am_outcomes.specs.OutcomesView.{configs_view}
 use Rattle.am_outcomes.specs.RouteSteps.{AreSteps, GoesThrough, GoesPast}
 use Rattle.am_outcomes.proofs.StepLemmas.{through_more, next_from_behind, no_steps}
 use Rattle.am_outcomes.proofs.route_steps.route_steps.Goals as goal

@@ -1,5 +1,5 @@
 use Rattle.std.proofs.Common.{◌-◌, length, drop}
-use Rattle.am_outcomes.specs.ReceiversView.{configs_view}
+use Rattle.am_outcomes.specs.OutcomesView.{configs_view}
 use Rattle.am_outcomes.specs.RouteSteps.{AreSteps, GoesThrough}
 use Rattle.am_outcomes.proofs.route_steps.route_steps.Given as goal
 

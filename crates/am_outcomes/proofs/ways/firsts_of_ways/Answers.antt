@@ -1,6 +1,6 @@
 use Rattle.std.proofs.Common.{rules, ap, sym, ◌∙◌, subst}
 use Rattle.am_labels.specs.Space.{Space}
-use Rattle.am_outcomes.specs.ReceiversView.{configs_view}
+use Rattle.am_outcomes.specs.OutcomesView.{configs_view}
 use Rattle.am_outcomes.specs.FirstsOfWays.{AreFirstsOfWays}
 use Rattle.am_outcomes.specs.Ways.{HaveManyWays}
 use Rattle.am_outcomes.proofs.WaysFound.{permuted, sorted_by_closure}

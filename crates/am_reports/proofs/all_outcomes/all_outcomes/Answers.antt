@@ -8,11 +8,10 @@ use Rattle.am_labels.specs.Space.{Space}
 use Rattle.am_json.specs.Reading.{refusal_of}
 use Rattle.am_files.proofs.FirstFaults.{handed_on}
 use Rattle.am_classes.specs.declared.alphabet.Alphabet.{Alphabet}
+use Rattle.am_outcomes.specs.Configurations.{Configurations, configurations_of, each_of}
 use Rattle.am_outcomes.specs.Outcomes.{outcomes_of}
 use Rattle.am_outcomes.specs.Ways.{HaveManyWays}
 use Rattle.am_every_alert.specs.Deciding.{space_of}
-use Rattle.am_reports.specs.Configurations.{Configurations, each_of}
-use Rattle.am_reports.specs.ConfigsView.{configurations_of}
 use Rattle.am_reports.specs.AllOutcomes.{AreAllOutcomes}
 use Rattle.am_reports.specs.LaterStages.{IsOutcomesRefusal}
 use Rattle.am_reports.specs.Made.{StandsForAll}
@@ -90,5 +89,5 @@ returns-clause-are c =
     subst (λ (v : List Label). AreAllOutcomes c.args.alphabet s k v outcomes)
     (sym c.declare-2.ensures.labels)
     (outcomes_are c.args.alphabet s k u (stands at) outcomes
-    (subst (λ (t : Space). outcomes ≡ outcomes_of t (each_of k)) (made at) order)))
+    (subst (λ (t : Space). outcomes ≡ outcomes_of t k) (made at) order)))
     c.outcomes_of_choices.ensures.outcomes

@@ -1,15 +1,11 @@
 -- The faults of the inputs come first, and the comparison is what is written.
-use Rattle.std.proofs.Common.{◌≡◌, Ok, length, refl, sym, ap, ◌∙◌, string_bytes, arith}
-use Rattle.std.proofs.lemmas.List.{length-map}
+use Rattle.std.proofs.Common.{Ok, refl, sym, ap, string_bytes}
 use Rattle.std.specs.Result.{result_and}
 use Rattle.am_json.specs.Reading.{refusal_of}
 use Rattle.am_config.specs.ConfigView.{config_view}
 use Rattle.am_files.proofs.FirstFaults.{first_of_more}
 use Rattle.am_files.proofs.Promises.{refused, written}
 use Rattle.am_every_alert.specs.Deciding.{space_of}
-use Rattle.am_report_texts.specs.Line.{Report}
-use Rattle.am_report_texts.specs.LineView.{line_view}
-use Rattle.am_outcomes.specs.OutcomeLines.{changes_of}
 use Rattle.am_files.specs.Faults.{later_stages}
 use Rattle.am_asked.specs.OriginPointer.{matcher_places}
 use Rattle.am_reports.specs.CompareInputs.{CompareInputs, compare_input_stages}
@@ -46,11 +42,11 @@ returns-in_err-outcomes g c =
           at (c.in_err-outcomes.ensures.refused remembered)));
     }
 
-pub changes_report-requires : goal.changes_report-requires
-changes_report-requires g c =
+pub compare_outcomes-requires : goal.compare_outcomes-requires
+compare_outcomes-requires g c =
     let u = c.all_outcomes.new.space.labels in (
       space_of c.in_ok-read.read.space.impossible u,
-      sym c.universe.ensures.labels,
+      sym c.universe-universe.ensures.labels,
       c.in_ok-outcomes.ensures.are.order,
     )
 
@@ -60,15 +56,11 @@ returns g c =
     let s = c.in_ok-read.read.space in
     let old = config_view c.in_ok-read.read.old in
     let new = config_view c.in_ok-read.read.new in
-    let after = c.all_outcomes.new.space in
-    let outcomes = c.in_ok-outcomes.outcomes in
-    let count = c.len-count.result in
+    let accepts = c.in_ok-read.ensures.accepts in
+    let count = c.in-Ok.compared.changes in
     let over = ap (λ (i : CompareInputs). i.alphabet) c.inputs.view_is in
     let formed = ap (λ (i : CompareInputs). i.form) c.inputs.view_is in
-    let reported = rw c.universe.ensures.labels at c.in-Ok.ensures.report in
-    let lines : length c.in-Ok.report.lines.items ≡ length (changes_of old new outcomes) =
-    sym (length-map _ line_view) ∙ ap (λ (r : Report). length r.lines) reported ∙ length-map _ _ in
-    let counted : count ≡ length (changes_of old new outcomes) = omega arith in
+    let reported = rw c.universe-universe.ensures.labels at c.in-Ok.ensures.report in
     record {
       kept = written (compare_promise inputs) count (string_bytes c.in-Ok-written.text)
           (result_and c.put_str.result (Ok count)) c.answer_of_write.result
@@ -76,11 +68,13 @@ returns g c =
             space = s;
             old = old;
             new = new;
-            accepts = c.in_ok-read.ensures.accepts;
+            accepts = accepts;
             whole = rw over at c.in_ok-outcomes.ensures.whole;
-            compares = compared inputs.alphabet s old new after.labels outcomes
-                (rw over at c.in_ok-outcomes.ensures.are) inputs.form count _
-                counted
+            compares = compared inputs.alphabet s old new c.all_outcomes.new.space.labels
+                c.in_ok-outcomes.outcomes
+                (rw over at c.in_ok-outcomes.ensures.are)
+                accepts.says_old.3.distinct accepts.says_new.3.distinct inputs.form count _
+                c.in-Ok.ensures.changes
                 (rw (formed, reported) at c.in-Ok-written.ensures.written);
           })
           (told_beside c.put_str.result count)

@@ -5,9 +5,9 @@ use Rattle.am_config.specs.ConfigView.{config_view}
 use Rattle.am_complete.specs.AskedLabel.{IsAskedOf}
 use Rattle.am_complete.specs.Complete.{impossible_matchers}
 use Rattle.am_asked.specs.Asked.{route_matchers}
-use Rattle.am_reports.specs.declared.configs.Configs.{Configs}
-use Rattle.am_reports.specs.Configurations.{routing_matchers}
-use Rattle.am_reports.specs.ConfigsView.{configurations_of}
+use Rattle.am_outcomes.specs.declared.configs.Configs.{Configs}
+use Rattle.am_reports.specs.RoutingLabels.{routing_matchers}
+use Rattle.am_outcomes.specs.Configurations.{configurations_of}
 use Rattle.am_reports.proofs.configs.labels_asked.Goals as goal
 
 pub returns-in-Pair-clause-asked : goal.returns-in-Pair-clause-asked

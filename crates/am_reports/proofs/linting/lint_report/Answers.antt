@@ -10,7 +10,7 @@ use Rattle.am_config.specs.ConfigFile.{Configuration}
 use Rattle.am_eval.specs.World.{World}
 use Rattle.am_files.proofs.FirstFaults.{handed_on}
 use Rattle.am_classes.specs.declared.alphabet.Alphabet.{Alphabet}
-use Rattle.am_reports.specs.Configurations.{One}
+use Rattle.am_outcomes.specs.Configurations.{One}
 use Rattle.am_idle.specs.Rules.{IsRuleFinding}
 use Rattle.am_idle.specs.RuleLines.{rule_lines, HasPositionsIfAny}
 use Rattle.am_idle.specs.Silences.{IsSilenceFinding}

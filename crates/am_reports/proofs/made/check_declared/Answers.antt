@@ -13,9 +13,9 @@ use Rattle.am_complete.specs.LabelState.{IsSoAt}
 use Rattle.am_complete.specs.Complete.{impossible_matchers}
 use Rattle.am_complete.proofs.AmongMatchers.{last_among}
 use Rattle.am_complete.proofs.Pushed.{one_more_passes}
-use Rattle.am_reports.specs.Configurations.{matchers_of_routes, routing_matchers}
-use Rattle.am_reports.specs.Configurations.{labels_of_routes}
-use Rattle.am_reports.specs.ConfigsView.{configurations_of}
+use Rattle.am_reports.specs.RoutingLabels.{matchers_of_routes, routing_matchers}
+use Rattle.am_reports.specs.RoutingLabels.{labels_of_routes}
+use Rattle.am_outcomes.specs.Configurations.{configurations_of}
 use Rattle.am_reports.specs.Made.{IsDeclaredRefusal, IsDeclaredWhole, IsStateRefusal}
 use Rattle.am_reports.proofs.DeclaredStates.{told_at, whole_by, refused_by}
 use Rattle.am_reports.proofs.made.check_declared.Goals as goal

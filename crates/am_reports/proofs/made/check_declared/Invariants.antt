@@ -1,5 +1,5 @@
 use Rattle.std.proofs.Common.{take}
-use Rattle.am_reports.specs.ConfigsView.{configurations_of}
+use Rattle.am_outcomes.specs.Configurations.{configurations_of}
 use Rattle.am_reports.specs.Made.{AreDeclaredWhole}
 use Rattle.am_reports.proofs.made.check_declared.Given as goal
 

@@ -10,9 +10,9 @@ use Rattle.am_complete.specs.Complete.{impossible_matchers}
 use Rattle.am_complete.proofs.AmongMatchers.{last_among}
 use Rattle.am_asked.specs.Made.{NoRoomFor, IsFirstUnproved}
 use Rattle.am_asked.proofs.Undeclared.{undeclared_is}
-use Rattle.am_reports.specs.Configurations.{matchers_of_routes, routing_matchers}
-use Rattle.am_reports.specs.Configurations.{labels_of_routes}
-use Rattle.am_reports.specs.ConfigsView.{configurations_of}
+use Rattle.am_reports.specs.RoutingLabels.{matchers_of_routes, routing_matchers}
+use Rattle.am_reports.specs.RoutingLabels.{labels_of_routes}
+use Rattle.am_outcomes.specs.Configurations.{configurations_of}
 use Rattle.am_reports.specs.Made.{IsMadeRefusal}
 use Rattle.am_reports.proofs.made.universe_for_routes.Goals as goal
 use Rattle.am_reports.proofs.made.universe_for_routes.Goals.{After-as_slice}

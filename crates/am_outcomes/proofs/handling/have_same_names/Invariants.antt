@@ -1,6 +1,6 @@
 use Rattle.am_config.specs.ConfigView.{config_view}
 use Rattle.am_outcomes.proofs.LineSteps.{SameFrom}
-use Rattle.am_outcomes.proofs.outcome_lines.have_same_names.Given as goal
+use Rattle.am_outcomes.proofs.handling.have_same_names.Given as goal
 
 -- the names that are left decide
 abbrev pub invariant-loop-i : goal.invariant-loop-i

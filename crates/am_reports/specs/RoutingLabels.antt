@@ -1,5 +1,5 @@
--- The configurations of a call, and the labels that they ask about. (This project's own.)
-use Rattle.std.specs.Prelude.{ℕ, List, [], ◌∷◌, ◌++◌, Bool, if◌then◌else◌}
+-- The labels that the configurations of a call ask about. (This project's own.)
+use Rattle.std.specs.Prelude.{ℕ, List, [], ◌++◌, Bool, if◌then◌else◌}
 use Rattle.std.specs.List.{list_any}
 use Rattle.am_universe.specs.declared.place.Place.{Place}
 use Rattle.am_universe.specs.declared.place.Place.TheVariants as places
@@ -7,6 +7,7 @@ use Rattle.am_universe.specs.Text.{same_text}
 use Rattle.am_labels.specs.Matcher.{Matcher}
 use Rattle.am_labels.specs.Space.{Space}
 use Rattle.am_config.specs.ConfigFile.{Configuration}
+use Rattle.am_outcomes.specs.Configurations.{Configurations, One, Pair}
 use Rattle.am_complete.specs.declared.origin.Origin.{Origin}
 use Rattle.am_complete.specs.declared.origin.Origin.TheVariants as origin_is
 use Rattle.am_complete.specs.AskedLabel.{AskedLabel, asked_labels}
@@ -14,16 +15,6 @@ use Rattle.am_complete.specs.Complete.{impossible_matchers}
 use Rattle.am_asked.specs.Asked.{route_matchers}
 use Rattle.am_asked.specs.Placed.{placed_in_routes, placed_in_lists}
 use Rattle.am_asked.specs.OriginPointer.{origin_place}
-
--- One configuration, or an old one and a new one that is compared with it.
-pub data Configurations : Type 0 where
-  One : Configuration → Configurations
-  Pair : Configuration → Configuration → Configurations
-
--- The configurations, in order.
-abbrev pub each_of : Configurations → List Configuration
-each_of (One c) = c ∷ []
-each_of (Pair old new) = old ∷ new ∷ []
 
 -- The matchers of the routes of each configuration.
 abbrev pub matchers_of_routes : Configurations → List Matcher

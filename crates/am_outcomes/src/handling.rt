@@ -1,0 +1,152 @@
+//! The outcomes of alerts: at which routes they end, and what these do with them.
+
+ghost use Rattle.std.specs.Prelude.{◌≡◌, find, map, option_map, IfOk};
+ghost use Rattle.am_config.specs.ConfigFile.{receiver_of};
+ghost use Rattle.am_config.specs.ConfigView.{config_view};
+ghost use Rattle.am_config.specs.RouteView.{route_view};
+ghost use Rattle.am_report_texts.specs.ReceiverNames.{receiver_names};
+ghost use Rattle.am_outcomes.specs.Configurations.{configurations_of};
+ghost use Rattle.am_outcomes.specs.Handling.{handling_routes, has_receiver, route_pairs};
+ghost use Rattle.am_outcomes.specs.Handling.{same_names, without_first};
+ghost use Rattle.am_outcomes.specs.Outcomes.{outcome_of};
+ghost use Rattle.am_outcomes.specs.OutcomesView.{lists_view, pairs_view, routes_view};
+
+use crate::configs::Configs;
+use am_config::{Config, Route};
+use am_differences::differing_options;
+use am_eval::{ends, receivers_of};
+use am_report_texts::receiver_name;
+use am_universe::LabelSet;
+use std::alloc::{AllocError, Global};
+
+/// Returns the outcome of an alert with these labels. Fails only if memory runs out.
+pub(crate) fn outcome_of(
+    alloc: Global,
+    configs: Configs<'_>,
+    set: &LabelSet,
+) -> Result<Vec<Vec<usize>>, AllocError>
+    ensures { IfOk result (λ lists.
+        lists_view lists.items ≡ outcome_of (configurations_of configs.entry) set.now) }
+{
+    match configs {
+        Configs::One(config) => Ok(vec![in alloc; receivers_of(alloc, config, set)?]?),
+        Configs::Pair(old, new) => {
+            let before = handling_routes(alloc, old, set)?;
+            let after = handling_routes(alloc, new, set)?;
+            let (before, after) = (before.as_slice(), after.as_slice());
+            let old_receivers = receivers_of_routes(alloc, before)?;
+            let new_receivers = receivers_of_routes(alloc, after)?;
+            let pairs = route_pairs(alloc, old, before, new, after)?;
+            let options = differing_options(alloc, pairs.as_slice())?;
+            Ok(vec![in alloc; old_receivers, new_receivers, options]?)
+        }
+    }
+}
+
+/// Returns the routes that handle an alert, in order.
+fn handling_routes<'a>(
+    alloc: Global,
+    config: &'a Config,
+    set: &LabelSet,
+) -> Result<Vec<&'a Route>, AllocError>
+    ensures { IfOk result (λ found. routes_view found.items
+        ≡ handling_routes set.now (config_view config.now)) }
+{
+    let paths = ends(alloc, config, set)?;
+    let mut found = Vec::with_capacity(alloc, paths.len())?;
+    for path in paths.as_slice() {
+        if let Some(route) = config.at(path) {
+            found.push(route)?;
+        }
+    }
+    Ok(found)
+}
+
+/// Returns the receivers of some routes, by their positions.
+fn receivers_of_routes(alloc: Global, routes: &[&Route]) -> Result<Vec<usize>, AllocError>
+    ensures { IfOk result (λ found.
+        found.items ≡ map (λ r. receiver_of (route_view r.now)) routes.now) }
+{
+    let mut found = Vec::with_capacity(alloc, routes.len())?;
+    for route in routes {
+        found.push(route.receiver())?;
+    }
+    Ok(found)
+}
+
+/// Whether receivers have the same names under two configurations.
+pub(crate) fn have_same_names(old: &Config, before: &[usize], new: &Config, after: &[usize]) -> bool
+    ensures { result ≡ same_names (receiver_names (config_view old.now) before.now)
+        (receiver_names (config_view new.now) after.now) }
+{
+    if before.len() != after.len() {
+        return false;
+    }
+    for i in 0..before.len() {
+        if receiver_name(old, before[i]) != receiver_name(new, after[i]) {
+            return false;
+        }
+    }
+    true
+}
+
+/// Returns pairs of routes of an old and a new configuration: each old route with the first new one
+/// that has a receiver of the same name and is in no pair before.
+fn route_pairs<'a>(
+    alloc: Global,
+    old: &Config,
+    before: &[&'a Route],
+    new: &Config,
+    after: &[&'a Route],
+) -> Result<Vec<(&'a Route, &'a Route)>, AllocError>
+    ensures { IfOk result (λ pairs. pairs_view pairs.items
+        ≡ route_pairs (config_view old.now) (config_view new.now) (routes_view before.now)
+        (routes_view after.now)) }
+{
+    let mut pairs = Vec::new(alloc);
+    let mut left = after.to_vec(alloc)?;
+    for route in before {
+        let name = receiver_name(old, route.receiver());
+        if let Some(other) = first_with(new, name, left.as_slice()) {
+            pairs.push((*route, other))?;
+            left = without_first(alloc, new, name, left.as_slice())?;
+        }
+    }
+    Ok(pairs)
+}
+
+/// Returns the first route that has a receiver of this name.
+fn first_with<'a>(config: &Config, name: &str, routes: &[&'a Route]) -> Option<&'a Route>
+    ensures { option_map (λ r. route_view r.now) result
+        ≡ find (has_receiver (config_view config.now) name.now) (routes_view routes.now) }
+{
+    for route in routes {
+        if name == receiver_name(config, route.receiver()) {
+            return Some(*route);
+        }
+    }
+    None
+}
+
+/// Returns routes without the first one that has a receiver of this name.
+fn without_first<'a>(
+    alloc: Global,
+    config: &Config,
+    name: &str,
+    routes: &[&'a Route],
+) -> Result<Vec<&'a Route>, AllocError>
+    ensures { IfOk result (λ left. routes_view left.items
+        ≡ without_first (has_receiver (config_view config.now) name.now)
+        (routes_view routes.now)) }
+{
+    let mut left = Vec::with_capacity(alloc, routes.len())?;
+    let mut is_passed = false;
+    for route in routes {
+        if !is_passed && name == receiver_name(config, route.receiver()) {
+            is_passed = true;
+        } else {
+            left.push(*route)?;
+        }
+    }
+    Ok(left)
+}
