@@ -1,4 +1,4 @@
--- The identifier of the item at a position of an array.
+-- The items of an array, and the identifier of the one at a position.
 use Rattle.std.proofs.Common.{◌≡◌, ℕ, List, [], Some, None, map, ap, sym, ◌∙◌, option_map}
 use Rattle.std.specs.Prelude.{slice_get, unwrap_or}
 use Rattle.std.proofs.lemmas.Option.{slice_get-map}
@@ -10,7 +10,7 @@ use Rattle.am_json.specs.Json.{item_list, items_of}
 use Rattle.am_json.proofs.Values.{item_list-items_of}
 use Rattle.am_alerts.specs.SilenceIds.{id_of, ids_of, id_at}
 
-items_are : (d : Data) (items : List Value) → Some (values.items_view items) ≡ as_array d
+pub items_are : (d : Data) (items : List Value) → Some (values.items_view items) ≡ as_array d
     → unwrap_or (items_of d) [] ≡ map values.view items
 items_are d items e =
     ap (λ found. unwrap_or (option_map item_list found) []) (sym e)

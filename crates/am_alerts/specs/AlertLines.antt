@@ -1,5 +1,5 @@
 -- The lines of alerts of which a question is true. (This project's own.)
-use Rattle.std.specs.Prelude.{ℕ, List, [], ◌∷◌, map, length, codes, Option, slice_get, unwrap_or}
+use Rattle.std.specs.Prelude.{ℕ, List, [], ◌∷◌, map, length, codes, Option}
 use Rattle.std.specs.Prelude.{◌==◌, if◌then◌else◌}
 use Rattle.std.specs.List.{filter, enumerate_from}
 use Rattle.std.specs.FinMap.{entries}
@@ -7,6 +7,7 @@ use Rattle.am_universe.specs.LabelSet.{LabelMap}
 use Rattle.am_config.specs.ConfigFile.{Configuration}
 use Rattle.am_report_texts.specs.Line.{Line, Report, Words, Value, Number, Texts, Labels}
 use Rattle.am_report_texts.specs.Line.{Inhibitors}
+use Rattle.am_report_texts.specs.ReceiverNames.{receiver_names}
 use Rattle.am_report_texts.specs.declared.lines.Field.TheVariants as field_is
 use Rattle.am_report_texts.specs.declared.lines.Level.TheVariants as level_is
 use Rattle.am_eval.specs.World.{World}
@@ -14,17 +15,19 @@ use Rattle.am_eval.specs.Routing.{receivers}
 use Rattle.am_eval.specs.Silencing.{silencers}
 use Rattle.am_eval.specs.Inhibition.{inhibitors}
 use Rattle.am_eval.specs.Question.{Question, satisfies}
+use Rattle.am_alerts.specs.Intervals.{intervals}
 use Rattle.am_alerts.specs.SilenceIds.{called}
 
 -- What a line says: the position of an alert in its file, its labels, the receivers to which it
--- goes, by their positions, the silences that hide it, by their names, and the rules and alerts
--- that inhibit it, by their positions.
+-- goes, by their positions, the silences that hide it, by their names, the rules and alerts that
+-- inhibit it, by their positions, and the time intervals that may mute it, by their names.
 pub record AlertLine : Type 0 where
   pub position : ℕ
   pub set : LabelMap
   pub receivers : List ℕ
   pub silencers : List (List ℕ)
   pub inhibitors : List (ℕ × ℕ)
+  pub intervals : List (List ℕ)
 
 -- ---- What is said.
 
@@ -43,6 +46,7 @@ line_of w ids alert = record {
   receivers = receivers alert.1 w.config;
   silencers = map (called ids) (silencers w alert.1);
   inhibitors = inhibitors w alert.1;
+  intervals = intervals alert.1 w.config;
 }
 
 abbrev pub lines_of : World → List (Option (List ℕ)) → Question → List AlertLine
@@ -50,29 +54,29 @@ lines_of w ids q = map (line_of w ids) (asked_alerts w q)
 
 -- ---- How it is written.
 
--- The name of the receiver at a position.
-abbrev pub receiver_name : Configuration → ℕ → List ℕ
-receiver_name c receiver = unwrap_or (slice_get c.receivers receiver) []
-
 -- Words before a list, unless it is empty.
 abbrev pub words_before : {X : Type 0} → List ℕ → List X → List ℕ
 words_before words xs = if length xs == 0 then [] else words
 
 -- The line of an alert: its position, its label set and its receivers, and then the silences that
--- hide it and the rules and alerts that inhibit it, if there are any.
+-- hide it, the rules and alerts that inhibit it, and the time intervals that may mute it, if there
+-- are any.
 -- Source: own choice.
 -- Example: `1 {team="db"} -> "db-mail" inhibited 0/0`, if the first alert inhibits the second one
--- by the first rule, and no silence hides it.
+-- by the first rule, and no silence hides it. At a route that is muted outside office hours, the
+-- line ends in ` intervals "offhours"`.
 abbrev pub alert_line : Configuration → AlertLine → Line
 alert_line c line = record {
   level = level_is.Plain;
   pieces = Value field_is.Alert (Number line.position) ∷ Words (codes " ")
       ∷ Value field_is.Labels (Labels (entries line.set)) ∷ Words (codes " -> ")
-      ∷ Value field_is.Receivers (Texts (map (receiver_name c) line.receivers))
+      ∷ Value field_is.Receivers (Texts (receiver_names c line.receivers))
       ∷ Words (words_before (codes " silenced ") line.silencers)
       ∷ Value field_is.Silenced (Texts line.silencers)
       ∷ Words (words_before (codes " inhibited ") line.inhibitors)
-      ∷ Value field_is.Inhibited (Inhibitors line.inhibitors) ∷ [];
+      ∷ Value field_is.Inhibited (Inhibitors line.inhibitors)
+      ∷ Words (words_before (codes " intervals ") line.intervals)
+      ∷ Value field_is.Intervals (Texts line.intervals) ∷ [];
 }
 
 -- All lines, and then `# end`.

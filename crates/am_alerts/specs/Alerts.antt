@@ -19,8 +19,8 @@ asked_text asked = unwrap_or asked (codes "any")
 
 -- The world is accepted, the text is read as the question about its configuration, and the report
 -- that is written, in its form, has a line for each alert of the file of which the question is
--- true, in their order: with its receivers, the silences that hide it, and the rules and alerts
--- that inhibit it.
+-- true, in their order: with its receivers, the silences that hide it, the rules and alerts that
+-- inhibit it, and the time intervals that may mute it.
 -- Source: own choice.
 -- Example: let `{team="db"}` be the only alert of the file, let nothing silence or inhibit it, and
 -- let the top-level route be the only route and have the receiver `a`. Then the text without a

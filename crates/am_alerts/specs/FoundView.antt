@@ -11,4 +11,5 @@ found_view found = record {
   receivers = found.receivers.items;
   silencers = map string_bytes found.silencers.items;
   inhibitors = found.inhibitors.items;
+  intervals = map (λ n. n.now) found.intervals.items;
 }

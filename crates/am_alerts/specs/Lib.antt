@@ -1,4 +1,5 @@
 pub mod SilenceIds
+pub mod Intervals
 pub mod Outcome
 pub mod AlertLines
 pub mod FoundView

@@ -1,17 +1,16 @@
 //! The lines of alerts.
 
-ghost use Rattle.std.specs.Prelude.{◌≡◌, map, string_bytes, IfOk};
+ghost use Rattle.std.specs.Prelude.{◌≡◌, map, IfOk};
 ghost use Rattle.std.specs.FinMap.{entries};
 ghost use Rattle.am_config.specs.ConfigView.{config_view};
 ghost use Rattle.am_report_texts.specs.Line as spec;
 ghost use Rattle.am_report_texts.specs.LineView.{line_view, report_view, shown_view};
-ghost use Rattle.am_alerts.specs.AlertLines.{alert_line, alerts_report, receiver_name};
-ghost use Rattle.am_alerts.specs.AlertLines.{words_before};
+ghost use Rattle.am_alerts.specs.AlertLines.{alert_line, alerts_report, words_before};
 ghost use Rattle.am_alerts.specs.FoundView.{found_view};
 
 use crate::finding::Found;
 use am_config::Config;
-use am_report_texts::{Field, Level, Line, Piece, Report, Shown};
+use am_report_texts::{Field, Level, Line, Piece, Report, Shown, receiver_names, texts_of};
 use am_universe::LabelSet;
 use std::alloc::{AllocError, Global};
 
@@ -42,9 +41,10 @@ fn alert_line<'a>(
     ensures { IfOk result (λ line.
         line_view line ≡ alert_line (config_view config.now) (found_view found.now)) }
 {
-    let receivers = receivers_of(alloc, config, found.receivers.as_slice())?;
+    let receivers = receiver_names(alloc, config, found.receivers.as_slice())?;
     let silencers = found.silencers.as_slice();
     let inhibitors = found.inhibitors.as_slice();
+    let intervals = found.intervals.as_slice();
     Ok(Line {
         level: Level::Plain,
         pieces: vec![in alloc;
@@ -57,6 +57,8 @@ fn alert_line<'a>(
             Piece::Value(Field::Silenced, Shown::Texts(texts_of(alloc, silencers)?)),
             Piece::Words(words_before(" inhibited ", inhibitors)),
             Piece::Value(Field::Inhibited, Shown::Inhibitors(inhibitors)),
+            Piece::Words(words_before(" intervals ", intervals)),
+            Piece::Value(Field::Intervals, Shown::Texts(intervals.to_vec(alloc)?)),
         ]?,
     })
 }
@@ -77,41 +79,4 @@ fn labels_of<'a>(alloc: Global, set: &'a LabelSet) -> Result<Shown<'a>, AllocErr
         labels.push((name.as_str(), value.as_str()))?;
     }
     Ok(Shown::Labels(labels))
-}
-
-fn receivers_of<'a>(
-    alloc: Global,
-    config: &'a Config,
-    receivers: &[usize],
-) -> Result<Vec<&'a str>, AllocError>
-    ensures { IfOk result (λ names. map (λ n. n.now) names.items
-        ≡ map (receiver_name (config_view config.now)) receivers.now) }
-{
-    let mut names = Vec::with_capacity(alloc, receivers.len())?;
-    for receiver in receivers {
-        names.push(receiver_name(config, *receiver))?;
-    }
-    Ok(names)
-}
-
-/// The name of the receiver at a position, or the empty text if none is declared there.
-fn receiver_name(config: &Config, receiver: usize) -> &str
-    ensures { result.now ≡ receiver_name (config_view config.now) receiver }
-{
-    if receiver < config.receivers() {
-        config.receiver_name(receiver)
-    } else {
-        ""
-    }
-}
-
-fn texts_of(alloc: Global, texts: &[String]) -> Result<Vec<&str>, AllocError>
-    ensures { IfOk result (λ found.
-        map (λ t. t.now) found.items ≡ map string_bytes texts.now) }
-{
-    let mut found = Vec::with_capacity(alloc, texts.len())?;
-    for text in texts {
-        found.push(text.as_str())?;
-    }
-    Ok(found)
 }

@@ -5,6 +5,7 @@ ghost use Rattle.am_eval.specs.QuestionView.{question_view};
 ghost use Rattle.am_alerts.specs.FoundView.{found_view};
 ghost use Rattle.am_alerts.specs.AlertLines.{lines_of};
 
+use crate::intervals::intervals_of;
 use crate::outcome::outcome_of;
 use crate::silence_ids::SilenceIds;
 use crate::truth::satisfies;
@@ -25,6 +26,8 @@ pub(crate) struct Found<'w> {
     pub silencers: Vec<String>,
     /// The rules and firing alerts that inhibit it, by their positions.
     pub inhibitors: Vec<(usize, usize)>,
+    /// The names of the time intervals that may mute it.
+    pub intervals: Vec<&'w str>,
 }
 
 /// Finds the alerts of a world of which a question is true, in their order. The silences of the
@@ -43,12 +46,15 @@ pub(crate) fn find_asked<'w>(
         let set = world.alerts().get(position);
         let outcome = outcome_of(alloc, world, set)?;
         if satisfies(alloc, world, question, set, &outcome)? {
+            let silencers = ids.names_of(alloc, outcome.silencers.as_slice())?;
+            let intervals = intervals_of(alloc, world.config(), outcome.ends.as_slice())?;
             found.push(Found {
                 position,
                 set,
                 receivers: outcome.receivers,
-                silencers: ids.names_of(alloc, outcome.silencers.as_slice())?,
+                silencers,
                 inhibitors: outcome.inhibitors,
+                intervals,
             })?;
         }
     }

@@ -25,7 +25,8 @@ use std::alloc::{AllocError, Global};
 /// `# end`. Without a question it writes all alerts. In the form of JSON, each line is an object.
 ///
 /// Each line has the position of the alert in the file, from 0, its labels, the receivers to which
-/// it goes, the silences that hide it, and the inhibition rules and firing alerts that inhibit it.
+/// it goes, the silences that hide it, the inhibition rules and firing alerts that inhibit it, and
+/// the time intervals of its routes, since they may mute it and are not evaluated.
 /// A silence is named by its `id` if the file has one, and else by its position. Rules and firing
 /// alerts are named by their positions. `files` has the configuration, the silences, the firing
 /// alerts and the instant, each of which is optional. All input is read and all results are found
@@ -47,7 +48,7 @@ pub fn alerts<W: Sink>(
     out: &mut W,
 ) -> Result<(), Fault>
     // Exactly the alerts of which the question is true are written, each with exactly its
-    // receivers, its silences, and the rules and alerts that inhibit it.
+    // receivers, its silences, the rules and alerts that inhibit it, and its time intervals.
     ensures kept { IsKept (alerts_promise files.now (option_copied question.entry) form)
         W.taken W.failures out.old out.new result }
 {
