@@ -4,7 +4,7 @@ use Rattle.std.proofs.Common.{◌≡◌, ℕ, ◌<◌, ◌≤◌, List, [], ◌�
 use Rattle.std.proofs.Common.{cond, Option, Some, None, option_and_then, Ok, nat_le, refl}
 use Rattle.std.proofs.Common.{sym, ap}
 use Rattle.std.proofs.Common.{subst, ◌∙◌, append_assoc, append-nil, length-append, arith}
-use Rattle.std.specs.Prelude.{codes}
+use Rattle.std.specs.Prelude.{codes, IsTrue}
 use Rattle.std.specs.List.{AllZip, IsDistinct}
 use Rattle.std.proofs.lemmas.List.{map-append}
 use Rattle.std.proofs.lemmas.Slice.Zip.{AllZip-long}
@@ -18,11 +18,13 @@ use Rattle.am_universe.specs.declared.limits.TheConstants.{MAX_LABELS}
 use Rattle.std.specs.Option.{option_or}
 use Rattle.am_universe.specs.Universe.{Values, Label, IsLabel, IsUniverse, names}
 use Rattle.am_universe.specs.Universe.{name_fault, count_fault, value_fault, values_fault}
-use Rattle.am_universe.specs.Universe.{label_values_fault, label_fault, fault_at}
+use Rattle.am_universe.specs.Universe.{label_values_fault, label_fault, any_label_fault, fault_at}
+use Rattle.am_universe.specs.Universe.{HaveLabelNames, is_label_name}
 use Rattle.am_universe.proofs.DistinctLists.{all_front, distinct_front}
 use Rattle.am_universe.proofs.UniverseLemmas.{IsUniverse-empty}
 use Rattle.am_universe.proofs.LabelFaultLemmas.{no_first, nothing_at, added_is_universe}
-use Rattle.am_universe.proofs.LabelFaultLemmas.{universe_was_added}
+use Rattle.am_universe.proofs.LabelFaultLemmas.{universe_was_added, no_part_at_fault, name_fine}
+use Rattle.am_universe.proofs.LabelFaultLemmas.{named_fine, fine_named}
 use Rattle.am_labels.specs.declared.limits.TheConstants.{MAX_IMPOSSIBLE}
 use Rattle.am_labels.specs.Space.{Space}
 use Rattle.am_json.specs.Json.{field, items_of}
@@ -172,20 +174,12 @@ no_fault_read u d label room h =
     ((label_decides u d).says label
     (within_ok (to_item (length u)) ((next_label_form u d).result) label h)).1
 
-no_fault_fits : (full : Bool) (over : LabelFault) (name : Option Kind) (values : Option LabelFault)
-    → cond full (Some over) (option_or (fault_at parts.Name name) values) ≡ None
-    → (name ≡ None) × (values ≡ None)
-no_fault_fits true over name values h = absurd cc
-no_fault_fits false over name values h =
-    let split = no_first (fault_at parts.Name name) values h in
-    (nothing_at parts.Name name split.0, split.1)
-
-label_fits : (u : List Label) (label : Label) → label_fault u label ≡ None → LabelFits u label
-label_fits u label h =
-    let split =
-    no_fault_fits (nat_le MAX_LABELS (length u)) _ (name_fault u label.name)
-    (label_values_fault label.values) h in
-    record { name = split.0; values = split.1 }
+label_fits : (u : List Label) (label : Label) → any_label_fault u label ≡ None
+    → IsTrue (is_label_name label.name) → LabelFits u label
+label_fits u label h named =
+    let parts =
+    no_part_at_fault (name_fault u label.name) u label.values (fine_named u label h named) in
+    record { name = parts.1; values = parts.2 }
 
 -- a prefix of the labels of a universe is a universe too
 universe_front : (before more : List Label) → IsUniverse (before ++ more) → IsUniverse before
@@ -198,16 +192,22 @@ universe_front before more is = record {
       is.distinct);
 }
 
-universe_fits : (before more : List Label) → IsUniverse (before ++ more)
+universe_fits : (before more : List Label) → IsUniverse (before ++ more) → HaveLabelNames more
     → AllFit LabelFits before more
-universe_fits before [] is = tt
-universe_fits before (label ∷ more) is =
+universe_fits before [] is named = tt
+universe_fits before (label ∷ more) is named =
     let whole : IsUniverse ((before ++ label ∷ []) ++ more) =
     subst IsUniverse (sym (append_assoc before (label ∷ []) more)) is in (
       label_fits before label (universe_was_added before label
-          (universe_front (before ++ label ∷ []) more whole)),
-      universe_fits (before ++ label ∷ []) more whole,
+          (universe_front (before ++ label ∷ []) more whole)) named.0,
+      universe_fits (before ++ label ∷ []) more whole named.1,
     )
+
+-- labels that fit have label names
+fit_named : (before more : List Label) → AllFit LabelFits before more → HaveLabelNames more
+fit_named before [] fits = tt
+fit_named before (label ∷ more) fits =
+    ((name_fine before label.name fits.0.name).0, fit_named (before ++ label ∷ []) more fits.1)
 
 -- a universe and labels that fit after it are a universe, if there is room for them
 grown : (before more : List Label) → IsUniverse before → AllFit LabelFits before more
@@ -216,17 +216,18 @@ grown before [] is fits few = subst IsUniverse (sym (append-nil before)) is
 grown before (label ∷ more) is fits few =
     let room : length before < MAX_LABELS =
     omega (arith, length-append before (label ∷ more), few) in
-    let next = added_is_universe before label is (no_label_fault before label room fits.0) in
+    let fine = (named_fine before label (no_label_fault before label room fits.0)).0 in
+    let next = added_is_universe before label is fine in
     let few_next : length ((before ++ label ∷ []) ++ more) ≤ MAX_LABELS =
     rw (append_assoc before (label ∷ []) more) few in
     subst IsUniverse (append_assoc before (label ∷ []) more)
     (grown (before ++ label ∷ []) more next fits.1 few_next)
 
--- an array of labels, which are a universe
+-- an array of labels, which are a universe of label names
 abbrev SaysLabels : Data → List Label → Type 0
 SaysLabels d u =
     (items : List Data) × (option_and_then items_of (field (codes "labels") d) ≡ Some items)
-    × AllZip SaysLabel items u × IsUniverse u
+    × AllZip SaysLabel items u × (IsUniverse u × HaveLabelNames u)
 
 labels_decide : (d : Data) → Decides (SaysLabels d) ((all_labels_form d).result)
 unfolding all_labels_form labels_form
@@ -238,10 +239,11 @@ labels_decide d =
     (λ _. read_items_decide SaysLabel LabelFits next_label_form label_decides items))))
     (λ u (items, is_array, (_, few, (said, fits))).
     let long = AllZip-long SaysLabel items u said in
-    (items, is_array, said, grown [] u IsUniverse-empty fits (omega arith)))
-    (λ u (items, is_array, said, is).
+    let is = grown [] u IsUniverse-empty fits (omega arith) in
+    (items, is_array, said, (is, fit_named [] u fits)))
+    (λ u (items, is_array, said, (is, named)).
     let long = AllZip-long SaysLabel items u said in
-    (items, is_array, (tt, omega (arith, is.at_most), (said, universe_fits [] u is))))
+    (items, is_array, (tt, omega (arith, is.at_most), (said, universe_fits [] u is named))))
 
 -- ---- The lists that are impossible.
 
@@ -275,7 +277,8 @@ universe_decides d =
       items = items;
       is_array = is_array;
       labels = said;
-      is_universe = universe;
+      is_universe = universe.0;
+      named = universe.1;
       impossible = listed;
     }))
     (λ s said. (
@@ -283,7 +286,7 @@ universe_decides d =
       said.only,
       (
         s.labels,
-        (said.items, said.is_array, said.labels, said.is_universe),
+        (said.items, said.is_array, said.labels, (said.is_universe, said.named)),
         (s.impossible, said.impossible, refl),
       ),
     ))

@@ -3,7 +3,7 @@ use Rattle.std.specs.Prelude.{◌≡◌, ◌≤◌, ℕ, List, [], ◌∷◌, le
 use Rattle.std.specs.Prelude.{option_and_then, codes, IsTrue, map}
 use Rattle.std.specs.List.{AllZip}
 use Rattle.serde_json.specs.Data.{Data, null, string}
-use Rattle.am_universe.specs.Universe.{Label, IsUniverse}
+use Rattle.am_universe.specs.Universe.{Label, IsUniverse, HaveLabelNames}
 use Rattle.am_labels.specs.declared.limits.TheConstants.{MAX_MATCHERS, MAX_IMPOSSIBLE}
 use Rattle.am_labels.specs.Matcher.{Matcher}
 use Rattle.am_labels.specs.MatcherRefusals.{have_valid_patterns}
@@ -51,8 +51,9 @@ pub record SaysImpossible (d : Data) (ms : List Matcher) : Type 0 where
 
 -- A JSON value says a space: it is an object with the field `labels`, the optional field
 -- `impossible`, and no other field. The items of `labels` say the labels of the space, in order,
--- and these are a universe. The items of `impossible`, at most `MAX_IMPOSSIBLE`, say the lists of
--- matchers that are impossible. If the field is absent, nothing is impossible.
+-- and these are a universe, in which each label has a label name. The items of `impossible`, at
+-- most `MAX_IMPOSSIBLE`, say the lists of matchers that are impossible. If the field is absent,
+-- nothing is impossible.
 -- Source: own choice.
 -- Example: `{"labels": []}` says the space without labels, in which nothing is impossible.
 -- `{"labels": [{"name": "a", "values": ["x", "x"]}]}` says none, since a value occurs twice.
@@ -64,6 +65,7 @@ pub record SaysUniverse (d : Data) (s : Space) : Type 0 where
   pub is_array : option_and_then items_of (field (codes "labels") d) ≡ Some items
   pub labels : AllZip SaysLabel items s.labels
   pub is_universe : IsUniverse s.labels
+  pub named : HaveLabelNames s.labels
   pub impossible : SaysItemsInField SaysImpossible (codes "impossible") MAX_IMPOSSIBLE d
       s.impossible
 

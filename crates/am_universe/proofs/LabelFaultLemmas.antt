@@ -1,8 +1,10 @@
--- A label can be added after the labels of a universe exactly if `label_fault` finds nothing.
-use Rattle.std.proofs.Common.{◌≡◌, ◌↔◌, ℕ, ◌<◌, ◌≤◌, List, [], ◌∷◌, ◌++◌, length, Bool, true, false, ◌||◌, Option, Some, None, refl, sym, ap, subst, ◌∙◌, append_assoc, length-append, append-nil, cond, nat_le, arith}
+-- A label can be added after the labels of a universe exactly if `any_label_fault` finds nothing, and
+-- as one with a label name exactly if `label_fault` finds nothing.
+use Rattle.std.proofs.Common.{◌≡◌, ◌≢◌, ◌↔◌, ℕ, ◌<◌, ◌≤◌, List, [], ◌∷◌, ◌++◌, length, Bool, true, false, ◌||◌, Option, Some, None, refl, sym, ap, subst, ◌∙◌, append_assoc, length-append, append-nil, cond, nat_le, arith}
 use borrow.Author.Tests.{lt-leb}
 use Rattle.std.proofs.lemmas.List.{map-append}
 use Rattle.std.proofs.lemmas.Grind.{common_steps}
+use Rattle.std.specs.Prelude.{IsTrue}
 use Rattle.am_universe.specs.declared.limits.TheConstants.{MAX_LABELS, MAX_VALUES}
 use Rattle.am_universe.specs.declared.kind.Kind.{Kind}
 use Rattle.am_universe.specs.declared.kind.Kind.TheVariants as kinds
@@ -13,7 +15,7 @@ use Rattle.std.specs.List.{AllByRecursion, IsDistinct, list_any}
 use Rattle.am_universe.specs.Text.{same_text}
 use Rattle.am_universe.proofs.DistinctLists.{all_push, all_pushed, distinct_none, distinct_push, distinct_pushed, distinct_front}
 use Rattle.std.specs.Option.{option_or}
-use Rattle.am_universe.specs.Universe.{Label, Values, IsLabel, IsUniverse, names, is_label_name, same_value, is_empty_text, name_fault, count_fault, value_fault, values_fault, label_values_fault, label_fault, fault_at}
+use Rattle.am_universe.specs.Universe.{Label, Values, IsLabel, IsUniverse, names, is_label_name, same_value, is_empty_text, name_fault, any_name_fault, count_fault, value_fault, values_fault, label_values_fault, named_label_fault, label_fault, any_label_fault, fault_at}
 
 -- ---- Values.
 
@@ -62,11 +64,20 @@ fine_count n h k = grind (arith, common_steps)
 abbrev has : List Label → List ℕ → Bool
 has u name = list_any (λ l. same_text l.name name) u
 
-name_fine : (u : List Label) (name : List ℕ) → name_fault u name ≡ None → (is_label_name name ≡ true) × (has u name ≡ false)
+any_name_fine : (u : List Label) (name : List ℕ) → any_name_fault u name ≡ None → (name ≢ []) × (has u name ≡ false)
+any_name_fine u [] h = absurd cc
+any_name_fine u (c ∷ cs) h = (λ e. cc, grind (arith, common_steps))
+
+fine_any_name : (u : List Label) (name : List ℕ) → name ≢ [] → has u name ≡ false → any_name_fault u name ≡ None
+fine_any_name u [] some free = absurd (some refl)
+fine_any_name u (c ∷ cs) some free = rw free
+
+-- A name has no fault as a label name exactly if it is one, and has no fault otherwise.
+pub name_fine : (u : List Label) (name : List ℕ) → name_fault u name ≡ None → (is_label_name name ≡ true) × (any_name_fault u name ≡ None)
 name_fine u [] h = absurd cc
 name_fine u (c ∷ cs) h = grind (arith, common_steps)
 
-fine_name : (u : List Label) (name : List ℕ) → is_label_name name ≡ true → has u name ≡ false → name_fault u name ≡ None
+pub fine_name : (u : List Label) (name : List ℕ) → is_label_name name ≡ true → any_name_fault u name ≡ None → name_fault u name ≡ None
 fine_name u [] form free = absurd cc
 fine_name u (c ∷ cs) form free = rw (form, free)
 
@@ -75,12 +86,12 @@ has_names : (u : List Label) (name : List ℕ) → list_any (λ n. same_text n n
 has_names [] name = refl
 has_names (l ∷ u) name = ap (λ b. same_text l.name name || b) (has_names u name)
 
-IsLabel-from_faults : (l : Label) → is_label_name l.name ≡ true → label_values_fault l.values ≡ None → IsLabel l
-IsLabel-from_faults l form h =
+IsLabel-from_faults : (l : Label) → l.name ≢ [] → label_values_fault l.values ≡ None → IsLabel l
+IsLabel-from_faults l some h =
     let split = no_first (fault_at parts.Values (count_fault (length l.values))) (values_fault [] l.values) h in
     let count = count_fine (length l.values) (nothing_at parts.Values (count_fault (length l.values)) split.0) in
     let values = values_fine [] l.values (distinct_none same_value) split.1 in
-    record { name = form; some_value = count.0; at_most = count.1; texts = values.texts; distinct = values.distinct }
+    record { name = some; some_value = count.0; at_most = count.1; texts = values.texts; distinct = values.distinct }
 
 faults_from_IsLabel : (l : Label) → IsLabel l → label_values_fault l.values ≡ None
 faults_from_IsLabel l h =
@@ -88,45 +99,76 @@ faults_from_IsLabel l h =
     let values : values_fault [] l.values ≡ None = fine_values [] l.values (record { texts = h.texts; distinct = h.distinct }) in
     rw (count, values)
 
-pub added_is_universe : (u : List Label) (l : Label) → IsUniverse u → label_fault u l ≡ None → IsUniverse (u ++ l ∷ [])
+-- Where there is no fault, there is none of the name and none of the values, and there is room.
+pub no_part_at_fault : (of_name : Option Kind) (u : List Label) (values : Values) → named_label_fault of_name u values ≡ None → (length u < MAX_LABELS) × (of_name ≡ None) × (label_values_fault values ≡ None)
+no_part_at_fault of_name u values fine =
+    let full : (length u < MAX_LABELS) × (option_or (fault_at parts.Name of_name) (label_values_fault values) ≡ None) = grind (arith, common_steps) in
+    let split = no_first (fault_at parts.Name of_name) (label_values_fault values) full.1 in
+    (full.0, nothing_at parts.Name of_name split.0, split.1)
+
+pub added_is_universe : (u : List Label) (l : Label) → IsUniverse u → any_label_fault u l ≡ None → IsUniverse (u ++ l ∷ [])
 added_is_universe u l h fine =
-    let full : (length u < MAX_LABELS) × (option_or (fault_at parts.Name (name_fault u l.name)) (label_values_fault l.values) ≡ None) = grind (arith, common_steps) in
-    let split = no_first (fault_at parts.Name (name_fault u l.name)) (label_values_fault l.values) full.1 in
-    let name = name_fine u l.name (nothing_at parts.Name (name_fault u l.name) split.0) in
+    let parts = no_part_at_fault (any_name_fault u l.name) u l.values fine in
+    let name = any_name_fine u l.name parts.1 in
     record {
-      at_most = omega (arith, length-append u (l ∷ []), full.0);
-      labels = all_push IsLabel u l h.labels (IsLabel-from_faults l name.0 split.1);
+      at_most = omega (arith, length-append u (l ∷ []), parts.0);
+      labels = all_push IsLabel u l h.labels (IsLabel-from_faults l name.0 parts.2);
       distinct = subst (IsDistinct same_text) (sym (map-append (λ (x : Label). x.name) u (l ∷ []))) (distinct_push same_text (names u) l.name h.distinct (has_names u l.name ∙ name.1));
     }
 
-pub universe_was_added : (u : List Label) (l : Label) → IsUniverse (u ++ l ∷ []) → label_fault u l ≡ None
+pub universe_was_added : (u : List Label) (l : Label) → IsUniverse (u ++ l ∷ []) → any_label_fault u l ≡ None
 universe_was_added u l h =
     let label = (all_pushed IsLabel u l h.labels).1 in
     let apart = distinct_pushed same_text (names u) l.name (subst (IsDistinct same_text) (map-append (λ (x : Label). x.name) u (l ∷ [])) h.distinct) in
     let room : nat_le MAX_LABELS (length u) ≡ false = lt-leb MAX_LABELS (length u) (omega (arith, length-append u (l ∷ []), h.at_most)) in
-    let name = fine_name u l.name label.name (sym (has_names u l.name) ∙ apart.1) in
+    let name = fine_any_name u l.name label.name (sym (has_names u l.name) ∙ apart.1) in
     let values = faults_from_IsLabel l label in
     rw (room, name, values)
 
+-- A label has no fault as one with a label name exactly if it has one, and has no fault otherwise.
+pub named_fine : (u : List Label) (l : Label) → label_fault u l ≡ None → (any_label_fault u l ≡ None) × (is_label_name l.name ≡ true)
+named_fine u l fine =
+    let parts = no_part_at_fault (name_fault u l.name) u l.values fine in
+    let name = name_fine u l.name parts.1 in
+    let room : nat_le MAX_LABELS (length u) ≡ false = lt-leb MAX_LABELS (length u) parts.0 in
+    (rw (room, name.1, parts.2), name.0)
+
+pub fine_named : (u : List Label) (l : Label) → any_label_fault u l ≡ None → is_label_name l.name ≡ true → label_fault u l ≡ None
+fine_named u l fine form =
+    let parts = no_part_at_fault (any_name_fault u l.name) u l.values fine in
+    let name = fine_name u l.name form parts.1 in
+    let room : nat_le MAX_LABELS (length u) ≡ false = lt-leb MAX_LABELS (length u) parts.0 in
+    rw (room, name, parts.2)
+
 -- The labels are a universe, whether the label was pushed or not.
-pub pushed_universe : (u : List Label) (l : Label) (pushed : Bool) → IsUniverse u → label_fault u l ≡ None → IsUniverse (cond pushed (u ++ l ∷ []) u)
+pub pushed_universe : (u : List Label) (l : Label) (pushed : Bool) → IsUniverse u → any_label_fault u l ≡ None → IsUniverse (cond pushed (u ++ l ∷ []) u)
 pushed_universe u l true h fine = added_is_universe u l h fine
 pushed_universe u l false h fine = h
 
 -- ---- No fault of a label is that memory ran out.
 
-name_kinds : (u : List Label) (name : List ℕ) (kind : Kind) → name_fault u name ≡ Some kind → kind ≡ kinds.Memory → ⊥
-name_kinds u [] kind e memory = cc
-name_kinds u (c ∷ cs) kind e memory = grind (arith, common_steps)
+any_name_kinds : (u : List Label) (name : List ℕ) → any_name_fault u name ≢ Some kinds.Memory
+any_name_kinds u [] e = cc
+any_name_kinds u (c ∷ cs) e = grind (arith, common_steps)
+
+name_kinds : (u : List Label) (name : List ℕ) → name_fault u name ≢ Some kinds.Memory
+name_kinds u [] e = cc
+name_kinds u (c ∷ cs) e = grind (arith, common_steps, any_name_kinds u (c ∷ cs))
 
 values_kinds : (before values : Values) (fault : LabelFault) → values_fault before values ≡ Some fault → fault.kind ≡ kinds.Memory → ⊥
 values_kinds before [] fault e memory = cc
 values_kinds before (value ∷ values) fault e memory = grind (arith, common_steps, values_kinds (before ++ value ∷ []) values)
 
-pub none_of_memory : (u : List Label) (l : Label) (fault : LabelFault) → label_fault u l ≡ Some fault → fault.kind ≡ kinds.Memory → label_fault u l ≡ None
-none_of_memory u l fault e memory = grind (arith, common_steps, name_kinds, values_kinds)
+pub none_of_memory : (of_name : Option Kind) (u : List Label) (values : Values) (fault : LabelFault) → of_name ≢ Some kinds.Memory → named_label_fault of_name u values ≡ Some fault → fault.kind ≡ kinds.Memory → named_label_fault of_name u values ≡ None
+none_of_memory of_name u values fault kind e memory = grind (arith, common_steps, values_kinds)
 
 -- ---- The law.
 
-pub faults_are_exact : (u : List Label) (label : Label) → IsUniverse u → label_fault u label ≡ None ↔ IsUniverse (u ++ label ∷ [])
+pub faults_are_exact : (u : List Label) (label : Label) → IsUniverse u → any_label_fault u label ≡ None ↔ IsUniverse (u ++ label ∷ [])
 faults_are_exact u label h = (added_is_universe u label h, universe_was_added u label)
+
+pub named_faults_are_exact : (u : List Label) (label : Label) → IsUniverse u → label_fault u label ≡ None ↔ (IsUniverse (u ++ label ∷ []) × IsTrue (is_label_name label.name))
+named_faults_are_exact u label h = (
+  λ fine. let both = named_fine u label fine in (added_is_universe u label h both.0, both.1),
+  λ both. fine_named u label (universe_was_added u label both.0) both.1,
+)

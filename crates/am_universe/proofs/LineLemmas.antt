@@ -10,7 +10,7 @@ use Rattle.std.proofs.lemmas.List.{length-map}
 use Rattle.std.proofs.lemmas.Grind.{common_steps}
 use Rattle.std.proofs.lemmas.Map.Keys.{IsDistinct-head, IsDistinct-tail}
 use Rattle.am_universe.specs.Text.{label_value_escape, quoted_text, same_text}
-use Rattle.am_universe.specs.Universe.{Label, Values, IsLabel, IsUniverse, names, sizes, begins_label_name, continues_label_name, is_label_name, same_value}
+use Rattle.am_universe.specs.Universe.{Label, Values, IsLabel, IsUniverse, HaveLabelNames, names, sizes, begins_label_name, continues_label_name, is_label_name, same_value}
 use Rattle.am_universe.specs.Choice.{admits, IsWhole}
 use Rattle.am_universe.specs.LabelSet.{value_at, with_label, label_pairs}
 use Rattle.am_universe.specs.WrittenLabelSet.{pair_text, line}
@@ -113,12 +113,12 @@ same_joined (p ∷ ps) (q ∷ qs) s t h k e =
 
 -- ---- Choices.
 
-AreNamed-label_pairs : (u : List Label) (c : List ℕ) → AllByRecursion IsLabel u → AreNamed (label_pairs u c)
+AreNamed-label_pairs : (u : List Label) (c : List ℕ) → HaveLabelNames u → AreNamed (label_pairs u c)
 AreNamed-label_pairs [] c h = tt
 AreNamed-label_pairs (l ∷ u) [] h = tt
 AreNamed-label_pairs (l ∷ u) (p ∷ c) h = elim (value_at l p) as (λ o. AreNamed (with_label l.name o (label_pairs u c))) [
   | None ↦ AreNamed-label_pairs u c h.1
-  | Some v ↦ (h.0.name, AreNamed-label_pairs u c h.1)
+  | Some v ↦ (h.0, AreNamed-label_pairs u c h.1)
 ]
 
 same_value-itself : (v : Option (List ℕ)) → same_value v v ≡ true
@@ -168,11 +168,11 @@ same_choice (l ∷ u) (p ∷ c) (q ∷ d) labels apart h k whole also e =
     let rest = same_choice u c d labels.1 (IsDistinct-tail _ _ _ apart) here.1 there.1 (omega arith) (omega arith) parts.1 in
     λ i. first i ∷ rest i
 
-pub same_line : (u : List Label) (c d : List ℕ) → IsUniverse u → IsWhole (sizes u) c → IsWhole (sizes u) d → line u c ≡ line u d → c ≡ d
-same_line u c d h whole also e =
+pub same_line : (u : List Label) (c d : List ℕ) → IsUniverse u → HaveLabelNames u → IsWhole (sizes u) c → IsWhole (sizes u) d → line u c ≡ line u d → c ≡ d
+same_line u c d h named whole also e =
     let ps : Pairs = label_pairs u c in
     let qs : Pairs = label_pairs u d in
     let texts : joined ps ++ 125 ∷ 10 ∷ [] ≡ joined qs ++ 125 ∷ 10 ∷ [] =
     sym (append_assoc (joined ps) (125 ∷ []) (10 ∷ [])) ∙ ap (drop 1) e ∙ append_assoc (joined qs) (125 ∷ []) (10 ∷ []) in
     same_choice u c d h.labels h.distinct whole.0 also.0 (whole.1 ∙ length-map u (λ l. length l.values)) (also.1 ∙ length-map u (λ l. length l.values))
-    (same_joined ps qs (10 ∷ []) (10 ∷ []) (AreNamed-label_pairs u c h.labels) (AreNamed-label_pairs u d h.labels) texts)
+    (same_joined ps qs (10 ∷ []) (10 ∷ []) (AreNamed-label_pairs u c named) (AreNamed-label_pairs u d named) texts)

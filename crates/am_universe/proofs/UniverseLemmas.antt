@@ -1,5 +1,5 @@
 -- Universes: the position of a name, and what the faults of a label mean.
-use Rattle.std.proofs.Common.{◌≡◌, ◌≢◌, ℕ, ◌+◌, ◌<◌, ◌≤◌, List, [], ◌∷◌, ◌++◌, length, map, take, drop, Bool, true, cond, ◌||◌, Option, Some, None, option_map, is_some, MatchOption, IfSome, IfNone, Contains, String, string_bytes, slice_get, get_or, refl, sym, ap, ◌∙◌, lit≤, arith}
+use Rattle.std.proofs.Common.{◌≡◌, ◌≢◌, ℕ, ◌+◌, ◌<◌, ◌≤◌, List, [], ◌∷◌, ◌++◌, length, map, take, drop, Bool, true, false, cond, ◌||◌, ◌==◌, Option, Some, None, option_map, is_some, MatchOption, IfSome, IfNone, Contains, String, string_bytes, slice_get, get_or, refl, sym, ap, ◌∙◌, lit≤, arith}
 use Rattle.std.specs.List.{AllWithin, HoldsAt, IsDistinct, list_any}
 use Rattle.std.specs.Cmp.Lexicographic.{bytes_decides}
 use Rattle.std.proofs.lemmas.Bool.{false_from_ne_true}
@@ -14,7 +14,7 @@ use Rattle.am_universe.specs.Text.{same_text}
 use Rattle.am_universe.specs.UniverseView.{texts_of}
 use Rattle.am_universe.specs.declared.kind.Kind.TheVariants as kinds
 use Rattle.std.specs.Option.{option_or}
-use Rattle.am_universe.specs.Universe.{Label, IsUniverse, names, is_label_name, name_fault, count_fault, value_fault, values_fault, label_values_fault, fault_at}
+use Rattle.am_universe.specs.Universe.{Label, IsUniverse, names, any_name_fault, count_fault, value_fault, values_fault, label_values_fault, fault_at}
 
 -- The empty list of labels is a universe.
 pub IsUniverse-empty : IsUniverse []
@@ -46,7 +46,7 @@ no_name u name None h = λ k.
     h k.0 no_label (omega arith) inside (sym (get_or-map (λ l. l.name) u k.0 no_label name inside) ∙ k.2)
 no_name u name (Some i) h = tt
 
--- The test that `name_fault` makes of the names agrees with the result of `position`.
+-- The test that `any_name_fault` makes of the names agrees with the result of `position`.
 has_name : (u : List Label) (name : List ℕ) (r : Option ℕ) → IfSome r (λ i. slice_get (names u) i ≡ Some name) → IfNone r (¬ Contains (names u) name) → list_any (λ l. same_text l.name name) u ≡ is_some r
 has_name u name None found none = list_any_none (λ l. same_text l.name name) u (λ k d inside.
     let apart : same_text (get_or u k d).name name ≡ true → ⊥ = λ e. none (k, omega (arith, length-map u (λ (l : Label). l.name)), get_or-map (λ l. l.name) u k d name inside ∙ (bytes_decides (get_or u k d).name name).0 e) in
@@ -58,12 +58,12 @@ has_name u name (Some i) found none =
 
 -- ---- A name beside the others.
 
--- A name of the right form is at fault exactly if `position` finds it.
-pub name_fault-of_form : (u : List Label) (name : List ℕ) (r : Option ℕ) (taken : Bool) → IfSome r (λ i. slice_get (names u) i ≡ Some name)
-    → IfNone r (¬ Contains (names u) name) → is_some r ≡ taken → is_label_name name ≡ true
-    → name_fault u name ≡ cond taken (Some kinds.Duplicate) None
-name_fault-of_form u [] r taken found none is form = absurd cc
-name_fault-of_form u (c ∷ cs) r taken found none is form = rw (form, has_name u (c ∷ cs) r found none ∙ is) refl
+-- A name is at fault exactly if it is empty or `position` finds it.
+pub any_name_fault-of_some : (u : List Label) (name : List ℕ) (r : Option ℕ) (taken : Bool) → IfSome r (λ i. slice_get (names u) i ≡ Some name)
+    → IfNone r (¬ Contains (names u) name) → is_some r ≡ taken → (length name == 0) ≡ false
+    → any_name_fault u name ≡ cond taken (Some kinds.Duplicate) None
+any_name_fault-of_some u [] r taken found none is some = absurd cc
+any_name_fault-of_some u (c ∷ cs) r taken found none is some = rw (has_name u (c ∷ cs) r found none ∙ is) refl
 
 -- ---- Values.
 

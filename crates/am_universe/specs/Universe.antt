@@ -1,6 +1,6 @@
 -- Universes: labels, each with the values that it may have. And why a label cannot be added to a
 -- universe.
-use Rattle.std.specs.Prelude.{◌≡◌, ℕ, ◌<◌, ◌≤◌, List, [], ◌∷◌, ◌++◌, length, map}
+use Rattle.std.specs.Prelude.{◌≡◌, ◌≢◌, ℕ, ◌<◌, ◌≤◌, List, [], ◌∷◌, ◌++◌, length, map}
 use Rattle.std.specs.Prelude.{Bool, true, false, not, nat_le, nat_lt, ◌==◌, ◌&&◌, ◌||◌}
 use Rattle.std.specs.Prelude.{if◌then◌else◌, Option, Some, None, option_map, unwrap_or}
 use Rattle.std.specs.Prelude.{slice_get, IsTrue}
@@ -69,10 +69,10 @@ label_position u name = position (λ l. same_text l.name name) u
 abbrev pub values_at : List Label → ℕ → Values
 values_at u i = unwrap_or (option_map (λ l. l.values) (slice_get u i)) []
 
--- A label by itself: it has a label name, and 1 to `MAX_VALUES` values. No value is the empty text,
--- and no two are the same.
+-- A label by itself: its name is not empty, and it has 1 to `MAX_VALUES` values. No value is the
+-- empty text, and no two are the same.
 pub record IsLabel (l : Label) : Type 0 where
-  pub name : IsTrue (is_label_name l.name)
+  pub name : l.name ≢ []
   pub some_value : 0 < length l.values
   pub at_most : length l.values ≤ MAX_VALUES
   pub texts : AllByRecursion (λ v. is_empty_text v ≡ false) l.values
@@ -87,21 +87,33 @@ pub record IsUniverse (u : List Label) : Type 0 where
   pub labels : AllByRecursion IsLabel u
   pub distinct : IsDistinct same_text (names u)
 
+-- Each label has a label name. So it is in a universe that is read from a file, and then each line
+-- of the universe is that of one choice.
+-- Source: own choice; each version of Prometheus accepts such names.
+-- Example: `team` has one. `job.name` has none, and only a universe in memory can declare it.
+abbrev pub HaveLabelNames : List Label → Type 0
+HaveLabelNames u = AllByRecursion (λ l. IsTrue (is_label_name l.name)) u
+
 -- ---- What keeps a label out, the first fault first.
 
 -- The fault at a part of a label, of the kind that was found, if one was found.
 abbrev pub fault_at : LabelPart → Option Kind → Option LabelFault
 fault_at part found = option_map (λ kind. record { kind = kind; part = part }) found
 
--- Why a name cannot be added to the names of a universe: `Empty` for the empty text, `Shape` for
--- any other text that is not a label name, and `Duplicate` for a name that the universe already
--- has.
+-- Why a name of any form cannot be added to the names of a universe: `Empty` for the empty text,
+-- and `Duplicate` for a name that the universe already has.
+abbrev pub any_name_fault : List Label → List ℕ → Option Kind
+any_name_fault u [] = Some kinds.Empty
+any_name_fault u (c ∷ cs) =
+    if list_any (λ l. same_text l.name (c ∷ cs)) u then Some kinds.Duplicate else None
+
+-- Why a name cannot be added to the names of a universe as a label name: `Empty` for the empty
+-- text, `Shape` for any other text that is not a label name, and `Duplicate` for a name that the
+-- universe already has.
 abbrev pub name_fault : List Label → List ℕ → Option Kind
 name_fault u [] = Some kinds.Empty
 name_fault u (c ∷ cs) =
-    if not (is_label_name (c ∷ cs)) then Some kinds.Shape
-    else if list_any (λ l. same_text l.name (c ∷ cs)) u then Some kinds.Duplicate
-    else None
+    if not (is_label_name (c ∷ cs)) then Some kinds.Shape else any_name_fault u (c ∷ cs)
 
 -- Why a label may not have this number of values: `Empty` for none, and `Limit` for more than
 -- `MAX_VALUES`.
@@ -132,17 +144,24 @@ abbrev pub label_values_fault : Values → Option LabelFault
 label_values_fault values =
     option_or (fault_at parts.Values (count_fault (length values))) (values_fault [] values)
 
--- Why a label cannot be added to a universe. This is the first fault of: `Limit` if there are
--- `MAX_LABELS` labels already; the fault of its name; the first fault of its values.
+-- Why a label cannot be added to a universe, where the fault of its name is known. This is the
+-- first fault of: `Limit` if there are `MAX_LABELS` labels already; the fault of its name; the
+-- first fault of its values.
+abbrev pub named_label_fault : Option Kind → List Label → Values → Option LabelFault
+named_label_fault of_name u values =
+    if nat_le MAX_LABELS (length u) then Some (record { kind = kinds.Limit; part = parts.Label })
+    else option_or (fault_at parts.Name of_name) (label_values_fault values)
+
+-- The same for a label whose name has to be a label name, and for one whose name may have any form.
 -- Source: own choice.
 -- Example: after a label `team`, a second label `team` without values is refused as `Duplicate`, at
--- its name.
+-- its name. A label `job.name` without values is refused as `Shape`, at its name, or as `Empty`, at
+-- its values.
 abbrev pub label_fault : List Label → Label → Option LabelFault
-label_fault u label =
-    if nat_le MAX_LABELS (length u) then Some (record { kind = kinds.Limit; part = parts.Label })
-    else option_or
-    (fault_at parts.Name (name_fault u label.name))
-    (label_values_fault label.values)
+label_fault u label = named_label_fault (name_fault u label.name) u label.values
+
+abbrev pub any_label_fault : List Label → Label → Option LabelFault
+any_label_fault u label = named_label_fault (any_name_fault u label.name) u label.values
 
 -- The fault if memory ran out for a label.
 abbrev pub memory_fault : LabelFault

@@ -13,7 +13,8 @@ ghost use Rattle.am_universe.specs.declared.limits.TheConstants.{MAX_LABELS, MAX
 ghost use Rattle.am_universe.specs.declared.limits.TheConstants.{MAX_POSITIONS};
 ghost use Rattle.am_universe.specs.declared.place.Place.TheVariants as places;
 ghost use Rattle.am_universe.specs.Text.{same_text};
-ghost use Rattle.am_universe.specs.Universe.{Label, IsUniverse, names, sizes, label_fault};
+ghost use Rattle.am_universe.specs.Universe.{Label, IsUniverse, HaveLabelNames, names, sizes};
+ghost use Rattle.am_universe.specs.Universe.{is_label_name, label_fault, any_label_fault};
 ghost use Rattle.am_universe.specs.Choice.{choices, IsWhole};
 ghost use Rattle.am_universe.specs.LabelSet.{value_of, value_at, label_set_of};
 ghost use Rattle.am_universe.specs.WrittenLabelSet.{line};
@@ -71,19 +72,22 @@ pub fn undeclared_value()
         → ¬ Contains (names u) name → value_of (label_set_of u c) name ≡ [] }
 {}
 
-/// A label may be added to a universe exactly if the labels are then still a universe.
+/// A label of any name may be added to a universe exactly if the labels are then still a universe,
+/// and a label as those of files exactly if its name is a label name too.
 ///
 /// So no fault is missing, and none is needless.
-#[tactic(auto, using(crate::proofs::LabelFaultLemmas::faults_are_exact))]
+#[tactic(auto, using(crate::proofs::LabelFaultLemmas::faults_are_exact, crate::proofs::LabelFaultLemmas::named_faults_are_exact))]
 pub fn a_label_is_added_exactly_to_a_universe()
     ensures exactly { (u : List Label) (label : Label) → IsUniverse u
-        → (label_fault u label ≡ None ↔ IsUniverse (u ++ label ∷ [])) }
+        → (any_label_fault u label ≡ None ↔ IsUniverse (u ++ label ∷ [])) }
+    ensures named { (u : List Label) (label : Label) → IsUniverse u → (label_fault u label ≡ None
+        ↔ (IsUniverse (u ++ label ∷ []) × IsTrue (is_label_name label.name))) }
 {}
 
-/// Two different choices of one universe have different lines.
+/// Two different choices of one universe have different lines, if each label has a label name.
 #[tactic(auto, using(crate::proofs::LineLemmas::same_line))]
 pub fn one_choice_a_line()
-    ensures same_choice { (u : List Label) (c d : List ℕ) → IsUniverse u
+    ensures same_choice { (u : List Label) (c d : List ℕ) → IsUniverse u → HaveLabelNames u
         → IsWhole (sizes u) c → IsWhole (sizes u) d
         → line u c ≡ line u d → c ≡ d }
 {}

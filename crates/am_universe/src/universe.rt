@@ -1,10 +1,11 @@
-ghost use Rattle.std.specs.Prelude.{◌≡◌, ◌<◌, ◌≤◌, ◌==◌, [], ◌∷◌, ◌++◌, length, Some, None};
+ghost use Rattle.std.specs.Prelude.{◌≡◌, ◌≢◌, ◌<◌, ◌≤◌, ◌==◌, [], ◌∷◌, ◌++◌, length, Some, None};
 ghost use Rattle.std.specs.Prelude.{string_bytes, IfErr, IfSome, IfNone, OnOk, OnErr, Contains};
 ghost use Rattle.std.specs.Prelude.{slice_get, slice_index, option_map, option_and_then, unwrap_or};
 ghost use Rattle.std.specs.List.{list_any};
 ghost use Rattle.am_universe.specs.Universe.{IsUniverse, names, sizes, label_position, same_value};
-ghost use Rattle.am_universe.specs.Universe.{name_fault, count_fault, value_fault};
-ghost use Rattle.am_universe.specs.Universe.{label_values_fault, label_fault, memory_fault};
+ghost use Rattle.am_universe.specs.Universe.{name_fault, any_name_fault, count_fault, value_fault};
+ghost use Rattle.am_universe.specs.Universe.{label_values_fault, named_label_fault, label_fault};
+ghost use Rattle.am_universe.specs.Universe.{any_label_fault, memory_fault};
 ghost use Rattle.am_universe.specs.LabelSet.{value_at};
 ghost use Rattle.am_universe.specs.Choice.{admits};
 ghost use Rattle.am_universe.specs.UniverseView.{label_of, texts_of};
@@ -63,7 +64,7 @@ impl Universe {
         }
     }
 
-    /// Why a label may not be added under this name; `None` if it may.
+    /// Why `add` may not add a label under this name; `None` if it may.
     ///
     /// The first that applies: `Empty` if the name is the empty text; `Shape` if it is not
     /// `[a-zA-Z_][a-zA-Z0-9_]*` (Prometheus data model); `Duplicate` if a label of the universe has
@@ -71,11 +72,18 @@ impl Universe {
     pub fn name_fault(&self, name: &str) -> Option<Kind>
         ensures fault { result ≡ name_fault self.now name.now }
     {
+        if !name.is_empty() && !is_label_name(name.as_bytes()) {
+            return Some(Kind::Shape);
+        }
+        self.any_name_fault(name)
+    }
+
+    /// Why no label may be added under this name; `None` if one may.
+    fn any_name_fault(&self, name: &str) -> Option<Kind>
+        ensures { result ≡ any_name_fault self.now name.now }
+    {
         if name.is_empty() {
             return Some(Kind::Empty);
-        }
-        if !is_label_name(name.as_bytes()) {
-            return Some(Kind::Shape);
         }
         if self.position(name).is_some() {
             return Some(Kind::Duplicate);
@@ -115,7 +123,8 @@ impl Universe {
         None
     }
 
-    /// Adds a label after the others, with its values in declared order.
+    /// Adds a label after the others, with its values in declared order. Its name has to be a label
+    /// name.
     ///
     /// Fails with the first fault of the label; then nothing has changed. In order, the faults are:
     /// `Limit` at `Label` if there are [`MAX_LABELS`] already; those of `name_fault`, at `Name`;
@@ -130,7 +139,46 @@ impl Universe {
             fault.kind ≡ kinds.Memory → label_fault self.old (label_of name values) ≡ None) }
         ensures err { OnErr result (self.new ≡ self.old) }
     {
-        if let Some(fault) = self.label_fault(name.as_str(), values.as_slice()) {
+        let of_name = self.name_fault(name.as_str());
+        self.add_unless(of_name, name, values)
+    }
+
+    /// Adds a label whose name may have any form, as the names of Prometheus in UTF-8 mode do.
+    ///
+    /// Does and fails as `add`, but never with `Shape`: a name has a fault only if it is the empty
+    /// text, or if a label of the universe has it.
+    pub fn add_any(&mut self, name: String, values: Vec<Option<String>>) -> Result<(), LabelFault>
+        ensures ok { OnOk result (self.new ≡ self.old ++ label_of name values ∷ []) }
+        ensures accepted { OnOk result (any_label_fault self.old (label_of name values) ≡ None) }
+        ensures first { IfErr result (λ fault.
+            fault ≡ unwrap_or (any_label_fault self.old (label_of name values)) memory_fault) }
+        ensures memory { IfErr result (λ fault.
+            fault.kind ≡ kinds.Memory → any_label_fault self.old (label_of name values) ≡ None) }
+        ensures err { OnErr result (self.new ≡ self.old) }
+    {
+        let of_name = self.any_name_fault(name.as_str());
+        self.add_unless(of_name, name, values)
+    }
+
+    /// Adds a label after the others, unless it has a fault; `of_name` is the fault of its name.
+    fn add_unless(
+        &mut self,
+        of_name: Option<Kind>,
+        name: String,
+        values: Vec<Option<String>>,
+    ) -> Result<(), LabelFault>
+        requires named { of_name ≡ None → any_name_fault self.old (string_bytes name) ≡ None }
+        requires kind { of_name ≢ Some kinds.Memory }
+        ensures ok { OnOk result (self.new ≡ self.old ++ label_of name values ∷ []) }
+        ensures accepted { OnOk result
+            (named_label_fault of_name self.old (texts_of values.items) ≡ None) }
+        ensures first { IfErr result (λ fault. fault
+            ≡ unwrap_or (named_label_fault of_name self.old (texts_of values.items)) memory_fault) }
+        ensures memory { IfErr result (λ fault. fault.kind ≡ kinds.Memory
+            → named_label_fault of_name self.old (texts_of values.items) ≡ None) }
+        ensures err { OnErr result (self.new ≡ self.old) }
+    {
+        if let Some(fault) = self.label_fault(of_name, values.as_slice()) {
             return Err(fault);
         }
         match self.labels.push(Label { name, values }) {
@@ -139,15 +187,15 @@ impl Universe {
         }
     }
 
-    /// The first fault of a label that is to be added after the others.
-    fn label_fault(&self, name: &str, values: &[Option<String>]) -> Option<LabelFault>
-        ensures { result
-            ≡ label_fault self.now (record { name = name.now; values = texts_of values.now }) }
+    /// The first fault of a label that is to be added after the others; `of_name` is the fault of
+    /// its name.
+    fn label_fault(&self, of_name: Option<Kind>, values: &[Option<String>]) -> Option<LabelFault>
+        ensures { result ≡ named_label_fault of_name self.now (texts_of values.now) }
     {
         if self.labels.len() >= MAX_LABELS {
             return Some(label_fault_at(LabelPart::Label, Kind::Limit));
         }
-        if let Some(kind) = self.name_fault(name) {
+        if let Some(kind) = of_name {
             return Some(label_fault_at(LabelPart::Name, kind));
         }
         label_values_fault(values)
