@@ -14,7 +14,7 @@ ghost use Rattle.am_asked.specs.OriginPointer.{origin_place, origin_pointer};
 
 use crate::origin_pointer::{place_of, pointer_to};
 use am_classes::Alphabet;
-use am_complete::{AskedLabel, Origin, universe_beside};
+use am_complete::{AllowedNames, AskedLabel, Origin, universe_beside};
 use am_labels::Space;
 use am_list_files::Alerts;
 use am_universe::{Fault, Kind, Place, Universe};
@@ -28,6 +28,7 @@ use std::alloc::Global;
 pub fn universe_for<'a, 'm>(
     alloc: Global,
     alphabet: Alphabet,
+    allowed: AllowedNames,
     may_lack: bool,
     space: &Space,
     asked: &'a [AskedLabel<'m>],
@@ -36,14 +37,14 @@ pub fn universe_for<'a, 'm>(
     requires { (ms : List Matcher) × IsAskedOf asked.now ms
         × AreAmong (impossible_matchers space.now.impossible) ms }
     ensures made { IfOk result (λ found. IfOk found (λ universe. (ms : List Matcher)
-        → IsAskedOf asked.now ms → IsMadeBeside alphabet may_lack space.now asked.now
+        → IsAskedOf asked.now ms → IsMadeBeside alphabet allowed may_lack space.now asked.now
         (option_map_or (λ a. a.now) alerts.entry []) ms universe)) }
     ensures unproved { IfOk result (λ found. IfErr found (λ label. (may_lack ≡ false)
-        × IsFirstUnproved alphabet space.now asked.now label.now)) }
+        × IsFirstUnproved alphabet allowed space.now asked.now label.now)) }
     ensures refused { IfErr result (λ fault. fault.kind ≢ kinds.Memory
-        → NoRoomFor alphabet space.now asked.now fault.place (refusal_of fault)) }
+        → NoRoomFor alphabet allowed space.now asked.now fault.place (refusal_of fault)) }
 {
-    let made = match universe_beside(alloc, alphabet, space, asked, alerts) {
+    let made = match universe_beside(alloc, alphabet, allowed, space, asked, alerts) {
         Ok(made) => made,
         Err(Kind::Limit) => return Err(Fault::at(alloc, Kind::Limit, Place::Universe)),
         Err(_) => return Err(Fault::memory(alloc)),

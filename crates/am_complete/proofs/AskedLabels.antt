@@ -6,24 +6,37 @@ use Rattle.std.specs.List.{find}
 use Rattle.std.specs.Cmp.Lexicographic.{bytes_decides}
 use Rattle.std.proofs.lemmas.Bool.{cases_Bool}
 use Rattle.am_universe.specs.Text.{same_text}
-use Rattle.am_universe.specs.Universe.{is_label_name}
-use Rattle.am_universe.proofs.ListLemmas.{IsIn, AllByRecursion-each, AllByRecursion-at}
+use Rattle.am_universe.specs.Universe.{Label, IsUniverse, names}
+use Rattle.am_universe.proofs.ListLemmas.{IsIn, IsIn-from_Contains, AllByRecursion-each}
+use Rattle.am_universe.proofs.ListLemmas.{AllByRecursion-at}
 use Rattle.am_universe.proofs.Members.{joined_in}
 use Rattle.am_labels.specs.Matcher.{Matcher}
 use Rattle.am_complete.specs.Complete.{about, asks_only_of, AreAmong, impossible_matchers}
 use Rattle.am_complete.specs.Complete.{HaveSameMatchers}
 use Rattle.am_complete.specs.AskedLabel.{AskedLabel, IsAskedOf}
 use Rattle.am_complete.specs.FoundState.{HasThoseOfLists}
+use Rattle.am_complete.specs.declared.allowed_names.AllowedNames.{AllowedNames}
+use Rattle.am_complete.specs.declared.allowed_names.AllowedNames.TheVariants as allowed_are
+use Rattle.am_complete.specs.AllowedNames.{may_declare, MayHaveLabel}
 use Rattle.am_complete.proofs.Alike.{is_about, is_among}
 use Rattle.am_complete.proofs.AmongMatchers.{among_by}
 use Rattle.am_complete.proofs.CompleteUniverses.{named_by}
-use Rattle.am_complete.proofs.LabelTexts.{finds_in}
+use Rattle.am_complete.proofs.LabelTexts.{finds_in, some_names}
 use Rattle.am_complete.proofs.PossibleTexts.{all_pass}
 use Rattle.am_complete.proofs.SameMatchers.{in_back}
 
-pub no_name : (name : List ℕ) → IsTrue (is_label_name name) → name ≡ [] → ⊥
-no_name [] h e = absurd (cc)
-no_name (c ∷ cs) h e = absurd (cc)
+-- a name that may be declared is not empty, and no more is that of a label that a universe may have
+pub allowed_some : (allowed : AllowedNames) (name : List ℕ) → IsTrue (may_declare allowed name)
+    → name ≢ []
+allowed_some allowed_are.OfFiles [] h e = absurd (cc)
+allowed_some allowed_are.Any [] h e = absurd (cc)
+allowed_some allowed (c ∷ cs) h e = cc
+
+pub named_some : (allowed : AllowedNames) (u : List Label) (name : List ℕ) → IsUniverse u
+    → MayHaveLabel allowed u name → name ≢ []
+named_some allowed u name is (inl there) =
+    some_names u name is (IsIn-from_Contains (names u) name there)
+named_some allowed u name is (inr may) = allowed_some allowed name may
 
 pub none_on : (name : List ℕ) (ms : List Matcher) → ((m : Matcher) → IsIn ms m → m.name ≡ name → ⊥)
     → about name ms ≡ []

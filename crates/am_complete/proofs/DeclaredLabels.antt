@@ -1,8 +1,8 @@
--- Why a label is not declared: if its label name is new and its texts are distinct, there is no
--- room.
+-- Why a label is not declared: if its name is new and not empty, and its texts are distinct, there
+-- is no room.
 use Rattle.std.proofs.Common.{◌≡◌, ◌≢◌, ◌<◌, ◌≤◌, ℕ, List, [], ◌∷◌, length, map, false, refl, sym}
 use Rattle.std.proofs.Common.{ap, ◌∙◌, subst, arith, Some, None, Contains, length-append}
-use Rattle.std.specs.Prelude.{IsTrue, unwrap_or, Option}
+use Rattle.std.specs.Prelude.{unwrap_or, Option}
 use Rattle.std.specs.List.{AllByRecursion, IsDistinct, list_any}
 use Rattle.std.specs.Cmp.Lexicographic.{bytes_decides}
 use Rattle.std.proofs.lemmas.Bool.{false_from_ne_true, cases_lt}
@@ -12,8 +12,8 @@ use Rattle.am_universe.specs.declared.kind.Kind.TheVariants as kinds
 use Rattle.am_universe.specs.declared.label_fault.LabelFault.{LabelFault}
 use Rattle.am_universe.specs.declared.limits.TheConstants.{MAX_LABELS, MAX_VALUES}
 use Rattle.am_universe.specs.Text.{same_text}
-use Rattle.am_universe.specs.Universe.{Label, Values, IsLabel, IsUniverse, names, is_label_name}
-use Rattle.am_universe.specs.Universe.{same_value, is_empty_text, label_fault, memory_fault}
+use Rattle.am_universe.specs.Universe.{Label, Values, IsLabel, IsUniverse, names}
+use Rattle.am_universe.specs.Universe.{same_value, is_empty_text, any_label_fault, memory_fault}
 use Rattle.am_universe.proofs.DistinctLists.{all_push, distinct_push}
 use Rattle.am_universe.proofs.LabelFaultLemmas.{universe_was_added}
 use Rattle.am_universe.proofs.ListLemmas.{Contains-from_IsIn}
@@ -60,11 +60,11 @@ some_of (t ∷ texts) h = omega arith
 -- ---- No other fault.
 
 fits : (u : List Label) (name : List ℕ) (values : Values) (texts : List (List ℕ)) → IsUniverse u
-    → IsTrue (is_label_name name) → (Contains (names u) name → ⊥)
+    → name ≢ [] → (Contains (names u) name → ⊥)
     → map (λ v. unwrap_or v []) values ≡ texts
     → AllByRecursion (λ v. is_empty_text v ≡ false) values → texts ≢ []
     → IsDistinct same_text texts → length u < MAX_LABELS → length texts ≤ MAX_VALUES
-    → label_fault u (record { name = name; values = values }) ≡ None
+    → any_label_fault u (record { name = name; values = values }) ≡ None
 fits u name values texts h named fresh are texts_of some distinct room few =
     let l : Label = record { name = name; values = values } in
     let long : length texts ≡ length values =
@@ -87,9 +87,9 @@ fits u name values texts h named fresh are texts_of some distinct room few =
 pub full_otherwise : (u : List Label) (name : List ℕ) (values : Values) (texts : List (List ℕ))
     (fault : LabelFault) → IsUniverse u → map (λ v. unwrap_or v []) values ≡ texts
     → AllByRecursion (λ v. is_empty_text v ≡ false) values
-    → fault ≡ unwrap_or (label_fault u (record { name = name; values = values })) memory_fault
+    → fault ≡ unwrap_or (any_label_fault u (record { name = name; values = values })) memory_fault
     → fault.kind ≢ kinds.Memory
-    → IsTrue (is_label_name name) → (Contains (names u) name → ⊥) → texts ≢ []
+    → name ≢ [] → (Contains (names u) name → ⊥) → texts ≢ []
     → IsDistinct same_text texts → IsFullFor u texts
 full_otherwise u name values texts fault h are texts_of first no_memory named fresh some distinct =
     grind (arith, common_steps, cases_lt, fits)

@@ -1,13 +1,13 @@
 -- The texts that a label has in the label sets of a universe.
-use Rattle.std.proofs.Common.{◌≡◌, ℕ, List, [], ◌∷◌, map, Option, Some, None, Bool, true, false}
+use Rattle.std.proofs.Common.{◌≡◌, ◌≢◌, ℕ, List, [], ◌∷◌, map, Option, Some, None, Bool, true, false}
 use Rattle.std.proofs.Common.{Contains, refl, sym, ap, ◌∙◌, subst, inl, inr}
-use Rattle.std.specs.Prelude.{unwrap_or, IsTrue}
+use Rattle.std.specs.Prelude.{unwrap_or}
 use Rattle.std.specs.List.{find, IsDistinct}
 use Rattle.std.specs.Cmp.Lexicographic.{bytes_decides}
 use Rattle.std.proofs.lemmas.Bool.{cases_Bool}
 use Rattle.std.proofs.lemmas.Map.Keys.{IsDistinct-head, IsDistinct-tail}
 use Rattle.am_universe.specs.Text.{same_text}
-use Rattle.am_universe.specs.Universe.{Label, IsLabel, IsUniverse, names, is_label_name}
+use Rattle.am_universe.specs.Universe.{Label, IsLabel, IsUniverse, names}
 use Rattle.am_universe.proofs.ListLemmas.{IsIn, IsIn-map, IsIn-unmap, AllByRecursion-at}
 use Rattle.am_universe.proofs.ListLemmas.{IsIn-from_Contains, Contains-from_IsIn}
 use Rattle.am_complete.specs.Complete.{label_texts, texts_of_label}
@@ -81,16 +81,14 @@ pub unnamed_texts : (u : List Label) (name : List ℕ) → (Contains (names u) n
     → label_texts u name ≡ [] ∷ []
 unnamed_texts u name fresh = ap texts_of_label (none_found u name fresh)
 
--- each label of a universe has a label name, so the only text of any other name is absence
-pub named_labels : (u : List Label) (name : List ℕ) → IsUniverse u → IsIn (names u) name
-    → IsTrue (is_label_name name)
-named_labels u name h i =
+-- no label of a universe has the empty name, so the only text of that name is absence
+pub some_names : (u : List Label) (name : List ℕ) → IsUniverse u → IsIn (names u) name
+    → name ≢ []
+some_names u name h i =
     let r = IsIn-unmap (λ l. l.name) u name i in
-    subst (λ n. IsTrue (is_label_name n)) r.2
-    ((AllByRecursion-at IsLabel u r.0 h.labels r.1).name)
+    subst (λ n. n ≢ []) r.2 ((AllByRecursion-at IsLabel u r.0 h.labels r.1).name)
 
-pub undeclared_texts : (u : List Label) (name : List ℕ) → IsUniverse u
-    → (IsTrue (is_label_name name) → ⊥) → label_texts u name ≡ [] ∷ []
-undeclared_texts u name h no_name =
-    unnamed_texts u name (λ there.
-    no_name (named_labels u name h (IsIn-from_Contains (names u) name there)))
+pub nameless_texts : (u : List Label) → IsUniverse u → label_texts u [] ≡ [] ∷ []
+nameless_texts u h =
+    unnamed_texts u [] (λ there.
+    some_names u [] h (IsIn-from_Contains (names u) [] there) refl)

@@ -29,12 +29,13 @@ use Rattle.am_complete.specs.AskedLabel.{AskedLabel, asked_names, IsAskedOf}
 use Rattle.am_complete.specs.Covering.{standing_texts, standing_in, AreNeeded, CoverPossible}
 use Rattle.am_complete.specs.Covering.{CoversEachBut, KeepsLabels, HasNeeded, AddsNeeded}
 use Rattle.am_complete.specs.Covering.{HasTextsOver, AddsInOrder}
+use Rattle.am_complete.specs.declared.allowed_names.AllowedNames.{AllowedNames}
 use Rattle.am_complete.specs.Room.{AreUnproved, MayBeUnproved}
 use Rattle.am_complete.specs.LabelState.{is_declared}
 use Rattle.am_complete.specs.Missing.{MissingTexts, IsMissingAt, AreMissing, texts_of_missing}
 use Rattle.am_complete.specs.Missing.{missing_for, IsWhole, has_some, is_to_declare, needs_label}
 use Rattle.am_complete.specs.Missing.{is_covered, names_to_declare, open_positions, opens_from}
-use Rattle.am_complete.proofs.AskedLabels.{no_name, on_name}
+use Rattle.am_complete.proofs.AskedLabels.{on_name}
 use Rattle.am_complete.proofs.SameMatchers.{cover_among, same_needed}
 use Rattle.am_complete.proofs.CompleteUniverses.{space_complete_where_asked}
 use Rattle.am_complete.proofs.LabelTexts.{has_name, finds_in, found_in, declared_texts}
@@ -115,20 +116,20 @@ first_open from (m ∷ missing) i k at h = elim (cases_Bool (is_covered m)) [
 
 -- ---- What the label of a name lacks.
 
-module _ (a : Alphabet) (s : Space) where
+module _ (a : Alphabet) (allowed : AllowedNames) (s : Space) where
   -- what is found by a name
   pub by_name : (asked : List AskedLabel) (missing : List MissingTexts) (name : List ℕ)
-      (m : MissingTexts) → AreMissing a s asked missing → missing_for missing name ≡ Some m
-      → (l : AskedLabel) × IsIn asked l × (l.name ≡ name) × IsMissingAt a s l m
+      (m : MissingTexts) → AreMissing a allowed s asked missing → missing_for missing name ≡ Some m
+      → (l : AskedLabel) × IsIn asked l × (l.name ≡ name) × IsMissingAt a allowed s l m
   by_name asked missing name m zip e =
       let found = found_in (λ k. k.name) name missing m e in
       let at = at_in missing m found.0 in
-      let l = zip_right (IsMissingAt a s) asked missing at.0 m zip at.1 in
+      let l = zip_right (IsMissingAt a allowed s) asked missing at.0 m zip at.1 in
       (l.0, in_at asked at.0 l.0 l.1, sym l.2.name ∙ found.1, l.2)
 
   -- what a label lacks is found by its name
   pub same_names : (asked : List AskedLabel) (missing : List MissingTexts)
-      → AreMissing a s asked missing → map (λ m. m.name) missing ≡ asked_names asked
+      → AreMissing a allowed s asked missing → map (λ m. m.name) missing ≡ asked_names asked
   same_names [] [] zip = refl
   same_names [] (m ∷ missing) zip = absurd zip
   same_names (l ∷ asked) [] zip = absurd zip
@@ -136,7 +137,7 @@ module _ (a : Alphabet) (s : Space) where
       λ i. zip.0.name i ∷ same_names asked missing zip.1 i
 
   pub finds_missing : (asked : List AskedLabel) (missing : List MissingTexts) (m : MissingTexts)
-      → AreMissing a s asked missing → IsDistinct same_text (asked_names asked) → IsIn missing m
+      → AreMissing a allowed s asked missing → IsDistinct same_text (asked_names asked) → IsIn missing m
       → missing_for missing m.name ≡ Some m
   finds_missing asked missing m zip distinct i =
       finds_in (λ k. k.name) missing m
@@ -144,7 +145,7 @@ module _ (a : Alphabet) (s : Space) where
 
   -- the labels that are added are in the order of those that are asked about
   pub in_order : (asked : List AskedLabel) (missing : List MissingTexts) (v : List Label)
-      → AreMissing a s asked missing → IsDistinct same_text (asked_names asked)
+      → AreMissing a allowed s asked missing → IsDistinct same_text (asked_names asked)
       → names v ≡ names s.labels ++ names_to_declare s.labels missing
       → AddsInOrder s.labels asked v
   in_order asked missing v zip distinct are =
@@ -160,7 +161,7 @@ module _ (a : Alphabet) (s : Space) where
       )
 
   needed_by_name : (asked : List AskedLabel) (missing : List MissingTexts) (ms : List Matcher)
-      (name : List ℕ) → AreMissing a s asked missing → IsAskedOf asked ms → name ≢ []
+      (name : List ℕ) → AreMissing a allowed s asked missing → IsAskedOf asked ms → name ≢ []
       → AreNeeded a s name (about name ms) (texts_of_missing (missing_for missing name))
   needed_by_name asked missing ms name zip asks some = by (missing_for missing name) refl
     where
@@ -174,7 +175,7 @@ module _ (a : Alphabet) (s : Space) where
           (same_needed a s r.0.name r.0.matchers (about r.0.name ms) m.texts same r.3.needed)
 
   pub adds : (asked : List AskedLabel) (missing : List MissingTexts) (v : List Label)
-      (ms : List Matcher) → AreMissing a s asked missing → IsUniverse v
+      (ms : List Matcher) → AreMissing a allowed s asked missing → IsUniverse v
       → AllByRecursion (IsWhole s missing) v
       → ((name : List ℕ) → IsIn (names v) name
       → texts_of_missing (missing_for missing name) ≡ [] → Contains (names s.labels) name)
@@ -183,7 +184,7 @@ module _ (a : Alphabet) (s : Space) where
       AllByRecursion-each (HasNeeded a s ms) v (λ l i. (
         texts_of_missing (missing_for missing l.name),
         needed_by_name asked missing ms l.name zip asks
-            (no_name l.name (AllByRecursion-at IsLabel v l universe.labels i).name),
+            (AllByRecursion-at IsLabel v l universe.labels i).name,
         AllByRecursion-at (IsWhole s missing) v l whole i,
         named l.name (IsIn-map (λ k. k.name) v l i),
       ))
@@ -214,12 +215,12 @@ module _ (a : Alphabet) (s : Space) where
           over (found_in (λ k. k.name) name s.labels l e).0)
 
   missing_over : (asked : List AskedLabel) (missing : List MissingTexts) (name : List ℕ)
-      → AreMissing a s asked missing
+      → AreMissing a allowed s asked missing
       → AreOver a (texts_of_missing (missing_for missing name))
   missing_over asked missing name zip = grind (arith, common_steps, by_name)
 
   pub made_over : (asked : List AskedLabel) (missing : List MissingTexts) (v : List Label)
-      → AreMissing a s asked missing → AllByRecursion (IsWhole s missing) v
+      → AreMissing a allowed s asked missing → AllByRecursion (IsWhole s missing) v
       → HasTextsOver a s.labels → HasTextsOver a v
   made_over asked missing v zip whole over =
       AllByRecursion-each (λ k. AllByRecursion (λ w. IfSome w (IsOver a)) k.values) v (λ l i.
@@ -284,12 +285,12 @@ module _ (a : Alphabet) (s : Space) where
       (ap (λ ts. standing_texts s l.name ++ ts) none ∙ append-nil (standing_texts s l.name)) cover)
 
   pub covers_each : (asked : List AskedLabel) (missing : List MissingTexts) (v : List Label)
-      → AreMissing a s asked missing → IsDistinct same_text (asked_names asked) → IsUniverse v
+      → AreMissing a allowed s asked missing → IsDistinct same_text (asked_names asked) → IsUniverse v
       → names v ≡ names s.labels ++ names_to_declare s.labels missing
       → AllByRecursion (IsWhole s missing) v
       → CoversEachBut a s.impossible v asked (open_positions missing)
   covers_each asked missing v zip distinct universe are whole i l at proved some =
-      let r = zip_left (IsMissingAt a s) asked missing i l zip at in
+      let r = zip_left (IsMissingAt a allowed s) asked missing i l zip at in
       let m : MissingTexts = r.0 in
       let covered = all_elsewhere missing i m r.1 proved in
       let cover = r.2.cover (and_parts m.all _ covered).0 in
@@ -320,11 +321,11 @@ module _ (a : Alphabet) (s : Space) where
 
   -- ---- What is unproved.
 
-  unproved : (l : AskedLabel) (m : MissingTexts) → IsMissingAt a s l m → is_covered m ≡ false
-      → MayBeUnproved a s l
+  unproved : (l : AskedLabel) (m : MissingTexts) → IsMissingAt a allowed s l m → is_covered m ≡ false
+      → MayBeUnproved a allowed s l
   unproved l m h fails = elim (by m.all m.named m.texts fails) [
     | inl some ↦ inl (h.limits some)
-    | inr r ↦ inr (sym h.named ∙ r.0, first_needed a s l m.texts h.needed r.1)
+    | inr r ↦ inr (h.some_name, sym h.named ∙ r.0, first_needed a s l m.texts h.needed r.1)
   ]
     where
       by : (all named : Bool) (texts : List (List ℕ))
@@ -336,22 +337,22 @@ module _ (a : Alphabet) (s : Space) where
       by true false (t ∷ texts) e = inr (refl, omega arith)
 
   pub are_unproved : (asked : List AskedLabel) (missing : List MissingTexts)
-      → AreMissing a s asked missing → AreUnproved a s asked (open_positions missing)
+      → AreMissing a allowed s asked missing → AreUnproved a allowed s asked (open_positions missing)
   are_unproved asked missing zip = record {
     each = λ i h.
         let r = open_at missing i h in
-        let l = zip_right (IsMissingAt a s) asked missing i r.0 zip r.1 in (l.0, l.1, unproved l.0 r.0 l.2 r.2);
+        let l = zip_right (IsMissingAt a allowed s) asked missing i r.0 zip r.1 in (l.0, l.1, unproved l.0 r.0 l.2 r.2);
     first = λ i k at h.
         first_open 0 missing i k at (IsIn-from_Contains (open_positions missing) k h);
   }
 
   pub within_asked : (asked : List AskedLabel) (missing : List MissingTexts)
-      → AreMissing a s asked missing
+      → AreMissing a allowed s asked missing
       → AllByRecursion (λ i. i < length asked) (open_positions missing)
   within_asked asked missing zip =
       AllByRecursion-each (λ i. i < length asked) (open_positions missing) (λ i h.
       let r = open_at missing i (Contains-from_IsIn (open_positions missing) i h) in
-      let l = zip_right (IsMissingAt a s) asked missing i r.0 zip r.1 in slice_get_within asked i l.0 l.1)
+      let l = zip_right (IsMissingAt a allowed s) asked missing i r.0 zip r.1 in slice_get_within asked i l.0 l.1)
 
 -- ---- What is kept.
 

@@ -5,7 +5,6 @@ use Rattle.std.specs.Prelude.{IsTrue}
 use Rattle.std.specs.List.{AllByRecursion, filter}
 use Rattle.std.proofs.lemmas.List.{append-nil}
 use Rattle.std.proofs.lemmas.Grind.{common_steps}
-use Rattle.am_universe.specs.Universe.{is_label_name}
 use Rattle.am_universe.proofs.ListLemmas.{IsIn, IsIn-from_Contains}
 use Rattle.am_universe.proofs.ListLemmas.{AllByRecursion-each, AllByRecursion-at}
 use Rattle.am_labels.specs.Matcher.{Matcher}
@@ -19,6 +18,8 @@ use Rattle.am_complete.specs.Complete.{label_texts, may_have}
 use Rattle.am_complete.specs.AskedLabel.{AskedLabel}
 use Rattle.am_complete.specs.Covering.{AreClasses, ArePossible, AreNeeded, CoverPossible}
 use Rattle.am_complete.specs.Covering.{standing_texts}
+use Rattle.am_complete.specs.declared.allowed_names.AllowedNames.{AllowedNames}
+use Rattle.am_complete.specs.AllowedNames.{may_declare}
 use Rattle.am_complete.specs.Room.{NeedsText}
 use Rattle.am_complete.specs.declared.label_state.Completeness.TheVariants as state_is
 use Rattle.am_complete.specs.FoundState.{HasThoseOfLists, IsFoundAt}
@@ -76,7 +77,7 @@ cover_weaker a s l xs ys within cover text valid possible =
 
 -- ---- What a label lacks, of texts that stand for classes.
 
-module _ (a : Alphabet) (s : Space) (l : AskedLabel) (m : MissingTexts) (found : List (List ℕ))
+module _ (a : Alphabet) (allowed : AllowedNames) (s : Space) (l : AskedLabel) (m : MissingTexts) (found : List (List ℕ))
     (lists : HasThoseOfLists s.impossible l) (classes : AreClasses a l.matchers found m.all)
     (new : AreNewIn l.matchers (standing_texts s l.name)
     (filter (may_have s.impossible l.name) found) m.texts) where
@@ -89,8 +90,8 @@ module _ (a : Alphabet) (s : Space) (l : AskedLabel) (m : MissingTexts) (found :
   cover : IsTrue m.all → CoverPossible a s.impossible l.name l.matchers wanted
   cover whole = cover_possible a s.impossible l found lists (classes.covers whole)
 
-  pub is_missing : m.name ≡ l.name → l.name ≢ [] → m.named ≡ is_label_name l.name → length wanted ≡ m.count
-      → (m.all ≡ false → MayBePastLimits a l.matchers) → IsMissingAt a s l m
+  pub is_missing : m.name ≡ l.name → l.name ≢ [] → m.named ≡ may_declare allowed l.name → length wanted ≡ m.count
+      → (m.all ≡ false → MayBePastLimits a l.matchers) → IsMissingAt a allowed s l m
   is_missing name some named counted limits = record {
     name = name;
     some_name = some;
@@ -112,7 +113,7 @@ module _ (a : Alphabet) (s : Space) (l : AskedLabel) (m : MissingTexts) (found :
 
 -- ---- What is found where it is known what is missing.
 
-module _ (a : Alphabet) (s : Space) (l : AskedLabel) (m : MissingTexts) (is : IsMissingAt a s l m) where
+module _ (a : Alphabet) (allowed : AllowedNames) (s : Space) (l : AskedLabel) (m : MissingTexts) (is : IsMissingAt a allowed s l m) where
   -- none is missing
   pub is_complete : IsTrue m.all → m.texts ≡ [] → IsFoundAt a s l (state_is.Complete m.count)
   is_complete whole none = (

@@ -25,6 +25,7 @@ use Rattle.am_classes.specs.Named.{text_with, alternatives_with}
 use Rattle.am_complete.specs.Complete.{about, HaveSameMatchers}
 use Rattle.am_complete.specs.AskedLabel.{AskedLabel, IsAskedOf}
 use Rattle.am_complete.specs.Covering.{standing_texts}
+use Rattle.am_complete.specs.declared.allowed_names.AllowedNames.{AllowedNames}
 use Rattle.am_complete.specs.Missing.{MissingTexts, IsWhole, IsMissingAt, AreMissing}
 use Rattle.am_complete.specs.Missing.{texts_of_missing, missing_for, open_positions}
 use Rattle.am_classes.specs.declared.tested.Tested.{Tested}
@@ -32,7 +33,7 @@ use Rattle.am_classes.specs.Truths.{texts_of}
 use Rattle.am_complete.specs.Chosen.{IsChosen, AreChosenEach}
 use Rattle.am_complete.specs.Representatives.{IsRepresentative, IsUsual, AreRepresentatives}
 use Rattle.am_complete.specs.Representatives.{AddsRepresentatives, GainsOnly}
-use Rattle.am_complete.proofs.AskedLabels.{no_name, on_name}
+use Rattle.am_complete.proofs.AskedLabels.{on_name}
 use Rattle.am_complete.proofs.LabelTexts.{found_in}
 use Rattle.am_complete.proofs.MadeUniverses.{all_elsewhere, all_joined}
 use Rattle.am_complete.proofs.Pushed.{zip_right, in_pushed}
@@ -153,8 +154,9 @@ representative_among tries may_lack a alerts name ns ms text same more h = elim 
 
 -- The texts that a label lacks in a universe stand for their classes. All that a label lacks are
 -- known if no label is open.
-module _ (a : Alphabet) (s : Space) (alerts : List LabelMap) (asked : List AskedLabel)
-    (missing : List MissingTexts) (zip : AreMissing a s asked missing)
+module _ (a : Alphabet) (allowed : AllowedNames) (s : Space) (alerts : List LabelMap)
+    (asked : List AskedLabel) (missing : List MissingTexts)
+    (zip : AreMissing a allowed s asked missing)
     (each : AllZip (AreRepresentatives a alerts) asked missing) where
   tries_if_open : (may_lack : Bool) (m : MissingTexts) → IsIn missing m
       → (may_lack ≡ false → open_positions missing ≡ []) → not m.all ≡ true → may_lack ≡ true
@@ -178,7 +180,7 @@ module _ (a : Alphabet) (s : Space) (alerts : List LabelMap) (asked : List Asked
       (all_joined So (standing_texts s l.name) (texts_of_missing (missing_for missing l.name))
       (AllByRecursion-each So (standing_texts s l.name) (λ x j.
       inl (Contains-from_IsIn (standing_texts s l.name) x j)))
-      (by l.name (no_name l.name (AllByRecursion-at IsLabel v l universe.labels i).name)
+      (by l.name (AllByRecursion-at IsLabel v l universe.labels i).name
       (missing_for missing l.name) refl)))
     where
       by : (name : List ℕ) → (name ≡ [] → ⊥) → (o : Option MissingTexts)
@@ -189,7 +191,7 @@ module _ (a : Alphabet) (s : Space) (alerts : List LabelMap) (asked : List Asked
       by name some (Some m) e =
           let found = found_in (λ k. k.name) name missing m e in
           let at = at_in missing m found.0 in
-          let l = zip_right (IsMissingAt a s) asked missing at.0 m zip at.1 in
+          let l = zip_right (IsMissingAt a allowed s) asked missing at.0 m zip at.1 in
           let named : l.0.name ≡ name = sym l.2.name ∙ found.1 in
           let same = on_name asked ms l.0 asks (in_at asked at.0 l.0 l.1)
           (λ empty. some (sym named ∙ empty)) in

@@ -16,7 +16,7 @@ use Rattle.std.proofs.lemmas.Grind.{common_steps}
 use Rattle.am_universe.proofs.DistinctLists.{all_push}
 use Rattle.am_universe.specs.declared.limits.TheConstants.{MAX_VALUES}
 use Rattle.am_universe.specs.Text.{same_text}
-use Rattle.am_universe.specs.Universe.{Label, IsLabel, IsUniverse, names, is_label_name}
+use Rattle.am_universe.specs.Universe.{Label, IsLabel, IsUniverse, names}
 use Rattle.am_universe.proofs.ListLemmas.{IsIn, IsIn-split, IsIn-map, IsIn-unmap}
 use Rattle.am_universe.proofs.ListLemmas.{IsIn-from_Contains, Contains-from_IsIn}
 use Rattle.am_universe.proofs.ListLemmas.{AllByRecursion-at, AllByRecursion-each}
@@ -28,6 +28,8 @@ use Rattle.am_complete.specs.Complete.{may_have}
 use Rattle.am_complete.specs.AskedLabel.{AskedLabel, asked_names}
 use Rattle.am_complete.specs.Covering.{standing_texts, standing_in, AreNeeded, IsWithLabel}
 use Rattle.am_complete.specs.Covering.{IsFullFor}
+use Rattle.am_complete.specs.declared.allowed_names.AllowedNames.{AllowedNames}
+use Rattle.am_complete.specs.AllowedNames.{may_declare, MayHaveLabel}
 use Rattle.am_complete.specs.Room.{HaveNoRoom, HasToBeDeclared}
 use Rattle.am_complete.specs.LabelState.{is_declared}
 use Rattle.am_complete.specs.Missing.{MissingTexts, IsMissingAt, AreMissing, texts_of_missing}
@@ -37,7 +39,7 @@ use Rattle.am_classes.proofs.AlikeLemmas.{alike_itself}
 use Rattle.am_complete.proofs.ApartTexts.{distinct_where_apart}
 use Rattle.am_complete.proofs.DeclaredLabels.{distinct_texts}
 use Rattle.am_complete.proofs.LabelStates.{declared_where}
-use Rattle.am_complete.proofs.LabelTexts.{has_name, found_in, named_labels}
+use Rattle.am_complete.proofs.LabelTexts.{has_name, found_in, some_names}
 use Rattle.am_complete.proofs.MadeUniverses.{distinct_joined, by_name, finds_missing}
 use Rattle.am_complete.proofs.MadeUniverses.{same_names, standing_of}
 use Rattle.am_complete.proofs.ApartTexts.{one_distinct}
@@ -79,8 +81,9 @@ some_there : (texts : List (List ℕ)) → has_some texts ≡ true → (texts �
 some_there [] e = absurd (cc)
 some_there (t ∷ texts) e = (λ h. cc, omega arith)
 
-module _ (a : Alphabet) (s : Space) (asked : List AskedLabel) (missing : List MissingTexts)
-    (h : IsUniverse s.labels) (zip : AreMissing a s asked missing)
+module _ (a : Alphabet) (allowed : AllowedNames) (s : Space) (asked : List AskedLabel)
+    (missing : List MissingTexts) (h : IsUniverse s.labels)
+    (zip : AreMissing a allowed s asked missing)
     (distinct : IsDistinct same_text (asked_names asked)) where
   whole_distinct : (name : List ℕ) → IsDistinct same_text (whole_texts s missing name)
   whole_distinct name = by (missing_for missing name) refl
@@ -89,7 +92,7 @@ module _ (a : Alphabet) (s : Space) (asked : List AskedLabel) (missing : List Mi
           → IsDistinct same_text (standing_texts s name ++ texts_of_missing o)
       by None e = rw append-nil (standing_can s name h).distinct
       by (Some m) e =
-          let r = by_name a s asked missing name m zip e in
+          let r = by_name a allowed s asked missing name m zip e in
           let needed = subst (λ n. AreNeeded a s n r.0.matchers m.texts) r.2 r.3.needed in
           distinct_joined (standing_texts s name) m.texts (standing_can s name h).distinct
           (distinct_where_apart r.0.matchers m.texts needed.possible.apart) (λ x i j.
@@ -109,11 +112,31 @@ module _ (a : Alphabet) (s : Space) (asked : List AskedLabel) (missing : List Mi
 
   -- an entry is found by its name
   entry_named : (m : MissingTexts) → IsIn missing m
-      → (l : AskedLabel) × IsIn asked l × IsMissingAt a s l m
+      → (l : AskedLabel) × IsIn asked l × IsMissingAt a allowed s l m
       × (missing_for missing m.name ≡ Some m)
   entry_named m i =
-      let found = finds_missing a s asked missing m zip distinct i in
-      let r = by_name a s asked missing m.name m zip found in (r.0, r.1, r.3, found)
+      let found = finds_missing a allowed s asked missing m zip distinct i in
+      let r = by_name a allowed s asked missing m.name m zip found in (r.0, r.1, r.3, found)
+
+  -- the labels beside those of the space have names that may be declared
+  may_have_label : (name : List ℕ)
+      → IsIn (names s.labels ++ names_to_declare s.labels missing) name
+      → MayHaveLabel allowed s.labels name
+  may_have_label name i =
+      elim (IsIn-split (names s.labels) (names_to_declare s.labels missing) name i) [
+        | inl here ↦ inl (Contains-from_IsIn (names s.labels) name here)
+        | inr there ↦
+            let r = asked_there name there in
+            let l = (entry_named r.0 r.1).2 in
+            inr (subst (λ n. IsTrue (may_declare allowed n)) (sym l.name ∙ r.2) (sym l.named ∙ r.5))
+      ]
+
+  pub names_allowed : (v : List Label)
+      → names v ≡ names s.labels ++ names_to_declare s.labels missing
+      → AllByRecursion (λ l. MayHaveLabel allowed s.labels l.name) v
+  names_allowed v are =
+      AllByRecursion-each (λ l. MayHaveLabel allowed s.labels l.name) v (λ l i.
+      may_have_label l.name (subst (λ ns. IsIn ns l.name) are (IsIn-map (λ k. k.name) v l i)))
 
   -- the name of a label that lacks nothing is one of the space
   pub named_before : (name : List ℕ)
@@ -136,7 +159,7 @@ module _ (a : Alphabet) (s : Space) (asked : List AskedLabel) (missing : List Mi
       (names s.labels ++ names_to_declare s.labels missing) (λ name i.
       elim (IsIn-split (names s.labels) (names_to_declare s.labels missing) name i) [
         | inl here ↦ (
-          named_labels s.labels name h here,
+          some_names s.labels name h here,
           declared_some name here,
           whole_distinct name,
         )
@@ -168,7 +191,7 @@ module _ (a : Alphabet) (s : Space) (asked : List AskedLabel) (missing : List Mi
           let some = (some_there r.0.texts r.3).0 in
           let found : missing_for missing name ≡ Some r.0 =
           ap (missing_for missing) (sym r.2) ∙ l.3 in (
-            subst (λ n. IsTrue (is_label_name n)) (sym l.2.name ∙ r.2) (sym l.2.named ∙ r.5),
+            subst (λ n. n ≢ []) (sym l.2.name ∙ r.2) l.2.some_name,
             λ e. not_empty (standing_texts s name) r.0.texts some
                 (ap (λ o. standing_texts s name ++ texts_of_missing o) (sym found) ∙ e),
             whole_distinct name,
@@ -194,7 +217,7 @@ module _ (a : Alphabet) (s : Space) (asked : List AskedLabel) (missing : List Mi
   beside_distinct : IsDistinct same_text (names_to_declare s.labels missing)
   beside_distinct =
       names_kept missing
-      (subst (IsDistinct same_text) (sym (same_names a s asked missing zip)) distinct)
+      (subst (IsDistinct same_text) (sym (same_names a allowed s asked missing zip)) distinct)
 
   pub names_distinct : IsDistinct same_text (names s.labels ++ names_to_declare s.labels missing)
   names_distinct =
@@ -204,9 +227,9 @@ module _ (a : Alphabet) (s : Space) (asked : List AskedLabel) (missing : List Mi
 
   -- the labels that are to be declared
   collected : (ls : List AskedLabel) (ms : List MissingTexts)
-      → ((l : AskedLabel) → IsIn ls l → IsIn asked l) → AreMissing a s ls ms
+      → ((l : AskedLabel) → IsIn ls l → IsIn asked l) → AreMissing a allowed s ls ms
       → (labels : List AskedLabel) × (asked_names labels ≡ names_to_declare s.labels ms)
-      × AllByRecursion (λ l. Contains asked l × HasToBeDeclared a s l) labels
+      × AllByRecursion (λ l. Contains asked l × HasToBeDeclared a allowed s l) labels
   collected [] [] among z = ([], refl, tt)
   collected [] (m ∷ ms) among z = absurd z
   collected (l ∷ ls) [] among z = absurd z
@@ -238,7 +261,7 @@ module _ (a : Alphabet) (s : Space) (asked : List AskedLabel) (missing : List Mi
       ]
 
   pub no_room : AreTooLarge s missing (names s.labels ++ names_to_declare s.labels missing)
-      → HaveNoRoom a s asked
+      → HaveNoRoom a allowed s asked
   no_room (inl many) =
       let r = collected asked missing (λ l i. i) zip in
       let labels : List AskedLabel = r.0 in
@@ -259,7 +282,7 @@ module _ (a : Alphabet) (s : Space) (asked : List AskedLabel) (missing : List Mi
     where
       by : (o : Option MissingTexts) → missing_for missing large.0 ≡ o
           → MAX_VALUES < length (standing_texts s large.0 ++ texts_of_missing o)
-          → HaveNoRoom a s asked
+          → HaveNoRoom a allowed s asked
       by None e long =
           let none : List (List ℕ) = [] in
           absurd (omega (
@@ -269,16 +292,15 @@ module _ (a : Alphabet) (s : Space) (asked : List AskedLabel) (missing : List Mi
             length-append (standing_texts s large.0) none,
           ))
       by (Some m) e long =
-          let r = by_name a s asked missing large.0 m zip e in
-          let can = AllByRecursion-at (CanBeDeclared s missing)
-          (names s.labels ++ names_to_declare s.labels missing) large.0 can_be_declared
+          let r = by_name a allowed s asked missing large.0 m zip e in
+          let may = may_have_label large.0
           (IsIn-from_Contains (names s.labels ++ names_to_declare s.labels missing) large.0 large.1) in
           inl (
             r.0,
             Contains-from_IsIn asked r.0 r.1,
             (
               m.texts,
-              subst (λ n. IsTrue (is_label_name n)) (sym r.2) can.0,
+              subst (MayHaveLabel allowed s.labels) (sym r.2) may,
               r.3.needed,
               subst (λ n. MAX_VALUES < length (standing_texts s n ++ m.texts)) (sym r.2) long,
             ),
@@ -316,7 +338,7 @@ module _ (s : Space) (missing : List MissingTexts) (u : List Label) (ns : List (
 
   -- if there is no room for the next label, the labels are too large
   pub too_large_at : IsDistinct same_text ns → AllByRecursion (CanBeDeclared s missing) ns
-      → (IsTrue (is_label_name name) → (Contains (names u) name → ⊥) → texts ≢ []
+      → (name ≢ [] → (Contains (names u) name → ⊥) → texts ≢ []
       → IsDistinct same_text (map string_bytes texts) → IsFullFor u (map string_bytes texts))
       → AreTooLarge s missing ns
   too_large_at distinct can refused =

@@ -47,7 +47,7 @@ IsCompleteAt a u ms name = (text : List ℕ) → IsOver a text → HasAlike u ms
 -- whatever the name of the label is.
 -- Source: own choice.
 -- Example: for no matchers every universe is complete, even the one without labels. For `a:b="x"`
--- none is, because no universe can declare `a:b`.
+-- no universe of a file is, because it cannot declare `a:b`.
 abbrev pub IsComplete : Alphabet → List Label → List Matcher → Type 0
 IsComplete a u ms = (name : List ℕ) → name ≢ [] → IsCompleteAt a u ms name
 

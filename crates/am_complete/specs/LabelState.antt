@@ -39,14 +39,16 @@ HasClasses a impossible name ms n =
 -- there, the label may have texts of this number of classes, and some matcher asks about it.
 -- `Lacks`: the label, which has a label name, may have this text, which is over the alphabet, and
 -- no text of the universe is alike to it. `Unasked`: no matcher asks about the label.
--- `Undeclarable`: the space is not complete there, and no universe can declare the label, because
--- its name is no label name. `Unproved`: the first matcher on the label has this origin, and some
--- matcher on it takes a pattern that is no alternation of plain texts; if each such pattern is made
--- of plain characters, `.*` and bars, there are too many states or classes. No more is said.
+-- `Undeclarable`: the space is not complete there, and no universe file can declare the label,
+-- because its name is no label name. `Unproved`: the first matcher on the label has this origin,
+-- and some matcher on it takes a pattern that is no alternation of plain texts; if each such
+-- pattern is made of plain characters, `.*` and bars, there are too many states or classes. No more
+-- is said.
 -- Source: own choice.
 -- Example: for `team="db"` alone, a universe with `db` and absence is complete at `team`, which has
 -- two classes. So is one with `db` and `web`. One with `web` alone lacks `db`. For `a:b="x"` alone
--- each universe is `undeclarable` at `a:b`, and for `a:b=~"(?s).*"` each is complete there.
+-- each universe of a file is `undeclarable` at `a:b`, and for `a:b=~"(?s).*"` each is complete
+-- there.
 abbrev pub IsSoAt :
     Alphabet → Space → List Matcher → List AskedLabel → List ℕ → Completeness → Type 0
 IsSoAt a s ms asked name (state_is.Complete classes) =

@@ -9,3 +9,4 @@ pub mod Missing
 pub mod Representatives
 pub mod LabelState
 pub mod FoundState
+pub mod AllowedNames

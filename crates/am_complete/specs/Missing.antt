@@ -4,7 +4,7 @@ use Rattle.std.specs.Prelude.{Option, Some, None, Bool, true, false, not, ◌&&�
 use Rattle.std.specs.List.{find, filter, AllZip, IsDistinct, enumerate_from}
 use Rattle.am_universe.specs.declared.limits.TheConstants.{MAX_LABELS, MAX_VALUES}
 use Rattle.am_universe.specs.Text.{same_text}
-use Rattle.am_universe.specs.Universe.{Label, is_label_name}
+use Rattle.am_universe.specs.Universe.{Label}
 use Rattle.am_labels.specs.Space.{Space}
 use Rattle.am_classes.specs.declared.alphabet.Alphabet.{Alphabet}
 use Rattle.am_classes.specs.Limits.{MayBePastLimits}
@@ -12,9 +12,11 @@ use Rattle.am_complete.specs.Complete.{texts_of_label}
 use Rattle.am_complete.specs.AskedLabel.{AskedLabel}
 use Rattle.am_complete.specs.Covering.{AreNeeded, CoverPossible, standing_texts}
 use Rattle.am_complete.specs.LabelState.{HasClasses, is_declared}
+use Rattle.am_complete.specs.declared.allowed_names.AllowedNames.{AllowedNames}
+use Rattle.am_complete.specs.AllowedNames.{may_declare}
 
--- A label's name, whether it is a label name, texts that the label lacks, whether these are all
--- that it lacks, and if they are, the number of classes of texts that it may have.
+-- A label's name, whether a universe may declare it, texts that the label lacks, whether these are
+-- all that it lacks, and if they are, the number of classes of texts that it may have.
 pub record MissingTexts : Type 0 where
   pub name : List ℕ
   pub named : Bool
@@ -24,19 +26,20 @@ pub record MissingTexts : Type 0 where
 
 -- A label lacks these texts in a space. If they are all, they and those that stand there cover all
 -- that it may have.
-pub record IsMissingAt (a : Alphabet) (s : Space) (l : AskedLabel)
+pub record IsMissingAt (a : Alphabet) (allowed : AllowedNames) (s : Space) (l : AskedLabel)
     (m : MissingTexts) : Type 0 where
   pub name : m.name ≡ l.name
   pub some_name : l.name ≢ []
-  pub named : m.named ≡ is_label_name l.name
+  pub named : m.named ≡ may_declare allowed l.name
   pub needed : AreNeeded a s l.name l.matchers m.texts
   pub cover : IsTrue m.all
       → CoverPossible a s.impossible l.name l.matchers (standing_texts s l.name ++ m.texts)
   pub classes : IsTrue m.all → HasClasses a s.impossible l.name l.matchers m.count
   pub limits : m.all ≡ false → MayBePastLimits a l.matchers
 
-abbrev pub AreMissing : Alphabet → Space → List AskedLabel → List MissingTexts → Type 0
-AreMissing a s asked missing = AllZip (IsMissingAt a s) asked missing
+abbrev pub AreMissing :
+    Alphabet → AllowedNames → Space → List AskedLabel → List MissingTexts → Type 0
+AreMissing a allowed s asked missing = AllZip (IsMissingAt a allowed s) asked missing
 
 -- The texts that the label of a name lacks: none if it is not asked about.
 abbrev pub texts_of_missing : Option MissingTexts → List (List ℕ)
@@ -54,8 +57,8 @@ whole_texts s missing name = standing_texts s name ++ texts_of_missing (missing_
 abbrev pub IsWhole : Space → List MissingTexts → Label → Type 0
 IsWhole s missing l = texts_of_label (Some l) ≡ whole_texts s missing l.name
 
--- A universe has to declare a label, and can: the label has a label name, and lacks texts. A
--- universe with these texts covers the label: they are all that it lacks, and it can declare the
+-- A universe has to declare a label, and may: its name may be declared, and it lacks texts. A
+-- universe with these texts covers the label: they are all that it lacks, and it may declare the
 -- label if it has to.
 abbrev pub has_some : List (List ℕ) → Bool
 has_some [] = false
@@ -77,7 +80,7 @@ names_to_declare u missing = map (λ m. m.name) (filter (is_to_declare u) missin
 -- A label of this name can be declared with its texts, if there is room.
 abbrev pub CanBeDeclared : Space → List MissingTexts → List ℕ → Type 0
 CanBeDeclared s missing name =
-    IsTrue (is_label_name name) × (whole_texts s missing name ≢ [])
+    (name ≢ []) × (whole_texts s missing name ≢ [])
     × IsDistinct same_text (whole_texts s missing name)
 
 -- There is no room: a label has more texts than a label may have values, or the labels are too

@@ -11,7 +11,7 @@ pub enum Completeness {
     Lacks(String),
     /// Nothing: the label is declared, but no matcher asks about it.
     Unasked,
-    /// The label may have texts that are not alike to absence, but no universe can declare it,
+    /// The label may have texts that are not alike to absence, but no universe file can declare it,
     /// since its name is no label name.
     Undeclarable,
     /// The classes of the label's texts could not be computed. This is the origin of the first

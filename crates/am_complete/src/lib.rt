@@ -22,10 +22,12 @@ mod possible_texts;
 mod representatives;
 mod usual_texts;
 
-// A universe made from what the matchers ask.
+// A universe made from what the matchers ask, and the names that its labels may have.
+mod allowed_names;
 mod made_universe;
 
-pub use made_universe::{MadeUniverse, is_label_name, universe_beside};
+pub use allowed_names::{AllowedNames, is_label_name};
+pub use made_universe::{MadeUniverse, universe_beside};
 
 // What a space has, and lacks, at each label.
 mod label_state;

@@ -15,7 +15,7 @@ ghost use Rattle.std.specs.Prelude.{IfOk, IfErr, OnOk, IsTrue, string_bytes, unw
 ghost use Rattle.std.specs.List.{AllByRecursion, AllZip, IsDistinct};
 ghost use Rattle.std.specs.Option.{option_map_or};
 ghost use Rattle.am_universe.specs.Text.{same_text};
-ghost use Rattle.am_universe.specs.Universe.{is_empty_text, is_label_name, IsUniverse, names};
+ghost use Rattle.am_universe.specs.Universe.{is_empty_text, IsUniverse, names};
 ghost use Rattle.am_universe.specs.declared.kind.Kind.TheVariants as kinds;
 ghost use Rattle.am_universe.specs.UniverseView.{texts_of};
 ghost use Rattle.am_labels.specs.Matcher.{Matcher};
@@ -24,15 +24,16 @@ ghost use Rattle.am_complete.specs.AskedLabel.{IsAskedOf};
 ghost use Rattle.am_complete.specs.LabelState.{is_declared};
 ghost use Rattle.am_complete.specs.Covering.{KeepsLabels, AddsNeeded, CoversEachBut, HasTextsOver};
 ghost use Rattle.am_complete.specs.Covering.{AddsInOrder, IsWithLabel, IsFullFor, IsLimitOrMemory};
+ghost use Rattle.am_complete.specs.AllowedNames.{MayHaveLabel};
 ghost use Rattle.am_complete.specs.Room.{AreUnproved, HaveNoRoom};
 ghost use Rattle.am_complete.specs.Missing.{AreMissing, missing_for, whole_texts, IsWhole};
 ghost use Rattle.am_complete.specs.Missing.{is_to_declare, names_to_declare, CanBeDeclared};
 ghost use Rattle.am_complete.specs.Missing.{AreTooLarge, open_positions};
 ghost use Rattle.am_complete.specs.Representatives.{AreRepresentatives, AddsRepresentatives};
 
-use crate::AskedLabel;
 use crate::label_texts::standing_texts;
 use crate::missing_texts::{Missing, missing_at};
+use crate::{AllowedNames, AskedLabel};
 use am_classes::Alphabet;
 use am_labels::Space;
 use am_list_files::Alerts;
@@ -46,8 +47,7 @@ pub struct MadeUniverse {
     pub universe: Universe,
     /// The positions, among the labels that were asked about and in their order, of those that the
     /// universe need not cover. Either the classes of such a label could not be computed, and it
-    /// has values that were found; or it needs a value, and no universe can declare it, since its
-    /// name is no label name.
+    /// has values that were found; or it needs a value, and its name may not be declared.
     pub unproved: Vec<usize>,
 }
 
@@ -63,13 +63,14 @@ pub struct MadeUniverse {
 /// last values with a line feed. A label of the space gets those of these that it lacks.
 ///
 /// A label whose classes could not be computed gets values that were found, and may lack some. A
-/// label that needs a value, and whose name is no label name, is not declared. Both are listed as
-/// unproved.
+/// label that needs a value, and whose name is not `allowed`, is not declared. Both are listed as
+/// unproved. If any name is allowed, no label is unproved for its name.
 ///
 /// Fails with `Limit` if there is no room for a label or its values, and with `Memory`.
 pub fn universe_beside(
     alloc: Global,
     alphabet: Alphabet,
+    allowed: AllowedNames,
     space: &Space,
     asked: &[AskedLabel<'_>],
     alerts: Option<&Alerts>,
@@ -78,6 +79,8 @@ pub fn universe_beside(
         × AreAmong (impossible_matchers space.now.impossible) ms }
     ensures universe { IfOk result (λ made. IsUniverse made.universe) }
     ensures keeps { IfOk result (λ made. KeepsLabels space.now.labels made.universe) }
+    ensures names { IfOk result (λ made. AllByRecursion
+        (λ label. MayHaveLabel allowed space.now.labels label.name) made.universe) }
     ensures adds { IfOk result (λ made. (ms : List Matcher) → IsAskedOf asked.now ms
         → AddsNeeded alphabet space.now ms made.universe) }
     ensures order { IfOk result (λ made.
@@ -87,7 +90,7 @@ pub fn universe_beside(
     ensures within { IfOk result (λ made.
         AllByRecursion (λ i. i < length asked.now) made.unproved.items) }
     ensures unproved { IfOk result (λ made.
-        AreUnproved alphabet space.now asked.now made.unproved.items) }
+        AreUnproved alphabet allowed space.now asked.now made.unproved.items) }
     ensures representatives { IfOk result (λ made. (ms : List Matcher) (may_lack : Bool)
         → IsAskedOf asked.now ms → (may_lack ≡ false → made.unproved.items ≡ [])
         → AddsRepresentatives may_lack alphabet space.now
@@ -100,10 +103,10 @@ pub fn universe_beside(
         → HasTextsOver alphabet made.universe) }
     ensures kind { IfErr result IsLimitOrMemory }
     ensures limit { IfErr result (λ kind. kind ≡ kinds.Limit
-        → HaveNoRoom alphabet space.now asked.now) }
+        → HaveNoRoom alphabet allowed space.now asked.now) }
 {
     let mut names = names_of(alloc, space.universe())?;
-    let missing = missing_of_each(alloc, alphabet, space, asked, alerts)?;
+    let missing = missing_of_each(alloc, alphabet, allowed, space, asked, alerts)?;
     add_names(&mut names, space.universe(), missing.as_slice())?;
     let universe = universe_of(alloc, space, names.as_slice(), missing.as_slice())?;
     let unproved = open_positions(alloc, missing.as_slice())?;
@@ -126,6 +129,7 @@ fn names_of(alloc: Global, universe: &Universe) -> Result<Vec<&str>, AllocError>
 fn missing_of_each<'m>(
     alloc: Global,
     alphabet: Alphabet,
+    allowed: AllowedNames,
     space: &Space,
     asked: &[AskedLabel<'m>],
     alerts: Option<&Alerts>,
@@ -133,14 +137,14 @@ fn missing_of_each<'m>(
     requires { (ms : List Matcher) × IsAskedOf asked.now ms
         × AreAmong (impossible_matchers space.now.impossible) ms }
     ensures missing { IfOk result (λ missing.
-        AreMissing alphabet space.now asked.now missing.items) }
+        AreMissing alphabet allowed space.now asked.now missing.items) }
     ensures representatives { IfOk result (λ missing. AllZip
         (AreRepresentatives alphabet (option_map_or (λ a. a.now) alerts.entry []))
         asked.now missing.items) }
 {
     let mut missing = Vec::with_capacity(alloc, asked.len())?;
     for label in asked {
-        missing.push(missing_at(alloc, alphabet, space, label, alerts)?)?;
+        missing.push(missing_at(alloc, alphabet, allowed, space, label, alerts)?)?;
     }
     Ok(missing)
 }
@@ -252,16 +256,9 @@ fn open_positions(alloc: Global, missing: &[Missing<'_>]) -> Result<Vec<usize>, 
     Ok(positions)
 }
 
-/// Whether a text is a label name, of the form `[a-zA-Z_][a-zA-Z0-9_]*`.
-pub fn is_label_name(alloc: Global, name: &str) -> bool
-    ensures named { result ≡ is_label_name name.now }
-{
-    Universe::empty(alloc).name_fault(name).is_none()
-}
-
 /// Declares a label with these texts. The empty text is absence. Fails with `Memory` if memory runs
-/// out, and with `Limit` for every other fault. For a new label name and distinct texts, at least
-/// one, the only other fault is that there is no room.
+/// out, and with `Limit` for every other fault. For a new name that is not empty and distinct
+/// texts, at least one, the only other fault is that there is no room.
 pub(crate) fn declare(
     alloc: Global,
     universe: &mut Universe,
@@ -273,14 +270,14 @@ pub(crate) fn declare(
     ensures declared { OnOk result
         (IsWithLabel universe.old universe.new name.now (map string_bytes texts.now)) }
     ensures kind { IfErr result IsLimitOrMemory }
-    ensures limit { IfErr result (λ kind. kind ≡ kinds.Limit → IsTrue (is_label_name name.now)
+    ensures limit { IfErr result (λ kind. kind ≡ kinds.Limit → name.now ≢ []
         → ¬ Contains (names universe.old) name.now → texts.now ≢ []
         → IsDistinct same_text (map string_bytes texts.now)
         → IsFullFor universe.old (map string_bytes texts.now)) }
 {
     let name = String::from_str(alloc, name)?;
     let values = values_of(alloc, texts)?;
-    match universe.add(name, values) {
+    match universe.add_any(name, values) {
         Ok(()) => Ok(()),
         Err(fault) => Err(limit_or_memory(fault.kind)),
     }

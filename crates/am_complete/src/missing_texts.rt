@@ -10,12 +10,12 @@ ghost use Rattle.am_complete.specs.FoundState.{HasThoseOfLists, IsFoundAt};
 ghost use Rattle.am_complete.specs.Missing.{IsMissingAt, needs_label, is_covered};
 ghost use Rattle.am_complete.specs.Representatives.{IsRepresentative, AreRepresentatives};
 
+use crate::allowed_names::may_declare;
 use crate::found_texts::found_texts;
 use crate::label_texts::standing_texts;
-use crate::made_universe::is_label_name;
 use crate::possible_texts::possible_texts;
 use crate::representatives::representatives;
-use crate::{AskedLabel, Completeness};
+use crate::{AllowedNames, AskedLabel, Completeness};
 use am_classes::{Alphabet, ClassTexts, classes, new_texts, tested_texts};
 use am_labels::Space;
 use am_list_files::Alerts;
@@ -64,14 +64,14 @@ impl<'m> Missing<'m> {
         self.texts.as_slice()
     }
 
-    /// Whether a universe can declare the label, and has to, because it lacks texts.
+    /// Whether a universe may declare the label, and has to, because it lacks texts.
     pub(crate) fn needs_label(&self) -> bool
         ensures { result ≡ needs_label self.now }
     {
         self.named && !self.texts.is_empty()
     }
 
-    /// Whether a universe with these texts covers the label: they are known to be all, and it can
+    /// Whether a universe with these texts covers the label: they are known to be all, and it may
     /// declare the label if it has to.
     pub(crate) fn is_covered(&self) -> bool
         ensures { result ≡ is_covered self.now }
@@ -93,7 +93,7 @@ pub(crate) fn completeness_at(
     requires { label.now.name ≢ [] → HasThoseOfLists space.now.impossible label.now }
     ensures { IfOk result (IsFoundAt alphabet space.now label.now) }
 {
-    let missing = missing_at(alloc, alphabet, space, label, alerts)?;
+    let missing = missing_at(alloc, alphabet, AllowedNames::OfFiles, space, label, alerts)?;
     let (named, all) = (missing.named, missing.all);
     if !all && (!named || missing.count <= MAX_VALUES) {
         return Ok(Completeness::Unproved(label.first()));
@@ -112,12 +112,13 @@ pub(crate) fn completeness_at(
 pub(crate) fn missing_at<'m>(
     alloc: Global,
     alphabet: Alphabet,
+    allowed: AllowedNames,
     space: &Space,
     label: &AskedLabel<'m>,
     alerts: Option<&Alerts>,
 ) -> Result<Missing<'m>, AllocError>
     requires { label.now.name ≢ [] → HasThoseOfLists space.now.impossible label.now }
-    ensures missing { IfOk result (IsMissingAt alphabet space.now label.now) }
+    ensures missing { IfOk result (IsMissingAt alphabet allowed space.now label.now) }
     ensures representatives { IfOk result
         (AreRepresentatives alphabet (option_map_or (λ a. a.now) alerts.entry []) label.now) }
 {
@@ -129,7 +130,7 @@ pub(crate) fn missing_at<'m>(
     let texts = missing_texts(alloc, space, label, wanted)?;
     Ok(Missing {
         name,
-        named: is_label_name(alloc, name),
+        named: may_declare(alloc, allowed, name),
         texts,
         all,
         count,

@@ -5,7 +5,7 @@ use Rattle.std.proofs.Common.{None, inl, inr, true≢false, arith}
 use Rattle.std.proofs.lemmas.Bool.{cases_Bool}
 use Rattle.std.proofs.lemmas.Str.{IsUtf8-nil}
 use Rattle.am_universe.specs.Text.{same_text}
-use Rattle.am_universe.specs.Universe.{Label, IsUniverse, label_fault}
+use Rattle.am_universe.specs.Universe.{Label, IsUniverse, any_label_fault}
 use Rattle.am_universe.proofs.LabelFaultLemmas.{added_is_universe}
 use Rattle.am_universe.proofs.UniverseLemmas.{IsUniverse-empty}
 use Rattle.am_universe.proofs.ListLemmas.{IsIn-from_Contains, Contains-from_IsIn}
@@ -23,7 +23,7 @@ use Rattle.am_every_alert.proofs.AnyLine.{finds_ordinary, finds_none, line_feed}
 use Rattle.am_every_alert.proofs.CompleteSpaces.{complete_by_names, space_complete_by_names}
 
 -- a single label without a fault is a universe
-lone : (l : Label) → label_fault [] l ≡ None → IsUniverse (l ∷ [])
+lone : (l : Label) → any_label_fault [] l ≡ None → IsUniverse (l ∷ [])
 lone l fine = added_is_universe [] l IsUniverse-empty fine
 
 complete_at_team : (a : Alphabet)

@@ -28,11 +28,12 @@ use Rattle.am_complete.specs.Complete.{about, AreAmong, impossible_matchers}
 use Rattle.am_complete.specs.AskedLabel.{AskedLabel, asked_names, IsAskedOf}
 use Rattle.am_complete.specs.Covering.{standing_texts, standing_in, AreNeeded, KeepsValues}
 use Rattle.am_complete.specs.Covering.{KeepsLabels}
+use Rattle.am_complete.specs.declared.allowed_names.AllowedNames.{AllowedNames}
 use Rattle.am_complete.specs.Room.{HasToBeDeclared, HaveNoRoom}
 use Rattle.am_classes.proofs.AlikeLemmas.{alike_turned}
 use Rattle.am_classes.proofs.AlikeLemmas.{apart_pushed}
 use Rattle.am_complete.proofs.ApartTexts.{apart_are_no_more}
-use Rattle.am_complete.proofs.AskedLabels.{no_name, on_name, asked_for}
+use Rattle.am_complete.proofs.AskedLabels.{allowed_some, named_some, on_name, asked_for}
 use Rattle.am_complete.proofs.LabelTexts.{has_name, texts_by, unnamed_texts}
 use Rattle.am_complete.proofs.MadeUniverses.{distinct_joined}
 use Rattle.am_complete.proofs.NeededTexts.{alike_standing}
@@ -72,8 +73,8 @@ kept_names (l ∷ u) [] keeps = absurd keeps
 kept_names (l ∷ u) (m ∷ v) keeps =
     let r = kept_names u v keeps.1 in (r.0, λ i. keeps.0.0 i ∷ r.1 i)
 
-module _ (a : Alphabet) (s : Space) (asked : List AskedLabel) (ms : List Matcher)
-    (v : List Label) (keeps : KeepsLabels s.labels v) (asks : IsAskedOf asked ms)
+module _ (a : Alphabet) (allowed : AllowedNames) (s : Space) (asked : List AskedLabel)
+    (ms : List Matcher) (v : List Label) (keeps : KeepsLabels s.labels v) (asks : IsAskedOf asked ms)
     (complete : IsSpaceComplete a (record { labels = v; impossible = s.impossible }) ms) where
   has_each : (l : AskedLabel) (text : List ℕ) → IsIn asked l → l.name ≢ [] → IsOver a text
       → IsTrue (may_have s.impossible l.name text)
@@ -148,11 +149,11 @@ module _ (a : Alphabet) (s : Space) (asked : List AskedLabel) (ms : List Matcher
   -- ---- A label that has to be declared is.
 
   module _ (among : AreAmong (impossible_matchers s.impossible) ms) where
-    declared_where_needed : (l : AskedLabel) → IsIn asked l → HasToBeDeclared a s l
+    declared_where_needed : (l : AskedLabel) → IsIn asked l → HasToBeDeclared a allowed s l
         → list_any (same_text l.name) (names v) ≡ true
     declared_where_needed l i needs =
         true_from_ne_false (list_any (same_text l.name) (names v)) (λ absent.
-        let some = no_name l.name needs.0 in
+        let some = allowed_some allowed l.name needs.0 in
         let lone = unnamed_texts v l.name (λ h.
         both_ways _ absent (in_any (same_text l.name) (names v) l.name
         (IsIn-from_Contains (names v) l.name h) ((bytes_decides l.name l.name).1 refl))) in
@@ -166,19 +167,26 @@ module _ (a : Alphabet) (s : Space) (asked : List AskedLabel) (ms : List Matcher
         (has_each l text i some needed.possible.over.0 possible))))
 
     -- a universe that keeps the labels and is complete has room for the labels that are asked about
-    pub none_without_room : IsUniverse v → HaveNoRoom a s asked → ⊥
+    pub none_without_room : IsUniverse v → HaveNoRoom a allowed s asked → ⊥
     none_without_room h (inl many) =
         let l : AskedLabel = many.0 in
         let texts : List (List ℕ) = many.2.0 in
-        let long = as_many l texts (IsIn-from_Contains asked l many.1) (no_name l.name many.2.1)
-        many.2.2 in
+        let kept = kept_names s.labels v keeps in
+        let some = named_some allowed v l.name h (elim many.2.1 [
+          | inl there ↦
+              inl (Contains-from_IsIn (names v) l.name (subst (λ ns. IsIn ns l.name) (sym kept.1)
+              (IsIn-left (names s.labels) kept.0 l.name
+              (IsIn-from_Contains (names s.labels) l.name there))))
+          | inr may ↦ inr may
+        ]) in
+        let long = as_many l texts (IsIn-from_Contains asked l many.1) some many.2.2 in
         omega (arith, long, many.2.3, most_texts v l.name h)
     none_without_room h (inr many) =
         let labels : List AskedLabel = many.0 in
         let kept = kept_names s.labels v keeps in
         let wanted = names s.labels ++ asked_names labels in
-        let has_to : (l : AskedLabel) → IsIn labels l → Contains asked l × HasToBeDeclared a s l =
-        λ l i. AllByRecursion-at (λ x. Contains asked x × HasToBeDeclared a s x) labels l many.2 i in
+        let has_to : (l : AskedLabel) → IsIn labels l → Contains asked l × HasToBeDeclared a allowed s l =
+        λ l i. AllByRecursion-at (λ x. Contains asked x × HasToBeDeclared a allowed s x) labels l many.2 i in
         let front = distinct_front same_text (names s.labels) kept.0
         (subst (IsDistinct same_text) kept.1 h.distinct) in
         let distinct = distinct_joined (names s.labels) (asked_names labels) front many.3 (λ n i j.

@@ -28,7 +28,7 @@ use Rattle.am_asked.specs.Asked.{route_matchers, world_matchers, question_matche
 use Rattle.am_complete.specs.Complete.{impossible_matchers}
 use Rattle.am_complete.specs.Covering.{HasTextsOver}
 use Rattle.am_classes.proofs.AlikeLemmas.{alike_itself}
-use Rattle.am_complete.proofs.LabelTexts.{undeclared_texts}
+use Rattle.am_complete.proofs.LabelTexts.{nameless_texts}
 use Rattle.am_complete.proofs.CompleteUniverses.{alone_truth, takes_away}
 use Rattle.am_every_alert.specs.EveryAlert.{IsAlert, IsAlertOf, MeetsTheSame, AreTreatedAlike}
 use Rattle.am_every_alert.specs.Deciding.{coverage_matchers, asked_matchers, StandsFor}
@@ -81,7 +81,7 @@ alert_alike a s ms alert h complete is (c ∷ cs) =
     (possible_value s.impossible alert (c ∷ cs) is.1)
 alert_alike a s ms alert h complete is [] =
     let here : IsIn (label_texts s.labels []) [] =
-    subst (λ texts. IsIn texts []) (sym (undeclared_texts s.labels [] h (λ e. cc))) (inl refl) in (
+    subst (λ texts. IsIn texts []) (sym (nameless_texts s.labels h)) (inl refl) in (
       [],
       Contains-from_IsIn (label_texts s.labels []) [] here,
       subst (AreAlike (about [] ms) []) (sym (no_value a alert is.0)) (alike_itself (about [] ms) []),

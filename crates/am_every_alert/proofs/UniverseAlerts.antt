@@ -17,7 +17,6 @@ use Rattle.am_classes.specs.declared.alphabet.Alphabet.{Alphabet}
 use Rattle.am_classes.specs.Alphabet.{IsOver}
 use Rattle.am_complete.specs.Covering.{HasTextsOver}
 use Rattle.am_every_alert.specs.EveryAlert.{IsAlert}
-use Rattle.am_complete.proofs.AskedLabels.{no_name}
 
 abbrev found : List ℕ → List (List ℕ × List ℕ) → Option (List ℕ)
 found name pairs = find (slice_cmp nat_cmp) name pairs
@@ -56,6 +55,6 @@ universe_alert a u c h texts name text e =
     let named = (AllByRecursion-at IsLabel u r.0 h.labels r.1).name in
     let values = AllByRecursion-at (λ l. AllByRecursion (λ v. IfSome v (IsOver a)) l.values) u r.0
     texts r.1 in (
-      λ empty. no_name r.0.name named (r.2 ∙ empty),
+      λ empty. named (r.2 ∙ empty),
       AllByRecursion-at (λ v. IfSome v (IsOver a)) r.0.values (Some text) values r.3,
     )

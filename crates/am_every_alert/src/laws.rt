@@ -21,6 +21,7 @@ ghost use Rattle.am_eval.specs.Question.{Question, satisfies, answers};
 ghost use Rattle.am_classes.specs.declared.alphabet.Alphabet.{Alphabet};
 ghost use Rattle.am_classes.specs.declared.alphabet.Alphabet.TheVariants.{Unicode, Ascii};
 ghost use Rattle.am_classes.specs.Alike.{AreAlike, Covers};
+ghost use Rattle.am_complete.specs.declared.allowed_names.AllowedNames.{AllowedNames};
 ghost use Rattle.am_complete.specs.Complete.{HasAlike, about, AreAmong, IsCompleteAt, IsComplete};
 ghost use Rattle.am_complete.specs.Complete.{IsSpaceComplete, impossible_matchers};
 ghost use Rattle.am_complete.specs.AskedLabel.{AskedLabel, IsAskedOf};
@@ -268,8 +269,9 @@ pub fn an_example_of_completeness()
 /// keeps the labels of the space is complete for these matchers, over the alphabet and with the
 /// same impossible lists. The matchers of these lists must be among them.
 pub fn what_has_no_room_has_no_complete_universe()
-    ensures none { (a : Alphabet) (s : Space) (asked : List AskedLabel) (ms : List Matcher)
-        (v : List Label) → IsUniverse v → KeepsLabels s.labels v → IsAskedOf asked ms
-        → AreAmong (impossible_matchers s.impossible) ms → HaveNoRoom a s asked
+    ensures none { (a : Alphabet) (allowed : AllowedNames) (s : Space) (asked : List AskedLabel)
+        (ms : List Matcher) (v : List Label) → IsUniverse v → KeepsLabels s.labels v
+        → IsAskedOf asked ms → AreAmong (impossible_matchers s.impossible) ms
+        → HaveNoRoom a allowed s asked
         → ¬ IsSpaceComplete a (record { labels = v; impossible = s.impossible }) ms }
 {}

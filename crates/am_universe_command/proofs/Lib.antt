@@ -5,4 +5,5 @@ pub mod LabelSets
 pub mod UniverseStages
 pub mod AskedFacts
 pub mod CheckFacts
+pub mod FileNames
 pub mod ReadQuestions

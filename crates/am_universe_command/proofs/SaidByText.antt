@@ -12,7 +12,7 @@ use Rattle.serde_json.specs.Read.{read, max_depth, of_json, of_items}
 use Rattle.serde_json.specs.View as view
 use Rattle.serde_json.specs.Written.{outline}
 use Rattle.json.specs.Token.{Token}
-use Rattle.am_universe.specs.Universe.{Label, IsUniverse}
+use Rattle.am_universe.specs.Universe.{Label, IsUniverse, HaveLabelNames}
 use Rattle.am_json.specs.Json.{field, items_of, HasOnlyFields}
 use Rattle.am_json.specs.declared.limits.TheConstants.{MAX_FILE_BYTES}
 use Rattle.am_json.proofs.Values.{item_list-items_of, json_of_text}
@@ -127,14 +127,15 @@ abbrev space_of : List Label → List (List Matcher) → Space
 space_of u lists = record { labels = u; impossible = lists }
 
 data_says : (u : List Label) (texts : List (List ℕ)) (lists : List (List Matcher))
-    → IsUniverse u → AreTextsOfLists texts lists
+    → IsUniverse u → HaveLabelNames u → AreTextsOfLists texts lists
     → SaysUniverse (universe_data u texts) (space_of u lists)
-data_says u texts lists is spell = record {
+data_says u texts lists is named spell = record {
   only = only_file_fields u texts;
   items = map label_data u;
   is_array = labels_are_items u texts;
   labels = each_said label_data SaysLabel label_said u;
   is_universe = is;
+  named = named;
   impossible = record {
     items = map string texts;
     has_items = texts_said u texts;
@@ -144,11 +145,11 @@ data_says u texts lists is spell = record {
 }
 
 pub universe_said : (u : List Label) (texts : List (List ℕ)) (lists : List (List Matcher))
-    → IsUniverse u → AreTextsOfLists texts lists → IsUtf8 (universe_text u texts)
-    → length (universe_text u texts) ≤ MAX_FILE_BYTES
+    → IsUniverse u → HaveLabelNames u → AreTextsOfLists texts lists
+    → IsUtf8 (universe_text u texts) → length (universe_text u texts) ≤ MAX_FILE_BYTES
     → FileSaysUniverse (universe_text u texts) (space_of u lists)
-universe_said u texts lists is spell utf8 short =
-    (short, _, json_of_text _ _ utf8 (universe_read u texts), data_says u texts lists is spell)
+universe_said u texts lists is named spell utf8 short =
+    (short, _, json_of_text _ _ utf8 (universe_read u texts), data_says u texts lists is named spell)
 
 pub texts_kept : (u : List Label) (texts : List (List ℕ)) → IsUtf8 (universe_text u texts)
     → length (universe_text u texts) ≤ MAX_FILE_BYTES

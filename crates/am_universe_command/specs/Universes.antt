@@ -17,6 +17,7 @@ use Rattle.am_eval.specs.Question.{Question}
 use Rattle.am_files.specs.Faults.{later_stages}
 use Rattle.am_files.specs.Promise.{Promise}
 use Rattle.am_classes.specs.declared.alphabet.Alphabet.{Alphabet}
+use Rattle.am_complete.specs.declared.allowed_names.AllowedNames.TheVariants as allowed_are
 use Rattle.am_complete.specs.declared.label_state.LabelState.{LabelState}
 use Rattle.am_complete.specs.Complete.{IsSpaceComplete, impossible_matchers}
 use Rattle.am_complete.specs.AskedLabel.{AskedLabel, asked_labels}
@@ -63,8 +64,9 @@ deciding_labels routes w questions impossible =
 -- which they ask, of the form that is wanted.
 abbrev pub IsMadeFor : UniverseForm → Space → World → List Question → List Label → Type 0
 IsMadeFor form s w questions u =
-    IsMadeBeside form.alphabet form.open s (deciding_labels form.routes w questions s.impossible)
-    w.alerts (deciding_matchers form.routes w questions s.impossible) u
+    IsMadeBeside form.alphabet allowed_are.OfFiles form.open s
+    (deciding_labels form.routes w questions s.impossible) w.alerts
+    (deciding_matchers form.routes w questions s.impossible) u
 
 -- The text is the one that is written for a universe that is made from a space, for a world and for
 -- questions. `lists` are the texts of the impossible lists of the space. As a file the text says
@@ -116,9 +118,9 @@ abbrev pub IsMakingRefusal : UniverseForm → Space → List (List ℕ) → Worl
     → Refusal → Type 0
 IsMakingRefusal form s lists w questions place r =
     let asked = deciding_labels form.routes w questions s.impossible in
-    NoRoomFor form.alphabet s asked place r
+    NoRoomFor form.alphabet allowed_are.OfFiles s asked place r
     ⊎ (((form.open ≡ false)
-    × UnprovedFor form.alphabet s asked (λ l. origin_place l.first) place r)
+    × UnprovedFor form.alphabet allowed_are.OfFiles s asked (λ l. origin_place l.first) place r)
     ⊎ TooLongFor form s lists w questions place r)
 
 -- The inputs are accepted, and no universe file is made for what they say.

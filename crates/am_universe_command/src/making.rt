@@ -3,6 +3,7 @@
 ghost use Rattle.std.specs.Prelude.{◌≢◌, ◌<◌, Some, IfOk, IfErr};
 ghost use Rattle.std.specs.Prelude.{map, string_bytes};
 ghost use Rattle.am_universe.specs.declared.kind.Kind.TheVariants as kinds;
+ghost use Rattle.am_universe.specs.Universe.{HaveLabelNames};
 ghost use Rattle.am_json.specs.Reading.{refusal_of};
 ghost use Rattle.am_list_files.specs.UniverseFile.{AreTextsOfLists};
 ghost use Rattle.am_eval.specs.QuestionView.{question_view};
@@ -16,6 +17,7 @@ use crate::read_inputs::{ReadInputs, read_inputs};
 use crate::universe_file::universe_text;
 use crate::{UniverseForm, UniverseInputs};
 use am_asked::{equal_matchers_of, universe_for, unproved_fault};
+use am_complete::AllowedNames;
 use am_json::limits::MAX_FILE_BYTES;
 use am_universe::{Fault, Kind, Place, Sink, Universe, answer_of_write, put_str};
 use std::alloc::Global;
@@ -70,7 +72,9 @@ pub fn universe<W: Sink>(
 
 /// Makes the text of the universe file for the inputs.
 fn made_text(alloc: Global, read: &ReadInputs, form: UniverseForm) -> Result<String, Fault>
-    requires { AreTextsOfLists (map string_bytes read.now.texts.items) read.now.space.impossible }
+    requires texts { AreTextsOfLists (map string_bytes read.now.texts.items)
+        read.now.space.impossible }
+    requires named { HaveLabelNames read.now.space.labels }
     ensures made { IfOk result (λ text. IsMadeUniverse form read.now.space
         (map string_bytes read.now.texts.items) read.now.world
         (map question_view read.now.questions.items) (string_bytes text)) }
@@ -106,8 +110,15 @@ fn made_universe(alloc: Global, read: &ReadInputs, form: UniverseForm) -> Result
         return Err(Fault::memory(alloc));
     };
     let labels = asked.as_slice();
-    let alerts = Some(world.alerts());
-    let found = universe_for(alloc, form.alphabet, form.open, &read.space, labels, alerts)?;
+    let found = universe_for(
+        alloc,
+        form.alphabet,
+        AllowedNames::OfFiles,
+        form.open,
+        &read.space,
+        labels,
+        Some(world.alerts()),
+    )?;
     match found {
         Ok(universe) => Ok(universe),
         Err(label) => Err(unproved_fault(alloc, &label.first())),

@@ -11,7 +11,7 @@ returns-in-Some-clause-unproved c =
       record {
         unproved = made.unproved.items;
         labels = is.unproved;
-        room = (made.universe, is.universe, is.keeps, is.covers);
+        room = (made.universe, is.universe, is.keeps, is.names, is.covers);
         position = some.1.0;
         first = some.1.1;
         there = some.1.2;
@@ -27,6 +27,7 @@ returns-clause-made c = λ ms asked.
       universe = is.universe;
       complete = λ closed. is.complete (none closed) ms asked;
       keeps = is.keeps;
+      names = is.names;
       adds = is.adds ms asked;
       order = is.order;
       representatives = is.representatives ms c.args.may_lack asked none;

@@ -14,6 +14,7 @@ use Rattle.am_complete.proofs.MadeUniverses.{keeps, adds, covers_each, within_as
 use Rattle.am_complete.proofs.MadeUniverses.{in_order, complete, made_over}
 use Rattle.am_complete.proofs.RepresentativeTexts.{adds_representatives}
 use Rattle.am_complete.proofs.RoomBeside.{names_distinct, can_be_declared, no_room, named_before}
+use Rattle.am_complete.proofs.RoomBeside.{names_allowed}
 use Rattle.am_complete.proofs.made_universe.universe_beside.Goals as goal
 use Rattle.am_complete.proofs.made_universe.universe_beside.Goals.{After-as_slice-3}
 
@@ -42,7 +43,7 @@ returns-in_err-universe-clause-limit c =
     let fault = err_from_is_err_and c.from_residual-in_err-universe.result
     c.from_residual-in_err-universe.ensures.1 in
     rw (fault.1, fault.2) (λ limit.
-    no_room c.args.alphabet s c.args.asked.now missing (universe here)
+    no_room c.args.alphabet c.args.allowed s c.args.asked.now missing (universe here)
     c.in_ok-missing.ensures.missing c.requires.1.distinct
     (subst (AreTooLarge s missing) (beside here)
     (subst (λ (ms : List MissingTexts). AreTooLarge s ms
@@ -52,6 +53,7 @@ returns-in_err-universe-clause-limit c =
 pub returns : goal.returns
 returns c =
     let a = c.args.alphabet in
+    let allowed = c.args.allowed in
     let s = c.args.space.now in
     let asked : List AskedLabel = c.args.asked.now in
     let missing : List MissingTexts = c.in_ok-missing.missing.items in
@@ -67,24 +69,25 @@ returns c =
     let opens : positions ≡ open_positions missing =
     c.in_ok-unproved.ensures ∙ ap open_positions c.as_slice-4.ensures.value in
     let covers = subst (CoversEachBut a s.impossible v asked) (sym opens)
-    (covers_each a s asked missing v zip c.requires.1.distinct is are whole) in
+    (covers_each a allowed s asked missing v zip c.requires.1.distinct is are whole) in
     record {
       universe = is;
       keeps = keeps s missing v (universe here) is are whole;
-      adds = λ ms asks. adds a s asked missing v ms zip is whole (λ name i.
-          named_before a s asked missing (universe here) zip c.requires.1.distinct name
+      names = names_allowed a allowed s asked missing (universe here) zip c.requires.1.distinct v are;
+      adds = λ ms asks. adds a allowed s asked missing v ms zip is whole (λ name i.
+          named_before a allowed s asked missing (universe here) zip c.requires.1.distinct name
           (subst (λ (ns : List (List ℕ)). IsIn ns name) are i)) asks;
-      order = in_order a s asked missing v zip c.requires.1.distinct are;
+      order = in_order a allowed s asked missing v zip c.requires.1.distinct are;
       covers = covers;
       within = subst (AllByRecursion (λ i. i < length asked)) (sym opens)
-          (within_asked a s asked missing zip);
-      unproved = subst (AreUnproved a s asked) (sym opens) (are_unproved a s asked missing zip);
+          (within_asked a allowed s asked missing zip);
+      unproved = subst (AreUnproved a allowed s asked) (sym opens) (are_unproved a allowed s asked missing zip);
       representatives = λ ms may_lack asks closed.
-          adds_representatives a s (option_map_or (λ a. a.now) c.args.alerts []) asked missing zip
+          adds_representatives a allowed s (option_map_or (λ a. a.now) c.args.alerts []) asked missing zip
           c.in_ok-missing.ensures.representatives v ms may_lack is whole asks
           (λ strict. sym opens ∙ closed strict);
-      complete = complete a s asked v positions is covers;
-      over = made_over a s asked missing v zip whole;
+      complete = complete a allowed s asked v positions is covers;
+      over = made_over a allowed s asked missing v zip whole;
       kind = tt;
       limit = tt;
     }

@@ -3,6 +3,7 @@ use Rattle.std.proofs.Common.{ap, ◌∙◌, subst, slice_get}
 use Rattle.std.specs.declared.alloc.Global.{Global}
 use Rattle.am_universe.proofs.ListLemmas.{IsIn, IsIn-map}
 use Rattle.am_universe.proofs.Members.{in_at}
+use Rattle.am_complete.specs.declared.allowed_names.AllowedNames.TheVariants as allowed_are
 use Rattle.am_complete.specs.Missing.{IsMissingAt}
 use Rattle.am_complete.proofs.NeededTexts.{is_complete, lacks_one}
 use Rattle.am_complete.proofs.missing_texts.completeness_at.Goals as goal
@@ -15,12 +16,12 @@ pub returns-in-Some : goal.returns-in-Some
 returns-in-Some c =
     let s = c.args.space.now in
     let l = c.args.label.now in
-    let is = subst (IsMissingAt c.args.alphabet s l) (sym c.missing.view_is) c.in_ok-missing.ensures.missing in
+    let is = subst (IsMissingAt c.args.alphabet allowed_are.OfFiles s l) (sym c.missing.view_is) c.in_ok-missing.ensures.missing in
     let texts = c.missing.inside.texts.items in
     let text = c.in-Some.text.now in
     let first : slice_get texts 0 ≡ Some text =
     ap (λ xs. slice_get xs 0) (sym c.deref.ensures.value) ∙ sym c.in-Some.ensures.value in
-    let r = lacks_one c.args.alphabet s l _ is (string_bytes c.in_ok-from_str-in-Some.field-0)
+    let r = lacks_one c.args.alphabet allowed_are.OfFiles s l _ is (string_bytes c.in_ok-from_str-in-Some.field-0)
     (c.requires is.some_name)
     (subst (IsIn (map string_bytes texts))
     (sym (c.in_ok-from_str-in-Some.ensures.ok ∙ c.as_str.ensures.value))
@@ -31,12 +32,12 @@ pub returns-in-Some-2 : goal.returns-in-Some-2
 returns-in-Some-2 c =
     let s = c.args.space.now in
     let l = c.args.label.now in
-    let is = subst (IsMissingAt c.args.alphabet s l) (sym c.missing.view_is) c.in_ok-missing.ensures.missing in
+    let is = subst (IsMissingAt c.args.alphabet allowed_are.OfFiles s l) (sym c.missing.view_is) c.in_ok-missing.ensures.missing in
     let texts = c.missing.inside.texts.items in
     let text = c.in-Some-2.field-0.now in
     let first : slice_get texts 0 ≡ Some text =
     ap (λ xs. slice_get xs 0) (sym c.deref.ensures.value) ∙ sym c.in-Some-2.ensures.value in
-    let r = lacks_one c.args.alphabet s l _ is (string_bytes text) (c.requires is.some_name)
+    let r = lacks_one c.args.alphabet allowed_are.OfFiles s l _ is (string_bytes text) (c.requires is.some_name)
     (IsIn-map string_bytes texts text (in_at texts 0 text first)) in
     (sym is.named ∙ c.if-named.false, λ covers. r.2 (covers (string_bytes text) r.0 r.1))
 
@@ -44,7 +45,7 @@ pub returns-in-None : goal.returns-in-None
 returns-in-None c =
     let s = c.args.space.now in
     let l = c.args.label.now in
-    let is = subst (IsMissingAt c.args.alphabet s l) (sym c.missing.view_is) c.in_ok-missing.ensures.missing in
-    is_complete c.args.alphabet s l _ is c.if-all.true
+    let is = subst (IsMissingAt c.args.alphabet allowed_are.OfFiles s l) (sym c.missing.view_is) c.in_ok-missing.ensures.missing in
+    is_complete c.args.alphabet allowed_are.OfFiles s l _ is c.if-all.true
     (no_first c.missing.inside.texts.items
     (ap (λ xs. slice_get xs 0) (sym c.deref.ensures.value) ∙ sym c.in-None.ensures.value))

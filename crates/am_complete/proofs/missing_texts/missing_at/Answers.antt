@@ -1,7 +1,7 @@
 use Rattle.std.proofs.Common.{◌≡◌, length, map, string_bytes, sym, ap, ◌∙◌, subst, arith, List, ℕ}
 use Rattle.std.specs.List.{filter, AllByRecursion}
 use Rattle.std.proofs.lemmas.List.{length-map}
-use Rattle.am_universe.specs.Universe.{is_label_name}
+use Rattle.am_complete.specs.AllowedNames.{may_declare}
 use Rattle.am_complete.specs.Complete.{may_have}
 use Rattle.am_complete.specs.Covering.{standing_texts}
 use Rattle.am_classes.specs.Truths.{AreNewIn}
@@ -19,11 +19,11 @@ returns-clause-missing c =
     let kept : map string_bytes wanted.items ≡ filter (may_have s.impossible l.name) found =
     c.in_ok-wanted.ensures
     ∙ (λ i. filter (may_have (c.impossible.ensures.lists i) (named i)) found) in
-    is_missing c.args.alphabet s l _ found (c.requires c.name-name.ensures.named)
+    is_missing c.args.alphabet c.args.allowed s l _ found (c.requires c.name-name.ensures.named)
     c.in_ok-found.ensures.classes
     (subst (λ (ws : List (List ℕ)). AreNewIn l.matchers (standing_texts s l.name) ws
     (map string_bytes c.in_ok-texts.texts.items)) kept c.in_ok-texts.ensures)
-    named c.name-name.ensures.named (c.is_label_name.ensures.named ∙ ap is_label_name named)
+    named c.name-name.ensures.named (c.may_declare.ensures ∙ ap (may_declare c.args.allowed) named)
     (omega (arith, length-map wanted.items string_bytes, ap length kept, wanted.ok.0, c.len-count.ensures))
     c.in_ok-found.ensures.limits
 

@@ -3,6 +3,6 @@ use Rattle.am_every_alert.proofs.laws.what_has_no_room_has_no_complete_universe.
 
 pub returns : goal.returns
 returns c = record {
-  none = λ a s asked ms v universe keeps asks among none complete.
-      none_without_room a s asked ms v keeps asks complete among universe none;
+  none = λ a allowed s asked ms v universe keeps asks among none complete.
+      none_without_room a allowed s asked ms v keeps asks complete among universe none;
 }

@@ -4,6 +4,7 @@ use Rattle.std.proofs.Common.{ap, ◌∙◌}
 use Rattle.std.specs.Str.{IsUtf8}
 use Rattle.am_json.specs.declared.limits.TheConstants.{MAX_FILE_BYTES}
 use Rattle.am_universe_command.specs.UniverseText.{universe_text}
+use Rattle.am_universe_command.proofs.FileNames.{names_kept}
 use Rattle.am_universe_command.proofs.SaidByText.{universe_said, texts_kept}
 use Rattle.am_universe_command.proofs.making.made_text.Goals as goal
 
@@ -20,7 +21,9 @@ returns-clause-made c =
       labels = u;
       text_is = is;
       says = rw is (universe_said u lists c.args.read.now.space.impossible
-          c.in_ok-universe.ensures.made.universe c.requires utf8 short);
+          c.in_ok-universe.ensures.made.universe
+          (names_kept c.args.read.now.space.labels u c.requires.named
+          c.in_ok-universe.ensures.made.names) c.requires.texts utf8 short);
       word_for_word = rw is (texts_kept u lists utf8 short);
       made = c.in_ok-universe.ensures.made;
     }

@@ -5,6 +5,7 @@ use Rattle.am_json.specs.Reading.{refusal_of}
 use Rattle.am_universe.specs.declared.kind.Kind.TheVariants as kinds
 use Rattle.am_files.proofs.FirstFaults.{handed_on}
 use Rattle.am_complete.specs.AskedLabel.{IsAskedOf}
+use Rattle.am_complete.specs.declared.allowed_names.AllowedNames.TheVariants as allowed_are
 use Rattle.am_universe_command.specs.Universes.{deciding_matchers, deciding_labels}
 use Rattle.am_universe_command.specs.Universes.{IsMakingRefusal}
 use Rattle.am_asked.specs.Made.{IsMadeBeside}
@@ -58,7 +59,7 @@ returns-in-Ok-found-clause-made c =
     let at = (goal.at.returns-in-Ok-found-clause-made c).After-as_slice-labels in
     let questions = map question_view read.questions.items in
     let ms = deciding_matchers c.args.form.routes read.world questions read.space.impossible in
-    subst (λ alerts. IsMadeBeside c.args.form.alphabet c.args.form.open read.space
+    subst (λ alerts. IsMadeBeside c.args.form.alphabet allowed_are.OfFiles c.args.form.open read.space
     (deciding_labels c.args.form.routes read.world questions read.space.impossible) alerts ms
     c.in-Ok-found.universe) c.alerts.ensures.alerts
     (rw (are_asked at) at ((rw c.in-Ok-found.is at c.in_ok-found.ensures.made) ms (is_asked at)))

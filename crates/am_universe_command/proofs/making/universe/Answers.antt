@@ -8,6 +8,7 @@ use Rattle.am_universe_command.specs.UniverseInputs.{universe_input_stages}
 use Rattle.am_files.specs.Faults.{later_stages}
 use Rattle.am_asked.specs.OriginPointer.{matcher_places}
 use Rattle.am_universe_command.specs.Universes.{universe_promise, RefusesMaking}
+use Rattle.am_universe_command.proofs.FileNames.{space_named}
 use Rattle.am_universe_command.proofs.UniverseStages.{making_refused}
 use Rattle.am_universe_command.proofs.making.universe.Goals as goal
 
@@ -22,6 +23,11 @@ returns-in_err-read g c =
           (later_stages matcher_places (RefusesMaking inputs c.args.form)) fault.place (refusal_of fault)
           (c.in_err-read.ensures.first remembered));
     }
+
+pub made_text-requires-clause-named : goal.made_text-requires-clause-named
+made_text-requires-clause-named g c =
+    space_named c.args.inputs.now.universe c.in_ok-read.read.space
+    c.in_ok-read.ensures.accepts.says_universe
 
 pub returns-in_err-text : goal.returns-in_err-text
 returns-in_err-text g c =
