@@ -1,6 +1,6 @@
 -- Texts without a line feed, and lines that are made of them.
 use Rattle.std.proofs.Common.{◌≡◌, ◌==◌, ℕ, zero, suc, ◌/◌, ◌%◌, List, [], ◌∷◌, ◌++◌, true}
-use Rattle.std.proofs.Common.{false, not, decimal, refl, arith, inl, inr}
+use Rattle.std.proofs.Common.{false, not, decimal, refl, arith, inl, inr, sym, codes, append_assoc}
 use Rattle.std.specs.Fmt.{digits, digits_onto, digit_glyph}
 use Rattle.std.specs.List.{flat_map, list_all}
 use Rattle.std.specs.Str.Parse.{AllDigits}
@@ -23,7 +23,10 @@ use Rattle.am_report_texts.specs.MatchersText.{matcher_text}
 use Rattle.am_report_texts.specs.Lines.{is_unbroken, IsLine}
 use Rattle.am_report_texts.specs.Line.{Piece, Words, Value, ShownRoute, Shown, Word, unbroken}
 use Rattle.am_report_texts.specs.Line.{word_behind, shown_route_text}
-use Rattle.am_report_texts.specs.Line.{shown_text, piece_text, pieces_line}
+use Rattle.am_report_texts.specs.Line.{Line, shown_text, piece_text, pieces_line, line_text}
+use Rattle.am_report_texts.specs.Line.{mark_of}
+use Rattle.am_report_texts.specs.declared.lines.Level.{Level}
+use Rattle.am_report_texts.specs.declared.lines.Level.TheVariants.{Finding, Note, Plain}
 
 -- A text has no line feed: a record, so that `search` finds the parts that a text is made of.
 record IsUnbroken (text : List ℕ) : Type 0 where
@@ -136,3 +139,17 @@ piece (Value field s) = shown s
 pub one_pieces_line : (pieces : List Piece) → IsLine (pieces_line pieces)
 one_pieces_line pieces =
     (flat_map piece_text pieces, (each_of piece_text piece pieces).holds, refl)
+
+mark : (level : Level) → IsUnbroken (mark_of level)
+mark Note = search parts
+mark _ = nothing
+
+marked : (level : Level) (text : List ℕ) → IsLine text → IsLine (mark_of level ++ text)
+marked level text h = (
+  mark_of level ++ h.0,
+  (both (mark_of level) h.0 (mark level) (record { holds = h.1 })).holds,
+  rw h.2 (sym (append_assoc (mark_of level) h.0 (codes "\n"))),
+)
+
+pub one_line : (line : Line) → IsLine (line_text line)
+one_line line = marked line.level (pieces_line line.pieces) (one_pieces_line line.pieces)

@@ -102,8 +102,8 @@ shown_text (Matchers ms) = matchers_text ms
 shown_text (Routes rs) = texts_behind [] (codes ", ") shown_route_text rs
 shown_text (Inhibitors is) = texts_behind [] (codes ",") inhibitor_text is
 
--- A line is its pieces, one behind the other, and a line feed. A report is its lines and its last
--- line.
+-- A line is its pieces, one behind the other, and a line feed. The text of a note has the word
+-- `note` in front. A report is its lines and its last line.
 -- Source: own choice.
 -- Example: the words `# `, the number 2 and the words ` changes` are the line `# 2 changes`.
 abbrev pub piece_text : Piece → List ℕ
@@ -113,8 +113,13 @@ piece_text (Value f shown) = shown_text shown
 abbrev pub pieces_line : List Piece → List ℕ
 pieces_line pieces = flat_map piece_text pieces ++ codes "\n"
 
+abbrev pub mark_of : Level → List ℕ
+mark_of level_is.Finding = []
+mark_of level_is.Note = codes "note "
+mark_of level_is.Plain = []
+
 abbrev pub line_text : Line → List ℕ
-line_text line = pieces_line line.pieces
+line_text line = mark_of line.level ++ pieces_line line.pieces
 
 abbrev pub report_text : Report → List ℕ
 report_text r = flat_map line_text r.lines ++ pieces_line r.last

@@ -13,6 +13,8 @@ use am_labels::Matcher;
 #[derive(Clone, Copy, PartialEq, Eq, Drop)]
 pub enum Field {
     Alert,
+    Alerts,
+    Below,
     Changes,
     Classes,
     Equal,
@@ -33,8 +35,10 @@ pub enum Field {
     Notes,
     Old,
     Options,
+    Others,
     Part,
     Path,
+    Pattern,
     Place,
     Pointer,
     Question,
@@ -59,6 +63,8 @@ impl Field {
     {
         match self {
             Field::Alert => "alert",
+            Field::Alerts => "alerts",
+            Field::Below => "below",
             Field::Changes => "changes",
             Field::Classes => "classes",
             Field::Equal => "equal",
@@ -79,8 +85,10 @@ impl Field {
             Field::Notes => "notes",
             Field::Old => "old",
             Field::Options => "options",
+            Field::Others => "others",
             Field::Part => "part",
             Field::Path => "path",
+            Field::Pattern => "pattern",
             Field::Place => "place",
             Field::Pointer => "pointer",
             Field::Question => "question",
@@ -100,7 +108,8 @@ impl Field {
     }
 }
 
-/// Whether a line is a finding or a note, in a report that tells these apart.
+/// Whether a line is a finding or a note, in a report that tells these apart. The text of a note
+/// begins with the word `note`.
 #[derive(Clone, Copy, PartialEq, Eq, Drop)]
 pub enum Level {
     Finding,

@@ -8,13 +8,13 @@ ghost use Rattle.am_config.specs.Path.{path_text, step_text};
 ghost use Rattle.am_report_texts.specs.MatchersText.{matcher_text};
 ghost use Rattle.am_report_texts.specs.NameText.{name_text};
 ghost use Rattle.am_report_texts.specs.Separated.{texts_behind};
-ghost use Rattle.am_report_texts.specs.Line.{inhibitor_text, label_text, line_text, piece_text};
-ghost use Rattle.am_report_texts.specs.Line.{pieces_line, report_text, shown_route_text};
-ghost use Rattle.am_report_texts.specs.Line.{shown_text, unbroken, word_behind};
+ghost use Rattle.am_report_texts.specs.Line.{inhibitor_text, label_text, line_text, mark_of};
+ghost use Rattle.am_report_texts.specs.Line.{piece_text, pieces_line, report_text};
+ghost use Rattle.am_report_texts.specs.Line.{shown_route_text, shown_text, unbroken, word_behind};
 ghost use Rattle.am_report_texts.specs.LineView.{line_view, piece_view, pieces_view, report_view};
 ghost use Rattle.am_report_texts.specs.LineView.{route_view, shown_view};
 
-use crate::lines::{Line, Name, Piece, Report, Shown, ShownRoute};
+use crate::lines::{Level, Line, Name, Piece, Report, Shown, ShownRoute};
 use crate::{gap_before, push_name, push_quoted};
 use am_config::Path;
 use am_labels::Matcher;
@@ -61,7 +61,18 @@ impl TextItem for Line<'_> {
     ghost item_text = { λ line. line_text (line_view line) };
 
     fn push_to(&self, alloc: Global, text: &mut String) -> Result<(), AllocError> {
+        text.push_str(mark_of(self.level))?;
         push_pieces(alloc, text, self.pieces.as_slice())
+    }
+}
+
+/// What stands in front of a line, by its level.
+fn mark_of(level: Level) -> &'static str
+    ensures { result.now ≡ mark_of level }
+{
+    match level {
+        Level::Note => "note ",
+        Level::Finding | Level::Plain => "",
     }
 }
 
