@@ -208,17 +208,15 @@ module _ (alphabet : Alphabet) (s : Space) (u v : List Label) (c : Configuration
   pub lines_so : (receivers : List (Option ReceiverFinding)) (lines : List Line)
       → receivers ≡ map (receiver_finding routes) (range_with_len 0 (length c.receivers))
       → lines ≡ report_lines v c (map said_of routes) receivers
-      → SaysOfRoutes alphabet s v c lines
+      → SaysOfRoutes alphabet s v c (map said_of routes) receivers lines
   lines_so receivers lines are lines_are =
       let all = range_with_len 0 (length c.receivers) in
       record {
-        routes = map said_of routes;
         each_route = zip_mapped IsSo (IsSaid alphabet s v c) said_of (λ route found is. (
           is.path,
           is.receiver,
           finding_so s u v c route.0 alphabet found.ordinary found.every is.ordinary is.further,
         )) (all_routes c) routes so;
-        receivers = receivers;
         each_receiver = subst (λ found. AllZip (IsReceiverFinding alphabet s c) all found) (sym are)
             (zip_own (IsReceiverFinding alphabet s c) (receiver_finding routes) (λ receiver.
             receiver_by receiver (list_any (has_ordinary receiver) routes)

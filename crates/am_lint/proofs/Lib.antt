@@ -15,3 +15,4 @@ pub mod FoundLemmas
 pub mod ReasonLaws
 pub mod FoundOver
 pub mod LookingSteps
+pub mod BelowLaws

@@ -18,17 +18,16 @@ IsSaid a s u c route said =
     (said.path ≡ route.0) × (said.receiver ≡ receiver_of route.1)
     × IsRouteFinding a s u c route.0 said.finding
 
--- The lines are those of a configuration, for the alerts of a space over an alphabet. What they say
--- of each route, in preorder, and of each receiver, in order, is true, and nothing is left out. The
--- label sets that they show are over some labels.
+-- The lines are those of a configuration, for the alerts of a space over an alphabet. What is said
+-- of each route, in preorder, and of each receiver, in order, is true, and the lines leave out
+-- nothing of it but what is said above. The label sets that they show are over some labels.
 -- Source: own choice.
 -- Example: if for each route some ordinary alert ends there, and for each receiver some ordinary
 -- alert goes to it, there are no lines.
 pub record SaysOfRoutes (a : Alphabet) (s : Space) (labels : List Label) (c : Configuration)
-    (lines : List Line) : Type 0 where
-  pub routes : List Said
+    (routes : List Said) (receivers : List (Option ReceiverFinding)) (lines : List Line)
+    : Type 0 where
   pub each_route : AllZip (IsSaid a s labels c) (all_routes c) routes
-  pub receivers : List (Option ReceiverFinding)
   pub each_receiver :
       AllZip (IsReceiverFinding a s c) (range_with_len 0 (length c.receivers)) receivers
   pub lines_are : lines ≡ report_lines labels c routes receivers

@@ -6,6 +6,7 @@ ghost use Rattle.am_labels.specs.MatcherText.{is_name, Spells};
 ghost use Rattle.am_universe.specs.Universe.{Label, IsUniverse};
 ghost use Rattle.am_labels.specs.Space.{Space};
 ghost use Rattle.am_config.specs.ConfigFile.{Configuration};
+ghost use Rattle.am_config.specs.Path.{leads_through};
 ghost use Rattle.am_eval.specs.Reaching.{IsSetOf, IsDead, IsNeverEntered};
 ghost use Rattle.am_classes.specs.declared.alphabet.Alphabet.{Alphabet};
 ghost use Rattle.am_complete.specs.Complete.{IsSpaceComplete};
@@ -38,6 +39,14 @@ pub fn a_reason_keeps_alerts_out()
     ensures handed { (a : Alphabet) (s : Space) (c : Configuration) (path : List ℕ)
         (children : List (List ℕ)) → IsHandedTo (IsAlertOf a s) c path children
         → IsDead (IsAlertOf a s) c path }
+{}
+
+/// If no alert enters a route, none enters a route below it. So the line of a dead route is true of
+/// the routes below it too.
+pub fn no_alert_enters_below_a_route_that_none_enters()
+    ensures below { (a : Alphabet) (s : Space) (c : Configuration) (path below : List ℕ)
+        → IsTrue (leads_through path below) → IsNeverEntered (IsAlertOf a s) c path
+        → IsNeverEntered (IsAlertOf a s) c below }
 {}
 
 /// All alerts arrive at a route as the label sets of a complete space do, for the same reasons. The

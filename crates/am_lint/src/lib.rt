@@ -25,9 +25,11 @@ pub use finding::{found_receivers, found_routes, look_further};
 pub use found::{FoundRoute, ReceiverFinding, RouteFinding};
 
 // The lines for both.
+mod below;
 mod lint_lines;
 
-pub use lint_lines::{count_pieces, push_lint_lines};
+pub use below::{count_below, push_below};
+pub use lint_lines::{count_pieces, matchers_at, push_lint_lines};
 
 // What follows from the definitions alone.
 pub mod laws;

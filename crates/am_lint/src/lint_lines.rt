@@ -5,13 +5,16 @@ ghost use Rattle.std.specs.List.{AllByRecursion};
 ghost use Rattle.am_universe.specs.Universe.{sizes};
 ghost use Rattle.am_config.specs.ConfigView.{config_view};
 ghost use Rattle.am_report_texts.specs.LineView.{line_view, pieces_view, route_view};
-ghost use Rattle.am_lint.specs.FoundView.{finding_view, said_of, IsShown, IsShownFinding};
+ghost use Rattle.am_lint.specs.FoundView.{finding_of, finding_view, said_of, IsShown};
+ghost use Rattle.am_lint.specs.FoundView.{IsShownFinding};
 ghost use Rattle.am_lint.specs.LintLines.{blame_pieces, cause_text, count_pieces, finding_line};
-ghost use Rattle.am_lint.specs.LintLines.{having, kind_text, level_of, matchers_at, reason_pieces};
-ghost use Rattle.am_lint.specs.LintLines.{receiver_kind, receiver_level, receiver_line};
-ghost use Rattle.am_lint.specs.LintLines.{report_lines, shown_route, shown_said, why_pieces};
+ghost use Rattle.am_lint.specs.LintLines.{hands_on, having, kind_text, level_of, matchers_at};
+ghost use Rattle.am_lint.specs.LintLines.{only_group, reason_pieces, receiver_kind};
+ghost use Rattle.am_lint.specs.LintLines.{receiver_level, receiver_line, report_lines};
+ghost use Rattle.am_lint.specs.LintLines.{said_lines, shown_route, shown_said, why_pieces};
 
 use crate::arrival::{Cause, Reason};
+use crate::below::{count_below, is_said_above, push_below};
 use crate::found::{FoundRoute, ReceiverFinding, RouteFinding};
 use am_config::{Config, Path};
 use am_labels::Matcher;
@@ -40,9 +43,7 @@ pub fn push_lint_lines<'a>(
         receivers.now) }
 {
     for route in routes {
-        if let Some(finding) = route.finding() {
-            lines.push(route_line(alloc, universe, config, route, &finding)?)?;
-        }
+        push_route_line(alloc, lines, universe, config, routes, route)?;
     }
     for (i, finding) in receivers.iter().enumerate() {
         if let Some(finding) = finding {
@@ -54,17 +55,42 @@ pub fn push_lint_lines<'a>(
 
 // ---- Routes.
 
+/// Adds the line of a route among all routes, unless nothing is said of it, or it is said above.
+fn push_route_line<'a>(
+    alloc: Global,
+    lines: &mut Vec<Line<'a>>,
+    universe: &'a Universe,
+    config: &'a Config,
+    routes: &[FoundRoute],
+    route: &'a FoundRoute,
+) -> Result<(), AllocError>
+    requires { IsShown (sizes universe.now) (config_view config.now) route.now }
+    ensures { OnOk result (map line_view lines.new.items ≡ map line_view lines.old.items
+        ++ said_lines universe.now (config_view config.now) (map said_of routes.now)
+        (said_of route.now)) }
+{
+    let Some(finding) = route.finding() else {
+        return Ok(());
+    };
+    if !is_said_above(routes, route) {
+        lines.push(route_line(alloc, universe, config, routes, route, &finding)?)?;
+    }
+    Ok(())
+}
+
 fn route_line<'a>(
     alloc: Global,
     universe: &'a Universe,
     config: &'a Config,
+    routes: &[FoundRoute],
     route: &FoundRoute,
     finding: &RouteFinding<'a>,
 ) -> Result<Line<'a>, AllocError>
     requires shown { IsShownFinding (sizes universe.now) (Some (finding_view finding.now)) }
     requires receiver { route.now.receiver < length (config_view config.now).receivers }
     ensures { IfOk result (λ line. line_view line ≡ finding_line universe.now
-        (config_view config.now) route.now.path route.now.receiver (finding_view finding.now)) }
+        (config_view config.now) (map said_of routes.now) route.now.path route.now.receiver
+        (finding_view finding.now)) }
 {
     let receiver = config.receiver_name(route.receiver);
     let matchers = matchers_at(alloc, config, &route.path)?;
@@ -79,6 +105,9 @@ fn route_line<'a>(
         Piece::Words(": "),
     ]?;
     push_why(alloc, &mut pieces, universe, config, finding)?;
+    if level_of(finding) == Level::Finding {
+        push_below(&mut pieces, count_below(routes, &route.path))?;
+    }
     Ok(Line {
         level: level_of(finding),
         pieces,
@@ -100,8 +129,8 @@ fn level_of(finding: &RouteFinding<'_>) -> Level
     ensures { result ≡ level_of (finding_view finding.now) }
 {
     match finding {
-        RouteFinding::Dead(_) => Level::Finding,
-        RouteFinding::Unusual(_, _) | RouteFinding::HandsOn(_) => Level::Note,
+        RouteFinding::Dead(_) | RouteFinding::Unusual(_, _) => Level::Finding,
+        RouteFinding::HandsOn(_) => Level::Note,
     }
 }
 
@@ -217,7 +246,7 @@ fn receiver_line<'a>(
         ""
     };
     Ok(Line {
-        level: receiver_level(finding),
+        level: receiver_level(routes, receiver),
         pieces: vec![in alloc;
             Piece::Words("receiver "),
             Piece::Value(Field::Receiver, Shown::Text(config.receiver_name(receiver))),
@@ -239,13 +268,31 @@ fn receiver_kind(finding: ReceiverFinding) -> &'static str
     }
 }
 
-fn receiver_level(finding: ReceiverFinding) -> Level
-    ensures { result ≡ receiver_level finding }
+/// The level of what is said of a receiver: a note if its routes only group others.
+fn receiver_level(routes: &[FoundRoute], receiver: usize) -> Level
+    ensures { result ≡ receiver_level (map said_of routes.now) receiver }
 {
-    match finding {
-        ReceiverFinding::Unmatched => Level::Finding,
-        ReceiverFinding::Unusual => Level::Note,
+    if only_group(routes, receiver) {
+        Level::Note
+    } else {
+        Level::Finding
     }
+}
+
+/// Whether some route has a receiver, and each that has it hands on.
+fn only_group(routes: &[FoundRoute], receiver: usize) -> bool
+    ensures { result ≡ only_group receiver (map said_of routes.now) }
+{
+    routes.iter().any(|route| route.receiver == receiver)
+        && !routes
+            .iter()
+            .any(|route| route.receiver == receiver && !hands_on(route))
+}
+
+fn hands_on(route: &FoundRoute) -> bool
+    ensures { result ≡ hands_on (finding_of route.now) }
+{
+    matches!(route.finding(), Some(RouteFinding::HandsOn(_)))
 }
 
 /// Returns the routes that have the given receiver, each with the word for its finding or note.
@@ -285,13 +332,14 @@ fn shown_said<'a>(
     })
 }
 
-/// Returns the matchers of the route at a path.
-fn matchers_at<'a>(
+/// Returns the matchers of the route at a path, or none if there is no such route. Fails only if
+/// memory runs out.
+pub fn matchers_at<'a>(
     alloc: Global,
     config: &'a Config,
     path: &Path,
 ) -> Result<Vec<&'a Matcher>, AllocError>
-    ensures { IfOk result (λ found.
+    ensures matchers { IfOk result (λ found.
         map (λ m. m.now) found.items ≡ matchers_at (config_view config.now) path.now) }
 {
     match config.at(path) {

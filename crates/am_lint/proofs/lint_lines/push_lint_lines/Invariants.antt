@@ -11,7 +11,7 @@ abbrev pub invariant-loop-route : goal.invariant-loop-route
 invariant-loop-route l =
     map line_view l.lines.items
     ≡ map line_view l.initial.lines.items
-    ++ flat_map (said_lines l.universe (config_view l.config))
+    ++ flat_map (said_lines l.universe (config_view l.config) (map said_of l.routes))
     (map said_of (take l.route-index l.routes))
 
 -- the lines of all routes, and of the receivers so far
