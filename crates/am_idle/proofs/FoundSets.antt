@@ -1,7 +1,7 @@
--- What a search finds, and what it says of a list of matchers: whether the list matches some label
--- set of a space, or whether it does not match some.
-use Rattle.std.proofs.Common.{◌≡◌, ◌↔◌, ℕ, List, Bool, true, false, not, refl, sym, ap, ◌∙◌, arith}
-use Rattle.std.specs.Prelude.{◌&&◌}
+-- What a search finds among the choices of a space, and what it says of the label sets of the space.
+use Rattle.std.proofs.Common.{◌≡◌, ◌↔◌, ℕ, List, Bool, true, false, not, Option, Some, None}
+use Rattle.std.proofs.Common.{IfSome, IfNone, refl, subst, arith}
+use Rattle.std.specs.Prelude.{◌&&◌, is_some}
 use Rattle.std.proofs.lemmas.Bool.{both_ways, cases_Bool}
 use Rattle.std.proofs.lemmas.Grind.{common_steps}
 use Rattle.am_labels.specs.Space.{Space, IsChoiceOf}
@@ -11,7 +11,7 @@ use Rattle.am_judged_lists.specs.Cube.{IsCubeOf, MaskedLabels, matches}
 use Rattle.am_first_sets.specs.PossibleChoices.{AreFound}
 use Rattle.am_first_sets.proofs.CubeTruth.{matches_where}
 use Rattle.am_first_sets.proofs.SolverLemmas.{some_choice}
-use Rattle.am_eval.specs.Reaching.{IsSetOf}
+use Rattle.am_eval.specs.Reaching.{IsSetOf, SomeIs, NoneIs}
 
 -- ---- What a search finds.
 
@@ -20,36 +20,39 @@ pub one_found : (Is : List ℕ → Type 0) (test : List ℕ → Bool) (b : List 
 one_found Is test b so =
     let r = some_choice b so.some in let met = so.each r.0 r.1 in (r.0, met.0, met.1)
 
--- ---- One cube.
+-- the test of a search tells whether the label set of a choice has a property
+module _ (s : Space) (Is : List ℕ → Type 0) (are : (c : List ℕ) → Is c ↔ IsChoiceOf s c)
+    (test : List ℕ → Bool) (Has : LabelMap → Type 0)
+    (tells : (c : List ℕ) → IsChoiceOf s c → test c ≡ true ↔ Has (label_set_of s.labels c)) where
+  pub some_set : (found : Option (List (List Bool))) → IfSome found (AreFound Is test)
+      → is_some found ≡ true → SomeIs (IsSetOf s) Has
+  some_set None so some = absurd (cc)
+  some_set (Some b) so some =
+      let r = one_found Is test b so in
+      let choice = (are r.0).0 r.1 in
+      (label_set_of s.labels r.0, (r.0, choice, refl), (tells r.0 choice).0 r.2)
 
--- what is asked of a choice: that a cube matches it, or that it does not
-abbrev pub asked : MaskedLabels → Bool → List ℕ → Bool
-asked cube true c = (matches cube c && true) && true
-asked cube false c = true && (not (matches cube c) && true)
+  pub no_set : (found : Option (List (List Bool)))
+      → IfNone found ((c : List ℕ) → Is c → test c ≡ false) → is_some found ≡ false
+      → NoneIs (IsSetOf s) Has
+  no_set None none unfound set (c, choice, same) has =
+      both_ways (test c) (none c ((are c).1 choice)) ((tells c choice).1 (subst Has same has))
+  no_set (Some b) none unfound set is has = absurd (cc)
 
-asked_is : (cube : MaskedLabels) (wanted : Bool) (c : List ℕ)
-    → asked cube wanted c ≡ true ↔ matches cube c ≡ wanted
-asked_is cube true c = grind (arith, common_steps, cases_Bool)
-asked_is cube false c = grind (arith, common_steps, cases_Bool)
+-- ---- What cubes tell.
 
-module _ (s : Space) (ms : List Matcher) (cube : MaskedLabels) (is : IsCubeOf s.labels ms cube)
-    (Is : List ℕ → Type 0) (are : (c : List ℕ) → Is c ↔ IsChoiceOf s c) (wanted : Bool) where
-  says : (c : List ℕ) → IsChoiceOf s c → matches cube c ≡ all_hold (label_set_of s.labels c) ms
-  says c choice = matches_where s.labels c choice.0 ms cube (is c choice.0.0)
+pub cube_tells : (s : Space) (ms : List Matcher) (cube : MaskedLabels) → IsCubeOf s.labels ms cube
+    → (c : List ℕ) → IsChoiceOf s c → matches cube c ≡ all_hold (label_set_of s.labels c) ms
+cube_tells s ms cube is c choice = matches_where s.labels c choice.0 ms cube (is c choice.0.0)
 
-  pub some_set : (b : List (List Bool)) → AreFound Is (asked cube wanted) b
-      → (set : LabelMap) × IsSetOf s set × (all_hold set ms ≡ wanted)
-  some_set b so =
-      let r = one_found Is (asked cube wanted) b so in
-      let choice = (are r.0).0 r.1 in (
-        label_set_of s.labels r.0,
-        (r.0, choice, refl),
-        sym (says r.0 choice) ∙ (asked_is cube wanted r.0).0 r.2,
-      )
+-- a search with one wanted cube, with two, and with one that is wanted and one that is not
+pub one_wanted : (b d : Bool) → b ≡ d → ((b && true) && true) ≡ true ↔ d ≡ true
+one_wanted b d e = grind (arith, common_steps, cases_Bool)
 
-  pub no_set : ((c : List ℕ) → Is c → asked cube wanted c ≡ false) → (set : LabelMap)
-      → IsSetOf s set → all_hold set ms ≡ wanted → ⊥
-  no_set none set (c, choice, same) matched =
-      both_ways (asked cube wanted c) (none c ((are c).1 choice))
-      ((asked_is cube wanted c).1
-      (says c choice ∙ ap (λ (x : LabelMap). all_hold x ms) (sym same) ∙ matched))
+pub two_wanted : (b c d e : Bool) → b ≡ d → c ≡ e
+    → ((b && (c && true)) && true) ≡ true ↔ (d ≡ true) × (e ≡ true)
+two_wanted b c d e same other = grind (arith, common_steps, cases_Bool)
+
+pub one_unwanted : (b c d e : Bool) → b ≡ d → c ≡ e
+    → ((b && true) && (not c && true)) ≡ true ↔ (d ≡ true) × (e ≡ false)
+one_unwanted b c d e same other = grind (arith, common_steps, cases_Bool)

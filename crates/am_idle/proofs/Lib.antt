@@ -1,4 +1,5 @@
 pub mod FoundSets
+pub mod NamedSets
 pub mod ListsStand
 pub mod SilenceSteps
 pub mod RuleAlerts

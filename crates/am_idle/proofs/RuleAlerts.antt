@@ -42,12 +42,14 @@ use Rattle.am_every_alert.proofs.SpaceAlerts.{space_choice, alert_of_set}
 use Rattle.am_every_alert.proofs.TreatedAlike.{front_met, rest_met, all_alike, same_possible}
 use Rattle.am_idle.specs.declared.rules.IdleReason.{IdleReason}
 use Rattle.am_idle.specs.declared.rules.IdleReason.TheVariants as reason_is
+use Rattle.am_idle.specs.declared.rule_findings.RuleFinding.{RuleFinding}
+use Rattle.am_idle.specs.declared.rule_findings.RuleFinding.TheVariants as finding_is
 use Rattle.am_idle.specs.Lists.{listed_matchers}
 use Rattle.am_idle.specs.Lists.{StandsForLists}
 use Rattle.am_idle.specs.RuleChoices.{labels_named, AreMeeting, IsFoundOf}
-use Rattle.am_idle.specs.RuleLines.{HasPositionsIfAny}
+use Rattle.am_idle.specs.RuleLines.{HasPositionsIn, HasPositionsIfAny}
 use Rattle.am_idle.specs.Rules.{MayMeet, SomeMeet, SomeInhibit, Matches, MeetsAt, MeetsAtBut}
-use Rattle.am_idle.specs.Rules.{IsWhyNone, IsIdle, IsRuleFinding}
+use Rattle.am_idle.specs.Rules.{IsWhyNone, IsIdle, IsIdleReason, IsRuleFinding}
 
 -- ---- The labels of some names.
 
@@ -372,7 +374,7 @@ module _ (rule : Rule) where
       )
 
       pub found_over : (finding : Option IdleReason)
-          → IsFoundOf (AreMeeting made rule.equal) rule finding → IsRuleFinding a s rule finding
+          → IsFoundOf (AreMeeting made rule.equal) rule finding → IsIdleReason a s rule finding
       found_over None two =
           let meet = alerts_meet two.0 two.1 two.2 in (
             two.0,
@@ -385,9 +387,16 @@ module _ (rule : Rule) where
           let over = why_over reason why in (idle_by reason over, over)
 
 -- the positions in a reason are positions in the sides
-pub positions_told : (a : Alphabet) (s : Space) (rule : Rule) (finding : Option IdleReason)
+pub reason_positions : (Meet : LabelMap → LabelMap → Type 0) (rule : Rule) (reason : IdleReason)
+    → IsWhyNone Meet rule reason → HasPositionsIn rule reason
+reason_positions Meet rule (reason_is.Contradiction source target) why =
+    (why.in_source, why.in_target)
+reason_positions Meet rule reason_is.Both why = tt
+
+-- so are those of a finding
+pub positions_told : (a : Alphabet) (s : Space) (rule : Rule) (finding : Option RuleFinding)
     → IsRuleFinding a s rule finding → HasPositionsIfAny rule finding
 positions_told a s rule None is = tt
-positions_told a s rule (Some (reason_is.Contradiction source target)) is =
-    (is.1.in_source, is.1.in_target)
-positions_told a s rule (Some reason_is.Both) is = tt
+positions_told a s rule (Some (finding_is.Idle reason)) is =
+    reason_positions (MayMeet a s rule) rule reason is.1
+positions_told a s rule (Some finding_is.Unproved) is = tt

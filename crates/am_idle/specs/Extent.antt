@@ -1,10 +1,8 @@
 -- Which of the label sets that occur a list of matchers matches. A parameter says which occur:
 -- those of the choices of a space, or those that alerts may have. (This project's own.)
-use Rattle.std.specs.Prelude.{List, IsTrue, IsFalse}
+use Rattle.std.specs.Prelude.{◌⊎◌, List, IsTrue, IsFalse}
 use Rattle.am_universe.specs.LabelSet.{LabelMap}
 use Rattle.am_labels.specs.Matcher.{Matcher, all_hold}
-use Rattle.am_idle.specs.declared.extent.Extent.{Extent}
-use Rattle.am_idle.specs.declared.extent.Extent.TheVariants as extent_is
 
 -- A list matches none of the label sets that occur, or each of them, or at least one. Or there is
 -- one that it does not match.
@@ -24,11 +22,13 @@ MatchesOne Occurs ms = (set : LabelMap) × Occurs set × IsTrue (all_hold set ms
 abbrev pub MissesOne : (LabelMap → Type 0) → List Matcher → Type 0
 MissesOne Occurs ms = (set : LabelMap) × Occurs set × IsFalse (all_hold set ms)
 
--- How far a list reaches: whether it matches none, each or some of the label sets that occur. If
--- nothing occurs, it matches none.
--- Source: own choice.
--- Example: if every alert counts, `team="db"` matches some alerts, but not all.
-abbrev pub IsExtent : (LabelMap → Type 0) → List Matcher → Extent → Type 0
-IsExtent Occurs ms extent_is.NoAlert = MatchesNone Occurs ms
-IsExtent Occurs ms extent_is.EachAlert = MatchesOne Occurs ms × MatchesEach Occurs ms
-IsExtent Occurs ms extent_is.SomeAlerts = MatchesOne Occurs ms × MissesOne Occurs ms
+-- A list matches all of the label sets that occur: each of them, and there is one. Or it does not:
+-- there is one that it does not match, or it matches none.
+-- Source: own choice: of nothing, a list does not match all.
+-- Example: if every alert counts, `team="db"` does not match all, because it does not match
+-- `{team="web"}`.
+abbrev pub MatchesAll : (LabelMap → Type 0) → List Matcher → Type 0
+MatchesAll Occurs ms = MatchesOne Occurs ms × MatchesEach Occurs ms
+
+abbrev pub MatchesNotAll : (LabelMap → Type 0) → List Matcher → Type 0
+MatchesNotAll Occurs ms = MissesOne Occurs ms ⊎ MatchesNone Occurs ms

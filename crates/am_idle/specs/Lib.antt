@@ -1,5 +1,6 @@
 pub mod Lists
 pub mod Extent
+pub mod NamedAlerts
 pub mod Silences
 pub mod SilenceLines
 pub mod Rules

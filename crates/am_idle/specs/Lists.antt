@@ -9,6 +9,7 @@ use Rattle.am_labels.specs.Matcher.{Matcher}
 use Rattle.am_labels.specs.Space.{Space}
 use Rattle.am_classes.specs.declared.alphabet.Alphabet.{Alphabet}
 use Rattle.am_complete.specs.AskedLabel.{AskedLabel, asked_labels}
+use Rattle.am_complete.specs.declared.allowed_names.AllowedNames.TheVariants as allowed_are
 use Rattle.am_complete.specs.Room.{HaveNoRoom}
 use Rattle.am_asked.specs.Made.{undeclared, IsFirstUnproved}
 use Rattle.am_asked.specs.Placed.{placed_in_lists}
@@ -40,12 +41,13 @@ StandsForLists a s lists u =
     StandsFor a (space_of s.impossible u) (listed_matchers lists)
 
 -- No universe is made, and the kind says why: there is no room for the labels that are asked about,
--- or there is for all but some that are unproved.
+-- or there is for all but some that are unproved. No label is unproved for its name.
 -- Source: own choice.
 -- Example: if a list has 65 matchers with `=`, each for a different label, it is `Limit`. It may be
 -- `Unproved` if a list has `team=~"\bdb"`.
 abbrev pub IsRefusalForLists : Alphabet → Space → List (List Matcher) → Kind → Type 0
 IsRefusalForLists a s lists kind =
-    ((kind ≡ kinds.Limit) × HaveNoRoom a (undeclared s) (labels_of_lists s lists))
+    ((kind ≡ kinds.Limit) × HaveNoRoom a allowed_are.Any (undeclared s) (labels_of_lists s lists))
     ⊎ ((kind ≡ kinds.Unproved)
-    × ((label : AskedLabel) × IsFirstUnproved a (undeclared s) (labels_of_lists s lists) label))
+    × ((label : AskedLabel)
+    × IsFirstUnproved a allowed_are.Any (undeclared s) (labels_of_lists s lists) label))

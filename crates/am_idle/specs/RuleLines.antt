@@ -5,9 +5,12 @@ use Rattle.am_labels.specs.Matcher.{Matcher}
 use Rattle.am_config.specs.ConfigFile.{Rule}
 use Rattle.am_report_texts.specs.Line.{Line, Piece, Words, Value, Word, Number, Matchers}
 use Rattle.am_report_texts.specs.declared.lines.Field.TheVariants as field_is
+use Rattle.am_report_texts.specs.declared.lines.Level.{Level}
 use Rattle.am_report_texts.specs.declared.lines.Level.TheVariants as level_is
 use Rattle.am_idle.specs.declared.rules.IdleReason.{IdleReason}
 use Rattle.am_idle.specs.declared.rules.IdleReason.TheVariants as reason_is
+use Rattle.am_idle.specs.declared.rule_findings.RuleFinding.{RuleFinding}
+use Rattle.am_idle.specs.declared.rule_findings.RuleFinding.TheVariants as finding_is
 use Rattle.am_idle.specs.Rules.{AreWithin}
 
 -- The matchers at some positions of a list.
@@ -44,20 +47,43 @@ idle_pieces rule (reason_is.Contradiction source target) =
 idle_pieces rule reason_is.Both = Value field_is.Reason
     (Word (codes "each two alerts that match source and target match both sides")) ∷ []
 
--- The line of the idle rule at a position; and the lines of a rule: none if nothing is said of it.
+-- That it is not known which alerts match the two sides of a rule.
+-- Source: own choice.
+-- Example: `it is not known which alerts match source {team=~"\\bdb"} and target {team="web"}`.
+abbrev pub unproved_pieces : Rule → List Piece
+unproved_pieces rule =
+    Value field_is.Reason (Word (codes "it is not known which alerts match"))
+    ∷ Words (codes " source ") ∷ Value field_is.Source (Matchers rule.source)
+    ∷ Words (codes " and target ") ∷ Value field_is.Target (Matchers rule.target) ∷ []
+
+-- The word for what is said of a rule, and what is said. A rule that is idle is a finding, and one
+-- that is unproved a note.
+abbrev pub rule_kind : RuleFinding → List ℕ
+rule_kind (finding_is.Idle reason) = codes "idle"
+rule_kind finding_is.Unproved = codes "unproved"
+
+abbrev pub rule_level : RuleFinding → Level
+rule_level (finding_is.Idle reason) = level_is.Finding
+rule_level finding_is.Unproved = level_is.Note
+
+abbrev pub finding_pieces : Rule → RuleFinding → List Piece
+finding_pieces rule (finding_is.Idle reason) = idle_pieces rule reason
+finding_pieces rule finding_is.Unproved = unproved_pieces rule
+
+-- The line of the rule at a position; and the lines of a rule: none if nothing is said of it.
 -- Source: own choice.
 -- Example: `rule 3 idle: no alert matches source {team="db",team="web"}`.
-abbrev pub rule_line : ℕ → Rule → IdleReason → Line
-rule_line position rule reason = record {
-  level = level_is.Finding;
+abbrev pub rule_line : ℕ → Rule → RuleFinding → Line
+rule_line position rule finding = record {
+  level = rule_level finding;
   pieces = Words (codes "rule ") ∷ Value field_is.Rule (Number position) ∷ Words (codes " ")
-      ∷ Value field_is.Kind (Word (codes "idle")) ∷ Words (codes ": ")
-      ∷ idle_pieces rule reason;
+      ∷ Value field_is.Kind (Word (rule_kind finding)) ∷ Words (codes ": ")
+      ∷ finding_pieces rule finding;
 }
 
-abbrev pub rule_lines : ℕ → Rule → Option IdleReason → List Line
+abbrev pub rule_lines : ℕ → Rule → Option RuleFinding → List Line
 rule_lines position rule None = []
-rule_lines position rule (Some reason) = rule_line position rule reason ∷ []
+rule_lines position rule (Some finding) = rule_line position rule finding ∷ []
 
 -- The positions that a reason has are positions in the sides of the rule.
 abbrev pub HasPositionsIn : Rule → IdleReason → Type 0
@@ -65,6 +91,11 @@ HasPositionsIn rule (reason_is.Contradiction source target) =
     AreWithin rule.source source.items × AreWithin rule.target target.items
 HasPositionsIn rule reason_is.Both = ⊤
 
-abbrev pub HasPositionsIfAny : Rule → Option IdleReason → Type 0
+-- The positions that a finding has, if it has any, are such.
+abbrev pub HasPositions : Rule → RuleFinding → Type 0
+HasPositions rule (finding_is.Idle reason) = HasPositionsIn rule reason
+HasPositions rule finding_is.Unproved = ⊤
+
+abbrev pub HasPositionsIfAny : Rule → Option RuleFinding → Type 0
 HasPositionsIfAny rule None = ⊤
-HasPositionsIfAny rule (Some reason) = HasPositionsIn rule reason
+HasPositionsIfAny rule (Some finding) = HasPositions rule finding

@@ -1,9 +1,11 @@
 -- What is said of inhibition rules, and when it is true of all alerts. (This project's own.)
-use Rattle.std.specs.Prelude.{◌≡◌, ◌≢◌, ◌<◌, ℕ, List, length, ◌&&◌, Option, Some, None, Contains}
+use Rattle.std.specs.Prelude.{◌≡◌, ◌≢◌, ◌<◌, ℕ, List, [], ◌∷◌, length, ◌&&◌, Contains}
+use Rattle.std.specs.Prelude.{Option, Some, None}
 use Rattle.std.specs.Prelude.{slice_get, IsTrue, IsFalse}
 use Rattle.std.specs.List.{AllByRecursion}
 use Rattle.std.specs.List.Sorted.{IsStrictlySortedBy}
 use Rattle.std.specs.Ordering.{nat_cmp}
+use Rattle.am_universe.specs.declared.kind.Kind.TheVariants as kinds
 use Rattle.am_universe.specs.LabelSet.{LabelMap}
 use Rattle.am_labels.specs.Matcher.{Matcher, condition_holds, all_hold}
 use Rattle.am_labels.specs.Space.{Space}
@@ -13,6 +15,9 @@ use Rattle.am_classes.specs.declared.alphabet.Alphabet.{Alphabet}
 use Rattle.am_every_alert.specs.EveryAlert.{IsAlertOf}
 use Rattle.am_idle.specs.declared.rules.IdleReason.{IdleReason}
 use Rattle.am_idle.specs.declared.rules.IdleReason.TheVariants as reason_is
+use Rattle.am_idle.specs.declared.rule_findings.RuleFinding.{RuleFinding}
+use Rattle.am_idle.specs.declared.rule_findings.RuleFinding.TheVariants as finding_is
+use Rattle.am_idle.specs.Lists.{IsRefusalForLists}
 
 -- ---- Pairs of alerts.
 
@@ -108,12 +113,28 @@ abbrev pub IsIdle : Alphabet → Space → Rule → Type 0
 IsIdle a s rule =
     (x y : LabelMap) → IsAlertOf a s x → IsAlertOf a s y → IsFalse (inhibits rule x y)
 
--- What is said of a rule is true. Nothing is said if some alert inhibits another by the rule.
+-- Why a rule is idle, if it is. No reason is given if some alert inhibits another by the rule.
 -- Otherwise the rule is idle, for this reason.
 -- Source: own choice.
--- Example: a rule without matchers and without `equal` is said to be idle, because any two alerts
--- match both sides.
-abbrev pub IsRuleFinding : Alphabet → Space → Rule → Option IdleReason → Type 0
-IsRuleFinding a s rule None =
+-- Example: a rule without matchers and without `equal` is idle, because any two alerts match both
+-- sides.
+abbrev pub IsIdleReason : Alphabet → Space → Rule → Option IdleReason → Type 0
+IsIdleReason a s rule None =
     (x : LabelMap) × (y : LabelMap) × IsAlertOf a s x × IsAlertOf a s y × IsTrue (inhibits rule x y)
-IsRuleFinding a s rule (Some reason) = IsIdle a s rule × IsWhyNone (MayMeet a s rule) rule reason
+IsIdleReason a s rule (Some reason) = IsIdle a s rule × IsWhyNone (MayMeet a s rule) rule reason
+
+-- The matchers of the two sides of a rule.
+abbrev pub sides_of : Rule → List (List Matcher)
+sides_of rule = rule.source ∷ rule.target ∷ []
+
+-- What is said of a rule is true. Nothing is said if some alert inhibits another by the rule.
+-- Otherwise the rule is said to be idle, for a reason. It is unproved if it could not be computed
+-- which texts of a label its matchers and the impossible lists tell apart.
+-- Source: own choice.
+-- Example: a rule with `team="db"` and `team="web"` on its source side is said to be idle. One with
+-- `team=~"\bdb"` may be unproved.
+abbrev pub IsRuleFinding : Alphabet → Space → Rule → Option RuleFinding → Type 0
+IsRuleFinding a s rule None = IsIdleReason a s rule None
+IsRuleFinding a s rule (Some (finding_is.Idle reason)) = IsIdleReason a s rule (Some reason)
+IsRuleFinding a s rule (Some finding_is.Unproved) =
+    IsRefusalForLists a s (sides_of rule) kinds.Unproved

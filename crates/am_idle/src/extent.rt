@@ -1,15 +1,13 @@
 //! Which of all alerts a list of matchers matches.
-//!
-//! Two searches decide this: one for a label set that the list matches, and one for a label set
-//! that it does not match.
 
-ghost use Rattle.std.specs.Prelude.{◌≡◌, ◌≢◌, [], ◌∷◌, List, IfOk, IfErr, OnOk};
+ghost use Rattle.std.specs.Prelude.{◌≡◌, ◌≢◌, List, [], ◌∷◌, IsTrue, IsFalse, IfOk, IfErr, OnOk};
 ghost use Rattle.am_universe.specs.declared.kind.Kind.TheVariants as kinds;
 ghost use Rattle.am_universe.specs.Universe.{Label};
+ghost use Rattle.am_labels.specs.Matcher.{all_hold};
+ghost use Rattle.am_eval.specs.Reaching.{IsSetOf};
 ghost use Rattle.am_every_alert.specs.EveryAlert.{IsAlertOf};
 ghost use Rattle.am_idle.specs.Lists.{StandsForLists, IsRefusalForLists};
-ghost use Rattle.am_eval.specs.Reaching.{IsSetOf};
-ghost use Rattle.am_idle.specs.Extent.{IsExtent};
+ghost use Rattle.am_idle.specs.Extent.{MatchesOne, MatchesNone, MatchesAll, MatchesNotAll};
 
 use crate::lists::universe_for_lists;
 use am_classes::Alphabet;
@@ -19,29 +17,21 @@ use am_labels::{Matchers, Space};
 use am_universe::{Kind, Universe};
 use std::alloc::{AllocError, Global};
 
-/// Whether a list of matchers matches all alerts, some or none.
-#[derive(Clone, Copy)]
-pub(crate) enum Extent {
-    /// It matches no alert.
-    NoAlert,
-    /// It matches every alert.
-    EachAlert,
-    /// It matches some alerts, but not all.
-    SomeAlerts,
-}
-
-/// Finds which alerts over an alphabet a list matches, among those that no impossible list of a
-/// space matches. The space declares no label, before and after.
+/// Whether a list of matchers matches some alert over an alphabet, among those that no impossible
+/// list of a space matches. The space declares no label, before and after.
 ///
 /// Fails with `Limit`, `Unproved` and `Memory` as [`universe_for_lists`] does.
-pub(crate) fn extent_of(
+pub(crate) fn matches_some(
     alloc: Global,
     alphabet: Alphabet,
     space: &mut Space,
     matchers: &Matchers,
-) -> Result<Extent, Kind>
+) -> Result<bool, Kind>
     requires { space.old.labels ≡ [] }
-    ensures extent { IfOk result (IsExtent (IsAlertOf alphabet space.old) matchers.now) }
+    ensures some { IfOk result (λ some. IsTrue some
+        → MatchesOne (IsAlertOf alphabet space.old) matchers.now) }
+    ensures none { IfOk result (λ some. IsFalse some
+        → MatchesNone (IsAlertOf alphabet space.old) matchers.now) }
     ensures made { OnOk result ((u : List Label)
         × StandsForLists alphabet space.old (matchers.now ∷ []) u) }
     ensures refused { IfErr result (λ kind. kind ≢ kinds.Memory
@@ -51,23 +41,44 @@ pub(crate) fn extent_of(
 {
     let universe = universe_for_lists(alloc, alphabet, space, &[matchers])?;
     space.declare(universe);
-    let extent = extent_in(alloc, space, matchers);
+    let some = matches_some_in(alloc, space, matchers);
     space.declare(Universe::empty(alloc));
-    Ok(extent?)
+    Ok(some?)
 }
 
-/// Finds which label sets of a space a list matches. Fails only if memory runs out.
-fn extent_in(alloc: Global, space: &Space, matchers: &Matchers) -> Result<Extent, AllocError>
-    ensures { IfOk result (IsExtent (IsSetOf space.now) matchers.now) }
+/// Whether a list matches some label set of a space. Fails only if memory runs out.
+fn matches_some_in(alloc: Global, space: &Space, matchers: &Matchers) -> Result<bool, AllocError>
+    ensures some { IfOk result (λ some. IsTrue some
+        → MatchesOne (IsSetOf space.now) matchers.now) }
+    ensures none { IfOk result (λ some. IsFalse some
+        → MatchesNone (IsSetOf space.now) matchers.now) }
+{
+    let possible = PossibleSets::of(alloc, space)?;
+    let cube = Cube::of(alloc, matchers, space.universe())?;
+    let found = possible.choices().meeting(alloc, &[&cube], &[])?;
+    Ok(found.is_some())
+}
+
+/// Whether a list matches all label sets of a space that another list matches. Fails only if memory
+/// runs out.
+pub(crate) fn matches_all_in(
+    alloc: Global,
+    space: &Space,
+    matchers: &Matchers,
+    among: &Matchers,
+) -> Result<bool, AllocError>
+    ensures all { IfOk result (λ all. IsTrue all → MatchesAll
+        (λ set. IsSetOf space.now set × IsTrue (all_hold set among.now)) matchers.now) }
+    ensures not_all { IfOk result (λ all. IsFalse all → MatchesNotAll
+        (λ set. IsSetOf space.now set × IsTrue (all_hold set among.now)) matchers.now) }
 {
     let possible = PossibleSets::of(alloc, space)?;
     let choices = possible.choices();
     let cube = Cube::of(alloc, matchers, space.universe())?;
-    let Some(_) = choices.meeting(alloc, &[&cube], &[])? else {
-        return Ok(Extent::NoAlert);
-    };
-    let Some(_) = choices.meeting(alloc, &[], &[&cube])? else {
-        return Ok(Extent::EachAlert);
-    };
-    Ok(Extent::SomeAlerts)
+    let among = Cube::of(alloc, among, space.universe())?;
+    if choices.meeting(alloc, &[&among], &[&cube])?.is_some() {
+        return Ok(false);
+    }
+    let matched = choices.meeting(alloc, &[&among, &cube], &[])?;
+    Ok(matched.is_some())
 }

@@ -13,6 +13,7 @@ ghost use Rattle.am_every_alert.specs.EveryAlert.{IsAlertOf, MeetsTheSame};
 ghost use Rattle.am_idle.specs.declared.silences.SilenceFinding.TheVariants as finding_is;
 ghost use Rattle.am_every_alert.specs.Deciding.{space_of};
 ghost use Rattle.am_idle.specs.Lists.{listed_matchers, StandsForLists};
+ghost use Rattle.am_idle.specs.NamedAlerts.{IsNamedAlert};
 ghost use Rattle.am_idle.specs.Silences.{IsSilenceFinding};
 ghost use Rattle.am_idle.specs.declared.rules.IdleReason.{IdleReason};
 ghost use Rattle.am_idle.specs.Rules.{MayMeet, IsWhyNone, IsIdle};
@@ -31,7 +32,8 @@ pub fn a_universe_for_lists_stands_for_every_alert()
 {}
 
 /// An idle silence hides no alert of the space over the alphabet, at any instant. A silence that is
-/// found to be `All` hides each of these alerts at each instant at which it is active.
+/// found to be `All` hides each ordinary alert of the space that has an alertname, at each instant
+/// at which it is active. These alerts count over each alphabet.
 pub fn an_idle_silence_hides_no_alert()
     ensures idle { (a : Alphabet) (s : Space) (w : World) (alerts : Option (List LabelMap))
         (silence : Silence) (instant : ℤ) (alert : LabelMap)
@@ -39,9 +41,11 @@ pub fn an_idle_silence_hides_no_alert()
         → IsFalse (hides (at_instant w instant) alert silence) }
     ensures all { (a : Alphabet) (s : Space) (w : World) (alerts : Option (List LabelMap))
         (silence : Silence) (instant : ℤ) (alert : LabelMap)
-        → IsSilenceFinding a s w alerts silence (Some finding_is.All) → IsAlertOf a s alert
+        → IsSilenceFinding a s w alerts silence (Some finding_is.All) → IsNamedAlert s alert
         → IsTrue (is_active (Some instant) silence)
         → IsTrue (hides (at_instant w instant) alert silence) }
+    ensures count { (a : Alphabet) (s : Space) (alert : LabelMap)
+        → IsNamedAlert s alert → IsAlertOf a s alert }
 {}
 
 /// The reason that is given for an idle rule shows that it is idle: no alert inhibits another by

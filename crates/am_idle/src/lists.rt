@@ -10,6 +10,7 @@ ghost use Rattle.am_idle.specs.Lists.{StandsForLists, IsRefusalForLists};
 
 use am_asked::{asked_by_lists, universe_for};
 use am_classes::Alphabet;
+use am_complete::AllowedNames;
 use am_labels::{Matchers, Space};
 use am_universe::{Kind, Universe};
 use std::alloc::Global;
@@ -17,9 +18,10 @@ use std::alloc::Global;
 /// Makes a universe that stands for every alert over an alphabet, for some lists of matchers and
 /// the impossible lists of a space that declares no label.
 ///
+/// The universe stays in memory, so its labels may have any name that is not empty.
+///
 /// Fails with `Limit` if there is no room for the labels that the lists ask about; with `Unproved`
-/// if the classes of one could not be computed, or if one needs a value and its name is no label
-/// name; and with `Memory`.
+/// if the classes of one could not be computed; and with `Memory`.
 pub fn universe_for_lists(
     alloc: Global,
     alphabet: Alphabet,
@@ -33,7 +35,15 @@ pub fn universe_for_lists(
         → IsRefusalForLists alphabet space.now (map (λ list. list.now) lists.now) kind) }
 {
     let asked = asked_by_lists(alloc, lists, space.impossible())?;
-    match universe_for(alloc, alphabet, false, space, asked.as_slice(), None) {
+    match universe_for(
+        alloc,
+        alphabet,
+        AllowedNames::Any,
+        false,
+        space,
+        asked.as_slice(),
+        None,
+    ) {
         Ok(Ok(universe)) => Ok(universe),
         Ok(Err(_)) => Err(Kind::Unproved),
         Err(fault) => Err(fault.kind),

@@ -5,31 +5,33 @@ ghost use Rattle.am_report_texts.specs.Line as spec;
 ghost use Rattle.am_report_texts.specs.LineView.{line_view, piece_view, pieces_view};
 ghost use Rattle.am_report_texts.specs.declared.lines.Field.TheVariants as field_is;
 ghost use Rattle.am_idle.specs.Rules.{AreWithin};
-ghost use Rattle.am_idle.specs.RuleLines.{contradiction_pieces, idle_pieces, matchers_at};
+ghost use Rattle.am_idle.specs.RuleLines.{contradiction_pieces, idle_pieces, unproved_pieces};
+ghost use Rattle.am_idle.specs.RuleLines.{matchers_at, rule_kind, rule_level, finding_pieces};
 ghost use Rattle.am_idle.specs.RuleLines.{rule_line, rule_lines, HasPositionsIn};
-ghost use Rattle.am_idle.specs.RuleLines.{HasPositionsIfAny};
+ghost use Rattle.am_idle.specs.RuleLines.{HasPositions, HasPositionsIfAny};
 
+use crate::rule_findings::RuleFinding;
 use crate::rules::IdleReason;
 use am_config::Rule;
 use am_labels::{Matcher, Matchers};
-use am_report_texts::{Field, Level, Line, Piece, Shown};
+use am_report_texts::{Field, Level, Line, Piece, Shown, all_matchers};
 use std::alloc::{AllocError, Global};
 
-/// Adds the line of the rule at a position, or nothing if the rule is not idle. The positions in
-/// the reason are positions of the rule's matchers. Fails only if memory runs out.
+/// Adds the line of the rule at a position, or nothing without a finding. The positions in a reason
+/// are positions of the rule's matchers. Fails only if memory runs out.
 pub fn push_rule_line<'a>(
     alloc: Global,
     lines: &mut Vec<Line<'a>>,
     position: usize,
     rule: &'a Rule,
-    reason: &Option<IdleReason>,
+    finding: &Option<RuleFinding>,
 ) -> Result<(), AllocError>
-    requires { HasPositionsIfAny rule.now reason.now }
+    requires { HasPositionsIfAny rule.now finding.now }
     ensures lines { OnOk result (map line_view lines.new.items
-        ≡ map line_view lines.old.items ++ rule_lines position rule.now reason.now) }
+        ≡ map line_view lines.old.items ++ rule_lines position rule.now finding.now) }
 {
-    if let Some(reason) = reason {
-        lines.push(rule_line(alloc, position, rule, reason)?)?;
+    if let Some(finding) = finding {
+        lines.push(rule_line(alloc, position, rule, finding)?)?;
     }
     Ok(())
 }
@@ -38,23 +40,72 @@ fn rule_line<'a>(
     alloc: Global,
     position: usize,
     rule: &'a Rule,
-    reason: &IdleReason,
+    finding: &RuleFinding,
 ) -> Result<Line<'a>, AllocError>
-    requires { HasPositionsIn rule.now reason.now }
-    ensures { IfOk result (λ line. line_view line ≡ rule_line position rule.now reason.now) }
+    requires { HasPositions rule.now finding.now }
+    ensures { IfOk result (λ line. line_view line ≡ rule_line position rule.now finding.now) }
 {
     let mut pieces = vec![in alloc;
         Piece::Words("rule "),
         Piece::Value(Field::Rule, Shown::Number(position as u64)),
         Piece::Words(" "),
-        Piece::Value(Field::Kind, Shown::Word("idle")),
+        Piece::Value(Field::Kind, Shown::Word(rule_kind(finding))),
         Piece::Words(": "),
     ]?;
-    pieces.append(&mut idle_pieces(alloc, rule, reason)?)?;
+    pieces.append(&mut finding_pieces(alloc, rule, finding)?)?;
     Ok(Line {
-        level: Level::Finding,
+        level: rule_level(finding),
         pieces,
     })
+}
+
+fn rule_kind(finding: &RuleFinding) -> &'static str
+    ensures { result.now ≡ rule_kind finding.now }
+{
+    match finding {
+        RuleFinding::Idle(_) => "idle",
+        RuleFinding::Unproved => "unproved",
+    }
+}
+
+fn rule_level(finding: &RuleFinding) -> Level
+    ensures { result ≡ rule_level finding.now }
+{
+    match finding {
+        RuleFinding::Idle(_) => Level::Finding,
+        RuleFinding::Unproved => Level::Note,
+    }
+}
+
+/// Says what is wrong with a rule.
+fn finding_pieces<'a>(
+    alloc: Global,
+    rule: &'a Rule,
+    finding: &RuleFinding,
+) -> Result<Vec<Piece<'a>>, AllocError>
+    requires { HasPositions rule.now finding.now }
+    ensures { IfOk result (λ pieces.
+        pieces_view pieces.items ≡ finding_pieces rule.now finding.now) }
+{
+    match finding {
+        RuleFinding::Idle(reason) => idle_pieces(alloc, rule, reason),
+        RuleFinding::Unproved => unproved_pieces(alloc, rule),
+    }
+}
+
+/// Says that it is not known which alerts match the two sides of a rule.
+fn unproved_pieces<'a>(alloc: Global, rule: &'a Rule) -> Result<Vec<Piece<'a>>, AllocError>
+    ensures { IfOk result (λ pieces. pieces_view pieces.items ≡ unproved_pieces rule.now) }
+{
+    let sources = Shown::Matchers(all_matchers(alloc, rule.source())?);
+    let targets = Shown::Matchers(all_matchers(alloc, rule.target())?);
+    Ok(vec![in alloc;
+        reason_piece("it is not known which alerts match"),
+        Piece::Words(" source "),
+        Piece::Value(Field::Source, sources),
+        Piece::Words(" and target "),
+        Piece::Value(Field::Target, targets),
+    ]?)
 }
 
 /// Says why a rule is idle.

@@ -5,13 +5,13 @@
 //! leaves out each literal that is not needed. If there is, two more searches find out whether such
 //! a pair exists of which not both label sets match both sides.
 
-ghost use Rattle.std.specs.Prelude.{◌≡◌, ◌≢◌, List, [], ◌∷◌, IfOk, IfErr, OnOk};
+ghost use Rattle.std.specs.Prelude.{◌≡◌, ◌≢◌, List, [], IfOk, IfErr, IfSome, OnOk};
 ghost use Rattle.am_universe.specs.declared.kind.Kind.TheVariants as kinds;
 ghost use Rattle.am_universe.specs.Universe.{Label};
 ghost use Rattle.am_idle.specs.Lists.{StandsForLists, IsRefusalForLists};
 ghost use Rattle.am_idle.specs.RuleChoices.{AreMeeting, IsFoundOf};
-ghost use Rattle.am_idle.specs.Rules.{IsRuleFinding};
-ghost use Rattle.am_idle.specs.RuleLines.{HasPositionsIfAny};
+ghost use Rattle.am_idle.specs.Rules.{IsIdleReason, sides_of};
+ghost use Rattle.am_idle.specs.RuleLines.{HasPositionsIn};
 
 use crate::lists::universe_for_lists;
 use crate::sides::{has_inhibiting, labels_named, why_contradicting};
@@ -44,7 +44,7 @@ pub enum IdleReason {
 ///
 /// Fails with `Limit` if there is no room for the labels that the matchers of the rule and the
 /// impossible lists ask about; with `Unproved` if it could not be computed which texts of a label
-/// these tell apart, or if a label needs a value and its name is no label name; and with `Memory`.
+/// these tell apart; and with `Memory`.
 pub fn idle_reason(
     alloc: Global,
     alphabet: Alphabet,
@@ -52,12 +52,12 @@ pub fn idle_reason(
     rule: &Rule,
 ) -> Result<Option<IdleReason>, Kind>
     requires { space.old.labels ≡ [] }
-    ensures finding { IfOk result (IsRuleFinding alphabet space.old rule.now) }
-    ensures positions { IfOk result (HasPositionsIfAny rule.now) }
+    ensures reason { IfOk result (IsIdleReason alphabet space.old rule.now) }
+    ensures positions { IfOk result (λ found. IfSome found (HasPositionsIn rule.now)) }
     ensures made { OnOk result ((u : List Label)
-        × StandsForLists alphabet space.old (rule.now.source ∷ rule.now.target ∷ []) u) }
-    ensures refused { IfErr result (λ kind. kind ≢ kinds.Memory → IsRefusalForLists alphabet
-        space.old (rule.now.source ∷ rule.now.target ∷ []) kind) }
+        × StandsForLists alphabet space.old (sides_of rule.now) u) }
+    ensures refused { IfErr result (λ kind. kind ≢ kinds.Memory
+        → IsRefusalForLists alphabet space.old (sides_of rule.now) kind) }
     ensures labels { space.new.labels ≡ [] }
     ensures impossible { space.new.impossible ≡ space.old.impossible }
 {

@@ -60,6 +60,7 @@ fn silence_kind(finding: SilenceFinding) -> &'static str
         SilenceFinding::Idle => "idle",
         SilenceFinding::All => "all",
         SilenceFinding::Unused => "unused",
+        SilenceFinding::Unproved => "unproved",
     }
 }
 
@@ -69,8 +70,9 @@ fn silence_reason(finding: SilenceFinding) -> &'static str
 {
     match finding {
         SilenceFinding::Idle => "no alert matches",
-        SilenceFinding::All => "every alert matches",
+        SilenceFinding::All => "every ordinary alert with an alertname matches",
         SilenceFinding::Unused => "no alert of the file matches",
+        SilenceFinding::Unproved => "it is not known which alerts match",
     }
 }
 
@@ -79,6 +81,6 @@ fn silence_level(finding: SilenceFinding) -> Level
 {
     match finding {
         SilenceFinding::Idle | SilenceFinding::All => Level::Finding,
-        SilenceFinding::Unused => Level::Note,
+        SilenceFinding::Unused | SilenceFinding::Unproved => Level::Note,
     }
 }

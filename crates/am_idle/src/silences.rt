@@ -1,15 +1,20 @@
 //! Which silences do nothing, or hide everything.
 
 ghost use Rattle.std.specs.Prelude.{◌≡◌, ◌≢◌, [], slice_get, Some, IfOk};
-ghost use Rattle.std.specs.Prelude.{IfErr, OnOk, option_map};
+ghost use Rattle.std.specs.Prelude.{IfErr, IsFalse, OnOk, option_map};
 ghost use Rattle.std.specs.List.{AllZip, list_any};
 ghost use Rattle.am_universe.specs.declared.kind.Kind.TheVariants as kinds;
 ghost use Rattle.am_labels.specs.Matcher.{all_hold};
+ghost use Rattle.am_eval.specs.Silencing.{is_over};
+ghost use Rattle.am_classes.specs.declared.alphabet.Alphabet.{Alphabet};
+ghost use Rattle.am_every_alert.specs.EveryAlert.{IsAlertOf};
+ghost use Rattle.am_idle.specs.Extent.{MatchesOne};
 ghost use Rattle.am_idle.specs.Silences.{IsSilenceFinding, IsAccepted, IsSilenceRefused};
 ghost use Rattle.am_idle.specs.Silences.{IsFirstRefused, is_unused};
 
-use crate::extent::{Extent, extent_of};
+use crate::extent::matches_some;
 use crate::found::{FindingFault, push_finding};
+use crate::named_alerts::matches_all_named;
 use am_classes::Alphabet;
 use am_eval::World;
 use am_labels::{Matchers, Space};
@@ -22,10 +27,12 @@ use std::alloc::{AllocError, Global};
 pub enum SilenceFinding {
     /// It hides no alert, at any instant.
     Idle,
-    /// It hides every alert while it is active.
+    /// It hides every ordinary alert that has an alertname, while it is active.
     All,
     /// It is active and hides none of the alerts that fire, though it hides others.
     Unused,
+    /// It is not known which alerts it hides.
+    Unproved,
 }
 
 /// Finds what is wrong with each silence of a world, in their order, for every alert over an
@@ -33,10 +40,13 @@ pub enum SilenceFinding {
 /// the world's instant, or with which nothing is wrong. `Unused` is found only with `alerts`, which
 /// are those that fire. The space declares no label, before and after.
 ///
+/// A silence is `Unproved` if no universe can be made for its matchers and the impossible lists,
+/// because it could not be computed which texts of a label these tell apart. It also is if some
+/// alert matches it, but no universe can be made for the ordinary alerts that have an alertname.
+///
 /// Fails for the first silence that is refused: with `Limit` if there is no room for the labels
-/// that its matchers and the impossible lists ask about; with `Unproved` if it could not be
-/// computed which texts of a label these tell apart, or if a label needs a value and its name is no
-/// label name; or with `Memory` for any silence. A silence that is over is never refused.
+/// that its matchers and the impossible lists ask about; or with `Memory` for any silence. A
+/// silence that is over is never refused.
 pub fn find_silences(
     alloc: Global,
     alphabet: Alphabet,
@@ -87,15 +97,44 @@ fn find_silence(
     if world.over(position) {
         return Ok(None);
     }
-    match extent_of(alloc, alphabet, space, silence.matchers())? {
-        Extent::NoAlert => Ok(Some(SilenceFinding::Idle)),
-        Extent::EachAlert => Ok(Some(SilenceFinding::All)),
-        Extent::SomeAlerts => {
+    match matches_some(alloc, alphabet, space, silence.matchers()) {
+        Ok(true) => Ok(find_matching(alloc, space, world, position, silence, alerts)?),
+        Ok(false) => Ok(Some(SilenceFinding::Idle)),
+        Err(Kind::Unproved) => Ok(Some(SilenceFinding::Unproved)),
+        Err(kind) => Err(kind),
+    }
+}
+
+/// Finds what is wrong with the silence at a position, which is not over and which some alert
+/// matches. Fails only if memory runs out.
+fn find_matching(
+    alloc: Global,
+    space: &mut Space,
+    world: &World,
+    position: usize,
+    silence: &Silence,
+    alerts: Option<&Alerts>,
+) -> Result<Option<SilenceFinding>, AllocError>
+    requires none { space.old.labels ≡ [] }
+    requires silence { slice_get world.now.silences position ≡ Some silence.now }
+    ensures found { IfOk result (λ finding. (a : Alphabet)
+        → IsFalse (is_over world.now.instant silence.now)
+        → MatchesOne (IsAlertOf a space.old) silence.now.matchers
+        → IsSilenceFinding a space.old world.now (option_map (λ a. a.now) alerts.entry)
+        silence.now finding) }
+    ensures labels { space.new.labels ≡ [] }
+    ensures impossible { space.new.impossible ≡ space.old.impossible }
+{
+    match matches_all_named(alloc, space, silence.matchers()) {
+        Ok(true) => Ok(Some(SilenceFinding::All)),
+        Ok(false) => {
             if is_unused(alloc, world, position, silence, alerts)? {
                 return Ok(Some(SilenceFinding::Unused));
             }
             Ok(None)
         }
+        Err(Kind::Memory) => Err(AllocError),
+        Err(_) => Ok(Some(SilenceFinding::Unproved)),
     }
 }
 

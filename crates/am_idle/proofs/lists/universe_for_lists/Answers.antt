@@ -4,6 +4,7 @@ use Rattle.am_labels.specs.Matcher.{Matcher}
 use Rattle.am_labels.specs.Space.{Space}
 use Rattle.am_complete.specs.AskedLabel.{IsAskedOf}
 use Rattle.am_complete.specs.Complete.{impossible_matchers}
+use Rattle.am_complete.specs.declared.allowed_names.AllowedNames.TheVariants as allowed_are
 use Rattle.am_complete.specs.Room.{HaveNoRoom}
 use Rattle.am_complete.proofs.AmongMatchers.{last_among}
 use Rattle.am_asked.proofs.Undeclared.{undeclared_is}
@@ -41,5 +42,5 @@ returns-clause-refused c = λ remembered.
     let labels = labels_of_lists s (lists_of (goal.at.returns-clause-refused c).After-as_slice) in
     inl (
       λ i. (full.2 i).kind,
-      subst (λ (t : Space). HaveNoRoom c.args.alphabet t labels) (undeclared_is s c.requires) full.1,
+      subst (λ (t : Space). HaveNoRoom c.args.alphabet allowed_are.Any t labels) (undeclared_is s c.requires) full.1,
     )

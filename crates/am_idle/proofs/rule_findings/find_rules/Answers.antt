@@ -3,9 +3,8 @@ use Rattle.std.proofs.Common.{◌∙◌, subst}
 use Rattle.am_labels.specs.Space.{Space}
 use Rattle.am_complete.proofs.Pushed.{one_more_passes}
 use Rattle.am_report_texts.proofs.PieceSteps.{item_here}
-use Rattle.am_idle.specs.Lists.{IsRefusalForLists}
 use Rattle.am_idle.specs.Rules.{IsRuleFinding}
-use Rattle.am_idle.specs.RuleFindings.{IsRuleAccepted, sides_of}
+use Rattle.am_idle.specs.RuleFindings.{IsRuleAccepted, IsRuleRefused}
 use Rattle.am_idle.proofs.SilenceSteps.{zip_more, same_space}
 use Rattle.am_idle.proofs.rule_findings.find_rules.Goals as goal
 
@@ -17,8 +16,7 @@ returns-in-Err-clause-refused c = λ remembered.
       rule = rule;
       there = item_here rules c.loop-i.i rule c.loop-i-test.true c.index-rules-i.is;
       before = c.loop-i.invariant.accepted;
-      refused = subst (λ (t : Space).
-          IsRefusalForLists c.args.alphabet t (sides_of rule) c.in-Err.kind)
+      refused = subst (λ (t : Space). IsRuleRefused c.args.alphabet t rule c.in-Err.kind)
           (same_space c.loop-i.space c.args.space.now c.loop-i.invariant.labels c.requires
           c.loop-i.invariant.impossible)
           (c.in-Err.ensures.refused remembered);
@@ -31,18 +29,18 @@ loop-i-preserved c =
     let rules = c.args.rules.now in
     let i = c.loop-i.i in
     let rule = c.index-rules-i.result in
-    let reason = c.in-Ok.reason in
+    let finding = c.in-Ok.finding in
     let kept = c.loop-i.invariant in
     let at = item_here rules i rule c.loop-i-test.true c.index-rules-i.is in
     let same = same_space c.loop-i.space s kept.labels c.requires kept.impossible in
-    let is : IsRuleFinding a s rule reason =
-    subst (λ (t : Space). IsRuleFinding a t rule reason) same c.in-Ok.ensures.finding in
+    let is : IsRuleFinding a s rule finding =
+    subst (λ (t : Space). IsRuleFinding a t rule finding) same c.in-Ok.ensures.found in
     let accepted : IsRuleAccepted a s rule =
-    subst (λ (t : Space). IsRuleAccepted a t rule) same c.in-Ok.ensures.made in
+    subst (λ (t : Space). IsRuleAccepted a t rule) same c.in-Ok.ensures.accepted in
     record {
-      found = zip_more (IsRuleFinding a s) rules i rule reason c.loop-i.found.items _ at
+      found = zip_more (IsRuleFinding a s) rules i rule finding c.loop-i.found.items _ at
           c.in_ok-push_finding-in-Ok.ensures.added kept.found is;
       accepted = one_more_passes (IsRuleAccepted a s) rules i rule at kept.accepted accepted;
-      labels = c.idle_reason.ensures.labels;
-      impossible = c.idle_reason.ensures.impossible ∙ kept.impossible;
+      labels = c.find_rule.ensures.labels;
+      impossible = c.find_rule.ensures.impossible ∙ kept.impossible;
     }

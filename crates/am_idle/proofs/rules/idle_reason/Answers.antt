@@ -1,20 +1,24 @@
 -- What holds over the universe that is made holds over every alert.
-use Rattle.std.proofs.Common.{◌≡◌, subst, List, [], ◌∷◌}
+use Rattle.std.proofs.Common.{◌≡◌, subst, List, [], ◌∷◌, Option, Some, None}
+use Rattle.std.specs.Prelude.{IfSome}
 use Rattle.am_labels.specs.Matcher.{Matcher}
 use Rattle.am_labels.specs.Space.{Space}
 use Rattle.am_every_alert.specs.Deciding.{space_of}
+use Rattle.am_idle.specs.declared.rules.IdleReason.{IdleReason}
 use Rattle.am_idle.specs.Lists.{StandsForLists}
 use Rattle.am_idle.specs.RuleChoices.{AreMeeting, IsFoundOf}
-use Rattle.am_idle.proofs.RuleAlerts.{found_over, positions_told}
+use Rattle.am_idle.specs.RuleLines.{HasPositionsIn}
+use Rattle.am_idle.specs.Rules.{IsIdleReason, MayMeet}
+use Rattle.am_idle.proofs.RuleAlerts.{found_over, reason_positions}
 use Rattle.am_idle.proofs.rules.idle_reason.Goals as goal
 
-pub returns-clause-finding : goal.returns-clause-finding
-returns-clause-finding c =
+pub returns-clause-reason : goal.returns-clause-reason
+returns-clause-reason c =
     let a = c.args.alphabet in
     let s = c.args.space.now in
     let u = c.in_ok-universe.universe in
     let rule = c.args.rule.now in
-    let finding = c.in_ok-reason.field-0 in
+    let reason = c.in_ok-reason.field-0 in
     let declared : c.declare.new.self ≡ space_of s.impossible u =
     λ i. record {
       labels = c.declare.ensures.labels i;
@@ -24,11 +28,18 @@ returns-clause-finding c =
     (λ (ms : List Matcher). StandsForLists a s (ms ∷ rule.target ∷ []) u) c.source.ensures.source
     (subst (λ (ms : List Matcher). StandsForLists a s (c.source.result.now ∷ ms ∷ []) u)
     c.target.ensures.target c.in_ok-universe.ensures.stands) in
-    found_over rule a s u stands finding
-    (subst (λ (t : Space). IsFoundOf (AreMeeting t rule.equal) rule finding) declared
+    found_over rule a s u stands reason
+    (subst (λ (t : Space). IsFoundOf (AreMeeting t rule.equal) rule reason) declared
     c.in_ok-reason.ensures)
 
 pub returns-clause-positions : goal.returns-clause-positions
 returns-clause-positions c =
-    positions_told c.args.alphabet c.args.space.now c.args.rule.now c.in_ok-reason.field-0
-    (returns-clause-finding c)
+    by c.in_ok-reason.field-0 (returns-clause-reason c)
+  where
+    by : (found : Option IdleReason)
+        → IsIdleReason c.args.alphabet c.args.space.now c.args.rule.now found
+        → IfSome found (HasPositionsIn c.args.rule.now)
+    by None is = tt
+    by (Some reason) is =
+        reason_positions (MayMeet c.args.alphabet c.args.space.now c.args.rule.now) c.args.rule.now
+        reason is.1
