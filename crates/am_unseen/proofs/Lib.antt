@@ -5,4 +5,8 @@ pub mod EachOnce
 pub mod SeenValues
 pub mod SeenSets
 pub mod UnseenMatchers
+pub mod UnseenNames
+pub mod FirstMentions
+pub mod SilenceSteps
 pub mod SearchSteps
+pub mod MisspelledSteps

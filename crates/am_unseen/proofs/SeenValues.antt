@@ -1,11 +1,14 @@
--- The values that alerts have for a label, alert by alert, and what the code asks of a set of them.
-use Rattle.std.proofs.Common.{◌≡◌, ℕ, ◌+◌, List, [], ◌∷◌, refl, sym, ap, ◌∙◌, Bool, true, false}
-use Rattle.std.proofs.Common.{Some, take, map, fold, length, Bor, not, arith, ◌≢◌}
+-- The values that alerts have for a label and the names that they have, alert by alert, and what the
+-- code asks of a set of them.
+use Rattle.std.proofs.Common.{◌≡◌, ℕ, ◌+◌, List, [], ◌∷◌, ◌++◌, refl, sym, ap, ◌∙◌, Bool, true, false}
+use Rattle.std.proofs.Common.{Some, take, map, fold, length, Bor, arith, ◌≢◌, append-nil}
 use Rattle.std.specs.Prelude.{slice_get}
-use Rattle.std.specs.List.{filter, list_any}
+use Rattle.std.specs.FinMap.{keys}
+use Rattle.std.specs.List.{filter, flat_map, list_any}
 use Rattle.std.proofs.lemmas.Bool.{cases_Bool}
 use Rattle.std.proofs.lemmas.Grind.{common_steps}
 use Rattle.std.proofs.lemmas.List.{map_push}
+use Rattle.std.proofs.lemmas.List.Concat.{flat_map-append}
 use Rattle.std.proofs.lemmas.List.Elements.{filter-append}
 use Rattle.std.proofs.lemmas.List.Sums.{fold-append}
 use Rattle.indexmap.specs.IndexSet.{insert_key}
@@ -14,9 +17,10 @@ use Rattle.am_universe.specs.Text.{same_text}
 use Rattle.am_complete.specs.FoundState.{begins}
 use Rattle.am_complete.proofs.Pushed.{one_longer}
 use Rattle.am_report_texts.specs.EachOnce.{with_text, each_once}
-use Rattle.am_unseen.specs.Unseen.{seen_values, is_missing}
+use Rattle.am_unseen.specs.Unseen.{seen_values}
+use Rattle.am_unseen.specs.UnseenNames.{seen_names}
 
--- ---- One more alert.
+-- ---- The values with those of one more alert.
 
 seen_more : (alerts : List LabelMap) (name : List ℕ) (i : ℕ) (a : LabelMap)
     → slice_get alerts i ≡ Some a
@@ -46,14 +50,32 @@ value_more alerts name i a texts more at some put so_far =
     put ∙ ap (λ ts. with_text ts (value_of a name)) so_far
     ∙ sym (seen_more alerts name i a at ∙ rw some refl)
 
+-- ---- The names with those of one more alert.
+
+pub names_more : (alerts : List LabelMap) (i : ℕ) (a : LabelMap) (texts more : List (List ℕ))
+    → slice_get alerts i ≡ Some a → more ≡ fold with_text texts (keys a)
+    → texts ≡ seen_names (take i alerts) → more ≡ seen_names (take (i + 1) alerts)
+names_more alerts i a texts more at put so_far =
+    put ∙ ap (λ ts. fold with_text ts (keys a)) so_far
+    ∙ sym (ap seen_names (sym (one_longer alerts i a at))
+    ∙ ap each_once (flat_map-append keys (take i alerts) (a ∷ []))
+    ∙ fold-append with_text [] (flat_map keys (take i alerts)) (keys a ++ [])
+    ∙ ap (fold with_text (seen_names (take i alerts))) (append-nil (keys a)))
+
 -- ---- A set.
+
+-- whether a text of a set passes a test
+pub passes_there : (test : Bor (List ℕ) → Bool) (p : List ℕ → Bool)
+    → ((k : Bor (List ℕ)) → test k ≡ p k.now) → (keys : List (Bor (List ℕ)))
+    → list_any test keys ≡ list_any p (map (λ t. t.now) keys)
+passes_there test p same [] = refl
+passes_there test p same (k ∷ keys) = rw (same k, passes_there test p same keys) refl
 
 -- whether a set has a text
 pub text_there : (test : Bor (List ℕ) → Bool) (text : List ℕ)
     → ((k : Bor (List ℕ)) → test k ≡ same_text text k.now) → (keys : List (Bor (List ℕ)))
     → list_any test keys ≡ list_any (same_text text) (map (λ t. t.now) keys)
-text_there test text same [] = refl
-text_there test text same (k ∷ keys) = rw (same k, text_there test text same keys) refl
+text_there test text same keys = passes_there test (same_text text) same keys
 
 module _ (eq : Bor (List ℕ) → Bor (List ℕ) → Bool)
     (same : (a b : Bor (List ℕ)) → eq a b ≡ same_text a.now b.now) where
@@ -68,19 +90,7 @@ module _ (eq : Bor (List ℕ) → Bor (List ℕ) → Bool)
     map_push (λ (t : Bor (List ℕ)). t.now) keys k,
   )
 
--- a text that is missing, and one that is not
-pub none_missing : (text : List ℕ) (texts : List (Bor (List ℕ))) → length texts ≡ 0
-    → is_missing text (map (λ t. t.now) texts) ≡ false
-none_missing text [] e = refl
-none_missing text (t ∷ ts) e = absurd (cc)
-
-pub one_there : (text : List ℕ) (texts : List (List ℕ)) → list_any (same_text text) texts ≡ true
-    → is_missing text texts ≡ false
-one_there text [] e = refl
-one_there text (t ∷ ts) e = ap not e
-
-pub one_missing : (text : List ℕ) (texts : List (Bor (List ℕ))) → length texts ≢ 0
-    → list_any (same_text text) (map (λ t. t.now) texts) ≡ false
-    → is_missing text (map (λ t. t.now) texts) ≡ true
-one_missing text [] some e = absurd (some refl)
-one_missing text (t ∷ ts) some e = ap not e
+-- a set with some texts
+pub some_texts : (texts : List (Bor (List ℕ))) → length texts ≢ 0 → map (λ t. t.now) texts ≢ []
+some_texts [] some e = some refl
+some_texts (t ∷ ts) some e = absurd (cc)

@@ -1,26 +1,22 @@
--- What holds for a matcher that names an unseen value, and for the most similar value.
-use Rattle.std.proofs.Common.{◌≡◌, ◌≢◌, ◌≤◌, ◌<◌, ℕ, List, [], ◌∷◌, refl, sym, ap, ◌∙◌, Bool, true}
-use Rattle.std.proofs.Common.{false, ◌&&◌, inl, inr, Some, None, Contains, map, arith}
+-- What holds for a matcher that asks for what no alert has, and for the most similar value.
+use Rattle.std.proofs.Common.{◌≡◌, ◌≤◌, ◌<◌, ℕ, List, [], ◌∷◌, refl, sym, ap, ◌∙◌, Bool, true}
+use Rattle.std.proofs.Common.{false, not, ◌&&◌, inl, inr, Some, None, Contains, map}
 use Rattle.std.specs.Prelude.{IsTrue, nat_le}
 use Rattle.std.specs.List.{AllByRecursion, filter, list_any}
-use Rattle.std.specs.Cmp.Lexicographic.{bytes_decides}
-use Rattle.std.proofs.lemmas.Bool.{and_parts, and_from, not-true, not_from_false, leb-true}
+use Rattle.std.proofs.lemmas.Bool.{and_parts, and_from, not-true, leb-true, cases_Bool}
 use Rattle.std.proofs.lemmas.Bool.{false_from_ne_true, both_ways}
-use Rattle.std.proofs.lemmas.Grind.{common_steps}
-use Rattle.am_universe.proofs.LabelSetLemmas.{same_text-itself}
 use Rattle.am_universe.specs.LabelSet.{LabelMap, value_of}
-use Rattle.am_universe.specs.Text.{same_text}
 use Rattle.am_universe.proofs.ListLemmas.{IsIn, IsIn-map, IsIn-unmap, Contains-from_IsIn}
 use Rattle.am_universe.proofs.ListLemmas.{AllByRecursion-each}
-use Rattle.am_labels.specs.declared.op.Op.TheVariants.{Equal}
-use Rattle.am_labels.specs.Matcher.{Matcher, condition_holds, holds, is_equality}
-use Rattle.am_labels.proofs.OperatorLemmas.{equality_is}
+use Rattle.am_labels.specs.Matcher.{Matcher, condition_holds, holds, negates}
 use Rattle.am_labels.proofs.Passing.{any_in, in_any, passes_from_kept, kept_from_passes}
 use Rattle.am_complete.specs.FoundState.{begins, has_label}
 use Rattle.am_unseen.specs.declared.limits.TheConstants.{MOST_EDITS}
-use Rattle.am_unseen.specs.Unseen.{seen_values, is_missing, names_unseen_value}
-use Rattle.am_unseen.specs.Unseen.{most_similar, edits_between, is_similar, is_nearest}
+use Rattle.am_unseen.specs.Unseen.{seen_values, none_passes, is_true_of, asks_for_value}
+use Rattle.am_unseen.specs.Unseen.{asks_for_unseen}
+use Rattle.am_unseen.specs.Similar.{most_similar, edits_between, is_similar, is_nearest}
 use Rattle.am_unseen.proofs.EachOnce.{once_in, in_once}
+use Rattle.am_unseen.proofs.Found.{each_fails, some_text, none_from}
 use Rattle.am_complete.proofs.LabelTexts.{found}
 use Rattle.am_complete.proofs.PossibleTexts.{all_pass}
 use Rattle.am_unseen.proofs.Nearest.{all_too_far}
@@ -48,78 +44,60 @@ in_seen alerts name a i some =
     (inr (kept_from_passes begins values (value_of a name)
     (IsIn-map (λ b. value_of b name) alerts a i) some))
 
--- ---- A text that is missing.
-
-missing_not_in : (text : List ℕ) (texts : List (List ℕ)) → is_missing text texts ≡ true
-    → IsIn texts text → ⊥
-missing_not_in text [] h i = absurd i
-missing_not_in text (t ∷ ts) h i =
-    grind (arith, common_steps, not-true, in_any (same_text text) (t ∷ ts) text i, same_text-itself text)
-
-missing_some : (text : List ℕ) (texts : List (List ℕ)) → is_missing text texts ≡ true
-    → (t : List ℕ) × IsIn texts t
-missing_some text [] h = absurd (cc)
-missing_some text (t ∷ ts) h = (t, inl refl)
-
-not_in_missing : (text : List ℕ) (texts : List (List ℕ)) (t : List ℕ) → IsIn texts t
-    → (IsIn texts text → ⊥) → is_missing text texts ≡ true
-not_in_missing text [] t i none = absurd i
-not_in_missing text (x ∷ xs) t i none =
-    not_from_false (list_any (same_text text) (x ∷ xs))
-    (false_from_ne_true (list_any (same_text text) (x ∷ xs)) (λ some.
-    let r = any_in (same_text text) (x ∷ xs) some in
-    none (rw ((bytes_decides text r.0).0 r.2) r.1)))
-
 -- ---- A matcher.
 
--- the three conditions on a matcher that names an unseen value
-parts : (alerts : List LabelMap) (m : Matcher) → IsTrue (names_unseen_value alerts m)
-    → (is_equality m.op ≡ true) × (begins m.value ≡ true)
-    × (is_missing m.value (seen_values alerts m.name) ≡ true)
-parts alerts m h = grind (arith, common_steps, and_parts)
+no_text : (text : List ℕ) → begins text ≡ false → text ≡ []
+no_text [] e = refl
+no_text (c ∷ cs) e = absurd (cc)
+
+-- the conditions on a matcher that asks for what no alert has
+parts : (alerts : List LabelMap) (m : Matcher) → IsTrue (asks_for_unseen alerts m)
+    → (is_true_of m [] ≡ false) × (none_passes (is_true_of m) (seen_values alerts m.name) ≡ true)
+parts alerts m h =
+    let p = and_parts (asks_for_value m) (none_passes (is_true_of m) (seen_values alerts m.name)) h in
+    let q = and_parts (not (negates m.op)) (not (is_true_of m [])) p.0 in
+    (not-true (is_true_of m []) q.1, p.1)
 
 pub unseen_matches_none : (alerts : List LabelMap) (m : Matcher)
-    → IsTrue (names_unseen_value alerts m)
+    → IsTrue (asks_for_unseen alerts m)
     → list_any (λ a. condition_holds a m) alerts ≡ false
 unseen_matches_none alerts m h =
     let p = parts alerts m h in
+    let values = seen_values alerts m.name in
     false_from_ne_true (list_any (λ a. condition_holds a m) alerts) (λ some.
     let r = any_in (λ a. condition_holds a m) alerts some in
-    let equal = ap (λ op. holds op m.value (value_of r.0 m.name)) (equality_is m.op p.0) in
-    let same = (bytes_decides (value_of r.0 m.name) m.value).0 (sym equal ∙ r.2) in
-    missing_not_in m.value (seen_values alerts m.name) p.2
-    (rw same at (in_seen alerts m.name r.0 r.1 (ap begins same ∙ p.1))))
+    let value = value_of r.0 m.name in
+    elim (cases_Bool (begins value)) [
+      | inl there ↦
+          both_ways (is_true_of m value) (each_fails (is_true_of m) values value p.1
+          (in_seen alerts m.name r.0 r.1 there)) r.2
+      | inr none ↦
+          both_ways (is_true_of m []) p.0 (ap (is_true_of m) (sym (no_text value none)) ∙ r.2)
+    ])
 
 pub unseen_has_label : (alerts : List LabelMap) (m : Matcher)
-    → IsTrue (names_unseen_value alerts m) → IsTrue (list_any (has_label m.name) alerts)
+    → IsTrue (asks_for_unseen alerts m) → IsTrue (list_any (has_label m.name) alerts)
 unseen_has_label alerts m h =
-    let p = parts alerts m h in
-    let some = missing_some m.value (seen_values alerts m.name) p.2 in
+    let values = seen_values alerts m.name in
+    let some = some_text (is_true_of m) values (parts alerts m h).1 in
     let r = seen_in alerts m.name some.0 some.1 in
     in_any (has_label m.name) alerts r.0 r.1 (ap begins r.2 ∙ r.3)
 
-some_text : (text : List ℕ) → text ≢ [] → begins text ≡ true
-some_text [] h = absurd (h refl)
-some_text (c ∷ cs) h = refl
-
-pub each_unseen : (alerts : List LabelMap) (m : Matcher) → m.op ≡ Equal → m.value ≢ []
-    → IsTrue (list_any (has_label m.name) alerts)
+pub each_unseen : (alerts : List LabelMap) (m : Matcher) → negates m.op ≡ false
+    → holds m.op m.value [] ≡ false → IsTrue (list_any (has_label m.name) alerts)
     → list_any (λ a. condition_holds a m) alerts ≡ false
-    → IsTrue (names_unseen_value alerts m)
-each_unseen alerts m equal some labelled none =
+    → IsTrue (asks_for_unseen alerts m)
+each_unseen alerts m asks empty labelled none =
     let values = seen_values alerts m.name in
     let r = any_in (has_label m.name) alerts labelled in
-    let missing : is_missing m.value values ≡ true =
-    not_in_missing m.value values (value_of r.0 m.name) (in_seen alerts m.name r.0 r.1 r.2) (λ i.
-    let s = seen_in alerts m.name m.value i in
-    let same : same_text (value_of s.0 m.name) m.value ≡ true =
-    (bytes_decides (value_of s.0 m.name) m.value).1 s.2 in
+    let fails : none_passes (is_true_of m) values ≡ true =
+    none_from (is_true_of m) values (value_of r.0 m.name) (in_seen alerts m.name r.0 r.1 r.2)
+    (λ value i. false_from_ne_true (is_true_of m value) (λ found.
+    let s = seen_in alerts m.name value i in
     both_ways (list_any (λ a. condition_holds a m) alerts) none
-    (in_any (λ a. condition_holds a m) alerts s.0 s.1
-    (ap (λ op. holds op m.value (value_of s.0 m.name)) equal ∙ same))) in
-    and_from (is_equality m.op) (begins m.value && is_missing m.value values)
-    (ap is_equality equal)
-    (and_from (begins m.value) (is_missing m.value values) (some_text m.value some) missing)
+    (in_any (λ a. condition_holds a m) alerts s.0 s.1 (ap (is_true_of m) s.2 ∙ found)))) in
+    and_from (asks_for_value m) (none_passes (is_true_of m) values)
+    (and_from (not (negates m.op)) (not (is_true_of m [])) (ap not asks) (ap not empty)) fails
 
 -- ---- The most similar value.
 

@@ -1,4 +1,6 @@
+pub mod Similar
 pub mod Unseen
+pub mod UnseenNames
 pub mod Search
 pub mod SearchCode
 pub mod UnseenLines

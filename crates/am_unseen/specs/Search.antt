@@ -1,27 +1,44 @@
 -- What is kept while the matchers of a world are looked at.
-use Rattle.std.specs.Prelude.{◌≡◌, ℕ, List, [], ◌∷◌, ◌++◌, map, Option, Some}
-use Rattle.std.specs.Prelude.{if◌then◌else◌}
+use Rattle.std.specs.Prelude.{◌≡◌, ℕ, List, [], ◌∷◌, ◌++◌, map, Option, Some, if◌then◌else◌}
+use Rattle.std.specs.List.{list_any}
 use Rattle.std.specs.BTreeMap.{BTreeMap, get_by}
 use Rattle.std.specs.Ordering.{nat_cmp}
 use Rattle.std.specs.Cmp.Lexicographic.{slice_cmp}
 use Rattle.indexmap.specs.IndexSet.{IndexSet}
 use Rattle.am_universe.specs.LabelSet.{LabelMap}
+use Rattle.am_universe.specs.Text.{same_text}
 use Rattle.am_labels.specs.Matcher.{Matcher}
 use Rattle.am_complete.specs.declared.origin.Origin.{Origin}
-use Rattle.am_unseen.specs.Unseen.{UnseenValue, seen_values, names_unseen_value, unseen_value_of}
+use Rattle.am_unseen.specs.Unseen.{UnseenMatcher, seen_values, unseen_by}
+use Rattle.am_unseen.specs.UnseenNames.{Mention, mention_of}
 use denote.Ref.{Bor}
 
--- The alerts, and the unseen values that were found so far.
+-- The alerts, and what was found so far that matchers ask for and no alert has.
 pub record Search : Type 0 where
   pub alerts : List LabelMap
-  pub found : List UnseenValue
+  pub found : List UnseenMatcher
 
 -- The search after it has looked at one more matcher, which comes with its origin.
 abbrev pub after_matcher : Search → Origin × Matcher → Search
-after_matcher s placed =
-    if names_unseen_value s.alerts placed.1
-    then record s { found = s.found ++ unseen_value_of s.alerts placed ∷ [] }
-    else s
+after_matcher s placed = record s { found = s.found ++ unseen_by s.alerts placed }
+
+-- The names that were mentioned so far, and the first mention of each.
+pub record Mentions : Type 0 where
+  pub names : List (List ℕ)
+  pub firsts : List Mention
+
+-- These after one more mention; and after one more matcher, which mentions its name.
+abbrev pub mentioned : Mentions → Mention → Mentions
+mentioned s mention =
+    if list_any (same_text mention.1) s.names
+    then s
+    else record {
+      names = s.names ++ mention.1 ∷ [];
+      firsts = s.firsts ++ mention ∷ [];
+    }
+
+abbrev pub after_mention : Mentions → Origin × Matcher → Mentions
+after_mention s placed = mentioned s (mention_of placed)
 
 -- The texts of a set, in their order.
 abbrev pub texts_of : {S : Type 0} → IndexSet (Bor (List ℕ)) S → List (List ℕ)

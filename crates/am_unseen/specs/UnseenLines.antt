@@ -1,15 +1,21 @@
--- The lines of unseen values. (This project's own.)
+-- The lines of unseen names and of unseen matchers. (This project's own.)
 use Rattle.std.specs.Prelude.{ℕ, List, [], ◌∷◌, ◌++◌, Option, Some, None, codes, map}
-use Rattle.am_report_texts.specs.Line.{Line, Piece, Words, Value, Word, Number, Name, Text, Path}
+use Rattle.am_labels.specs.declared.op.Comparison.{Comparison}
+use Rattle.am_labels.specs.declared.op.Comparison.TheVariants as comparison_is
+use Rattle.am_labels.specs.Matcher.{comparison, operator_text}
+use Rattle.am_report_texts.specs.Line.{Line, Piece, Shown, Words, Value, Word, Number, Name, Text}
+use Rattle.am_report_texts.specs.Line.{Path}
 use Rattle.am_report_texts.specs.declared.lines.Field.{Field}
 use Rattle.am_report_texts.specs.declared.lines.Field.TheVariants as field_is
 use Rattle.am_report_texts.specs.declared.lines.Level.TheVariants as level_is
 use Rattle.am_complete.specs.declared.origin.Origin.{Origin}
 use Rattle.am_complete.specs.declared.origin.Origin.TheVariants as origin_is
-use Rattle.am_unseen.specs.Unseen.{UnseenValue}
+use Rattle.am_eval.specs.World.{World}
+use Rattle.am_unseen.specs.Unseen.{UnseenMatcher, unseen_matchers}
+use Rattle.am_unseen.specs.UnseenNames.{UnseenName, unseen_names}
 
--- The place of a matcher: the path of its route, or, if it stands elsewhere, the kind and the
--- position of what it stands in.
+-- The place of a matcher or of a name: the path of its route, or, if it stands elsewhere, the kind
+-- and the position of what it stands in.
 -- Source: own choice.
 -- Example: `/2/0`, `rule 3` and `silence 0`.
 abbrev pub numbered : List ℕ → Field → ℕ → List Piece
@@ -25,24 +31,54 @@ place_pieces (origin_is.Question position) =
 place_pieces (origin_is.Impossible position) =
     numbered (codes "impossible ") field_is.Impossible position
 
--- The most similar value, if there is one.
-abbrev pub similar_pieces : Option (List ℕ) → List Piece
-similar_pieces None = []
-similar_pieces (Some value) =
-    Words (codes ", some have ") ∷ Value field_is.Similar (Text value) ∷ []
+-- The pieces of a line up to the name of the label.
+abbrev pub begun_pieces : Origin → List ℕ → List Piece
+begun_pieces origin name =
+    place_pieces origin ++ Words (codes " ") ∷ Value field_is.Kind (Word (codes "unseen"))
+    ∷ Words (codes ": no alert has ") ∷ Value field_is.Name (Name name) ∷ []
 
--- The line of an unseen value.
+-- What some alerts have that is similar.
+abbrev pub similar_pieces : Shown → List Piece
+similar_pieces similar = Words (codes ", some have ") ∷ Value field_is.Similar similar ∷ []
+
+-- The most similar name, if there is one; and the line of an unseen name.
 -- Source: own choice.
--- Example: `/2/0 unseen: no alert has severity="critcal", some have "critical"`.
-abbrev pub unseen_line : UnseenValue → Line
-unseen_line unseen = record {
+-- Example: `note /2/0 unseen: no alert has tema, some have team`.
+abbrev pub similar_name_pieces : Option (List ℕ) → List Piece
+similar_name_pieces None = []
+similar_name_pieces (Some name) = similar_pieces (Name name)
+
+abbrev pub name_line : UnseenName → Line
+name_line unseen = record {
   level = level_is.Note;
-  pieces = place_pieces unseen.origin ++ Words (codes " ")
-      ∷ Value field_is.Kind (Word (codes "unseen")) ∷ Words (codes ": no alert has ")
-      ∷ Value field_is.Name (Name unseen.name) ∷ Words (codes "=")
-      ∷ Value field_is.Value (Text unseen.value) ∷ similar_pieces unseen.similar;
+  pieces = begun_pieces unseen.origin unseen.name ++ similar_name_pieces unseen.similar;
 }
 
--- The lines of unseen values, in their order.
-abbrev pub unseen_lines : List UnseenValue → List Line
-unseen_lines found = map unseen_line found
+-- The field of what a matcher compares with: a value, or a pattern.
+abbrev pub compared_field : Comparison → Field
+compared_field comparison_is.Text = field_is.Value
+compared_field comparison_is.Pattern = field_is.Pattern
+
+-- The most similar value, if there is one; and the line of a matcher that asks for what no alert
+-- has.
+-- Source: own choice.
+-- Example: `note /2/0 unseen: no alert has severity="critcal", some have "critical"` and
+-- `note /2/0 unseen: no alert has severity=~"critcal.*"`.
+abbrev pub similar_value_pieces : Option (List ℕ) → List Piece
+similar_value_pieces None = []
+similar_value_pieces (Some value) = similar_pieces (Text value)
+
+abbrev pub matcher_line : UnseenMatcher → Line
+matcher_line unseen = record {
+  level = level_is.Note;
+  pieces = begun_pieces unseen.origin unseen.matcher.name
+      ++ (Words (operator_text unseen.matcher.op)
+      ∷ Value (compared_field (comparison unseen.matcher.op)) (Text unseen.matcher.value)
+      ∷ similar_value_pieces unseen.similar);
+}
+
+-- The lines of a world: those of unseen names, and then those of unseen matchers.
+-- Source: own choice.
+-- Example: without alerts there are none.
+abbrev pub unseen_lines : World → List Line
+unseen_lines w = map name_line (unseen_names w) ++ map matcher_line (unseen_matchers w)

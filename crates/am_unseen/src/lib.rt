@@ -1,27 +1,31 @@
-//! Which values in matchers no firing alert has.
+//! Which label names and which values no firing alert has.
 //!
-//! [`unseen_values`] finds the matchers of a world with `=` and a value that none of its alerts
-//! has, though some alert has the label. Most often such a value is misspelled. Each comes with its
-//! origin and with the most similar value that an alert has. [`push_unseen`] adds a line for
-//! each.
+//! [`push_unseen`] adds a line for each label name that a configuration or a silence mentions and
+//! that no alert of a world has, and then one for each matcher that asks for a value that none has,
+//! though some alert has the label. Most often such a name or value is misspelled. Each line has
+//! the most similar name or value that an alert has.
 #![tactic(auto)]
 
-// How similar a value has to be to be shown.
+// How similar a name or a value has to be to be shown.
 pub mod limits;
 
-// An unseen value, and the value that is most similar to it.
+// Names and values that alerts have, and the most similar one.
+mod seen;
 mod similar;
-mod unseen_value;
 
-pub use unseen_value::UnseenValue;
+// The matchers of the silences that are not over.
+mod silences_left;
 
-// The search for unseen values, in the order of the files.
+// Unseen names: what is mentioned, and what of that no alert has.
+mod mentions;
+mod unseen_name;
+
+// Unseen matchers: the search, in the order of the files.
+mod misspelled;
 mod search;
-mod world_search;
+mod unseen_matcher;
 
-pub use world_search::unseen_values;
-
-// The lines of unseen values.
+// The lines.
 mod unseen_lines;
 
 pub use unseen_lines::push_unseen;

@@ -1,13 +1,21 @@
-//! The search for unseen values, matcher by matcher.
+//! The search for matchers that ask for what no alert has, matcher by matcher.
+//!
+//! Labels that no alert has are ignored: their names are told, and nothing can be said of their
+//! values.
 
-ghost use Rattle.std.specs.Prelude.{◌≡◌, [], Some, None, IfOk, if◌then◌else◌};
-ghost use Rattle.am_unseen.specs.Unseen.{seen_values, is_missing, unseen_value_of, most_similar};
+ghost use Rattle.std.specs.Prelude.{◌≡◌, [], IfOk, option_map};
+ghost use Rattle.am_unseen.specs.Unseen.{is_true_of_one, similar_value};
+ghost use Rattle.am_unseen.specs.Unseen.{unseen_beside, unseen_by, unseen_matchers};
 ghost use Rattle.am_unseen.specs.Search.{after_matcher, texts_of};
 
-use crate::UnseenValue;
+use crate::misspelled::misspelled_in;
+use crate::seen::values_of;
+use crate::silences_left::visit_silences_left;
 use crate::similar::most_similar;
-use am_asked::Visitor;
+use crate::unseen_matcher::UnseenMatcher;
+use am_asked::{Visitor, visit_routes, visit_rules};
 use am_complete::Origin;
+use am_eval::World;
 use am_labels::{Matcher, Op};
 use am_list_files::Alerts;
 use indexmap::IndexSet;
@@ -15,14 +23,30 @@ use std::alloc::{AllocError, Global};
 use std::collections::BTreeMap;
 use std::marker::Model;
 
-/// The unseen values in the matchers that were visited so far. The values that alerts have for a
-/// label are gathered once, when a matcher first asks about it.
+/// Finds the matchers of a world that ask for a value that none of its alerts has, though some
+/// alert has the label. The matchers are those of the routes in preorder, then those of both sides
+/// of the rules, and then those of the silences that are not over. Fails only if memory runs out.
+pub(crate) fn unseen_matchers<'w>(
+    alloc: Global,
+    world: &'w World,
+) -> Result<Vec<UnseenMatcher<'w>>, AllocError>
+    ensures { IfOk result (λ found. found.items ≡ unseen_matchers world.now) }
+{
+    let mut search = Search::among(alloc, world.alerts());
+    visit_routes(alloc, &mut search, world.config())?;
+    visit_rules(&mut search, world.config().rules())?;
+    visit_silences_left(&mut search, world)?;
+    Ok(search.into_found())
+}
+
+/// What was found in the matchers that were visited so far. The values that alerts have for a label
+/// are gathered once, when a matcher first asks about it.
 #[derive(Drop)]
-pub(crate) struct Search<'w> {
+struct Search<'w> {
     alloc: Global,
     alerts: &'w Alerts,
     seen: BTreeMap<&'w str, IndexSet<&'w str>>,
-    found: Vec<UnseenValue<'w>>,
+    found: Vec<UnseenMatcher<'w>>,
 }
 
 impl<'w> Model for Search<'w> {
@@ -40,7 +64,7 @@ impl<'w> Model for Search<'w> {
 
 impl<'w> Search<'w> {
     /// Returns a search among these alerts that has visited no matcher yet.
-    pub(crate) fn among(alloc: Global, alerts: &'w Alerts) -> Search<'w>
+    fn among(alloc: Global, alerts: &'w Alerts) -> Search<'w>
         ensures { result ≡ record { alerts = alerts.now; found = [] } }
     {
         Search {
@@ -51,18 +75,15 @@ impl<'w> Search<'w> {
         }
     }
 
-    /// Returns the unseen value of a matcher with `=` and a value, if some alert has the label and
-    /// none has the value.
-    fn unseen_value(
+    /// Returns what a matcher asks for and no alert has.
+    fn unseen_by(
         &mut self,
         origin: &Origin,
         matcher: &'w Matcher,
-    ) -> Result<Option<UnseenValue<'w>>, AllocError>
+    ) -> Result<Vec<UnseenMatcher<'w>>, AllocError>
         ensures same { self.new ≡ self.old }
-        ensures unseen { IfOk result (λ unseen. unseen
-            ≡ (if is_missing matcher.now.value (seen_values self.old.alerts matcher.now.name)
-            then Some (unseen_value_of self.old.alerts (origin.now, matcher.now))
-            else None)) }
+        ensures unseen { IfOk result (λ found.
+            found.items ≡ unseen_by self.old.alerts (origin.now, matcher.now)) }
     {
         match self.seen.get(matcher.name()) {
             Some(values) => unseen_beside(self.alloc, values, origin, matcher),
@@ -76,7 +97,7 @@ impl<'w> Search<'w> {
     }
 
     /// Returns what was found.
-    pub(crate) fn into_found(self) -> Vec<UnseenValue<'w>>
+    fn into_found(self) -> Vec<UnseenMatcher<'w>>
         ensures { result.items ≡ self.entry.found }
     {
         self.found
@@ -87,61 +108,73 @@ impl<'w> Visitor<'w> for Search<'w> {
     ghost after = { after_matcher };
 
     fn visit(&mut self, origin: &Origin, matcher: &'w Matcher) -> Result<(), AllocError> {
-        if matcher.op() != Op::Equal || matcher.value().is_empty() {
-            return Ok(());
-        }
-        if let Some(unseen) = self.unseen_value(origin, matcher)? {
-            self.found.push(unseen)?;
-        }
-        Ok(())
+        let mut unseen = self.unseen_by(origin, matcher)?;
+        self.found.append(&mut unseen)
     }
 }
 
-/// Returns the values that alerts have for a label, each once, in the order in which they come
-/// first.
-fn values_of<'w>(
-    alloc: Global,
-    alerts: &'w Alerts,
-    name: &str,
-) -> Result<IndexSet<&'w str>, AllocError>
-    ensures { IfOk result (λ values.
-        texts_of values ≡ seen_values alerts.now name.now) }
-{
-    let mut values = IndexSet::new(alloc);
-    for i in 0..alerts.len() {
-        let value = alerts.get(i).get(name);
-        if !value.is_empty() {
-            values.insert(value)?;
-        }
-    }
-    Ok(values)
-}
-
-/// Returns the value of a matcher with the most similar of the given values, if there are values
-/// and the value of the matcher is none of them.
+/// Returns what a matcher asks for that is none of the values of its label: all that it asks for,
+/// or alternatives of its pattern that may be misspelled.
 fn unseen_beside<'w>(
     alloc: Global,
     values: &IndexSet<&'w str>,
     origin: &Origin,
     matcher: &'w Matcher,
-) -> Result<Option<UnseenValue<'w>>, AllocError>
-    ensures { IfOk result (λ unseen. unseen
-        ≡ (if is_missing matcher.now.value (texts_of values.now)
-        then Some (record {
-          origin = origin.now;
-          name = matcher.now.name;
-          value = matcher.now.value;
-          similar = most_similar matcher.now.value (texts_of values.now);
-        })
-        else None)) }
+) -> Result<Vec<UnseenMatcher<'w>>, AllocError>
+    ensures { IfOk result (λ found.
+        found.items ≡ unseen_beside (texts_of values.now) (origin.now, matcher.now)) }
 {
-    if values.is_empty() || values.contains(matcher.value()) {
-        return Ok(None);
+    if values.is_empty() || !matches!(matcher.op(), Op::Equal | Op::Matches) {
+        return Ok(Vec::new(alloc));
     }
-    Ok(Some(UnseenValue {
+    if is_true_of_one(alloc, matcher, values)? {
+        return misspelled_in(alloc, values, origin, matcher);
+    }
+    if matcher.prepare(alloc)?.holds("") {
+        return Ok(Vec::new(alloc));
+    }
+    let unseen = UnseenMatcher {
         origin: *origin,
         name: matcher.name(),
+        op: matcher.op(),
         value: matcher.value(),
-        similar: most_similar(alloc, matcher.value(), values.as_slice())?,
-    }))
+        similar: similar_value(alloc, matcher, values)?,
+    };
+    Ok(vec![in alloc; unseen]?)
+}
+
+/// Whether a matcher is true of one of some texts.
+fn is_true_of_one(
+    alloc: Global,
+    matcher: &Matcher,
+    texts: &IndexSet<&str>,
+) -> Result<bool, AllocError>
+    ensures { IfOk result (λ is. is ≡ is_true_of_one matcher.now (texts_of texts.now)) }
+{
+    if matcher.op() == Op::Equal {
+        return Ok(texts.contains(matcher.value()));
+    }
+    let mut prepared = matcher.prepare(alloc)?;
+    for text in texts.as_slice() {
+        if prepared.holds(text) {
+            return Ok(true);
+        }
+    }
+    Ok(false)
+}
+
+/// Returns the value that is most similar to the text that a matcher compares with. Finds none for
+/// a pattern.
+fn similar_value<'w>(
+    alloc: Global,
+    matcher: &Matcher,
+    values: &IndexSet<&'w str>,
+) -> Result<Option<&'w str>, AllocError>
+    ensures { IfOk result (λ similar. option_map (λ v. v.now) similar
+        ≡ similar_value matcher.now (texts_of values.now)) }
+{
+    if matcher.op() != Op::Equal {
+        return Ok(None);
+    }
+    most_similar(alloc, matcher.value(), values.as_slice())
 }

@@ -1,9 +1,0 @@
-use Rattle.std.proofs.Common.{◌≡◌, ◌++◌, map, take}
-use Rattle.am_report_texts.specs.LineView.{line_view}
-use Rattle.am_unseen.specs.UnseenLines.{unseen_lines}
-use Rattle.am_unseen.proofs.unseen_lines.push_unseen.Given as goal
-
-abbrev pub invariant-loop-unseen : goal.invariant-loop-unseen
-invariant-loop-unseen l =
-    map line_view l.lines.items ≡ map line_view l.initial.lines.items
-    ++ unseen_lines (take l.unseen-index l.found)

@@ -1,0 +1,80 @@
+//! The label names that a world mentions and that none of its alerts has.
+
+ghost use Rattle.std.specs.Prelude.{◌≡◌, IfOk};
+ghost use Rattle.am_unseen.specs.UnseenNames.{is_missing, missing_among, unseen_names};
+ghost use Rattle.am_unseen.specs.Search.{texts_of};
+
+use crate::mentions::{Mention, first_mentions};
+use crate::seen::names_of;
+use crate::similar::most_similar;
+use am_complete::Origin;
+use am_eval::World;
+use indexmap::IndexSet;
+use std::alloc::{AllocError, Global};
+use std::marker::Model;
+
+/// A label name that no alert has.
+#[derive(Drop)]
+pub(crate) struct UnseenName<'w> {
+    /// Where it is mentioned first: at a route, in a rule or in a silence.
+    pub(crate) origin: Origin,
+    pub(crate) name: &'w str,
+    /// The most similar name that an alert has, if one is at most `MOST_EDITS` edits away.
+    pub(crate) similar: Option<&'w str>,
+}
+
+impl<'w> Model for UnseenName<'w> {
+    ghost use Rattle.std.specs.Prelude.{option_map};
+    ghost use Rattle.am_unseen.specs.UnseenNames as spec;
+
+    ghost Value = { spec.UnseenName };
+
+    ghost view = { λ u. record {
+      origin = u.origin;
+      name = u.name.now;
+      similar = option_map (λ n. n.now) u.similar;
+    } };
+}
+
+/// Finds the label names that a world mentions and that none of its alerts has, if some alert has a
+/// label. Each comes once, with the origin of its first mention. Fails only if memory runs out.
+pub(crate) fn unseen_names<'w>(
+    alloc: Global,
+    world: &'w World,
+) -> Result<Vec<UnseenName<'w>>, AllocError>
+    ensures { IfOk result (λ found. found.items ≡ unseen_names world.now) }
+{
+    let names = names_of(alloc, world.alerts())?;
+    let mentioned = first_mentions(alloc, world)?;
+    missing_among(alloc, &names, mentioned.as_slice())
+}
+
+/// Returns those of the mentioned names that are missing among some names.
+fn missing_among<'w>(
+    alloc: Global,
+    names: &IndexSet<&'w str>,
+    mentioned: &[Mention<'w>],
+) -> Result<Vec<UnseenName<'w>>, AllocError>
+    ensures { IfOk result (λ found.
+        found.items ≡ missing_among (texts_of names.now) mentioned.now) }
+{
+    let mut found = Vec::new(alloc);
+    for mention in mentioned {
+        if is_missing(names, mention.name) {
+            let similar = most_similar(alloc, mention.name, names.as_slice())?;
+            found.push(UnseenName {
+                origin: mention.origin,
+                name: mention.name,
+                similar,
+            })?;
+        }
+    }
+    Ok(found)
+}
+
+/// Whether there are names, and a name is none of them.
+fn is_missing(names: &IndexSet<&str>, name: &str) -> bool
+    ensures { result ≡ is_missing (texts_of names.now) name.now }
+{
+    !names.is_empty() && !names.contains(name)
+}
