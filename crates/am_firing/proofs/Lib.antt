@@ -1,0 +1,12 @@
+pub mod Positions
+pub mod Most
+pub mod SomeEnd
+pub mod Numbered
+pub mod Inhibiting
+pub mod Declared
+pub mod MarkedRows
+pub mod Lacked
+pub mod SomeFire
+pub mod Hiding
+pub mod Kept
+pub mod ReachLaws

@@ -1,0 +1,12 @@
+use Rattle.std.proofs.Common.{◌≡◌, ◌++◌, map, take}
+use Rattle.std.specs.List.{flat_map, enumerate_from, zip}
+use Rattle.am_report_texts.specs.LineView.{line_view}
+use Rattle.am_firing.specs.FiringLines.{told_lines}
+use Rattle.am_firing.proofs.hiding_lines.push_hiding_lines.Given as goal
+
+-- the lines of the silences so far
+abbrev pub invariant-loop-i : goal.invariant-loop-i
+invariant-loop-i l =
+    map line_view l.lines.items
+    ≡ map line_view l.initial.lines.items
+    ++ flat_map (told_lines l.world) (take l.i (enumerate_from 0 (zip l.world.silences l.silences)))

@@ -1,0 +1,12 @@
+use Rattle.std.proofs.Common.{◌≡◌, ◌++◌, map, take}
+use Rattle.std.specs.List.{flat_map, enumerate_from}
+use Rattle.am_report_texts.specs.LineView.{line_view}
+use Rattle.am_firing.specs.FiringLines.{wide_lines}
+use Rattle.am_firing.proofs.wide_lines.push_wide_lines.Given as goal
+
+-- the lines of the rules so far
+abbrev pub invariant-loop-i : goal.invariant-loop-i
+invariant-loop-i l =
+    map line_view l.lines.items
+    ≡ map line_view l.initial.lines.items
+    ++ flat_map (wide_lines l.world.alerts) (take l.i (enumerate_from 0 l.world.config.rules))

@@ -1,0 +1,26 @@
+//! Which firing alerts a list of matchers matches.
+
+ghost use Rattle.std.specs.Prelude.{◌≡◌, map, IfOk};
+ghost use Rattle.am_labels.specs.Matcher.{all_hold};
+
+use am_labels::Matchers;
+use am_list_files::Alerts;
+use std::alloc::{AllocError, Global};
+
+/// Returns for each alert whether a list of matchers matches it. The list is prepared once for all
+/// alerts. Fails only if memory runs out.
+pub(crate) fn matches_of(
+    alloc: Global,
+    matchers: &Matchers,
+    alerts: &Alerts,
+) -> Result<Vec<bool>, AllocError>
+    ensures { IfOk result (λ found.
+        found.items ≡ map (λ alert. all_hold alert matchers.now) alerts.now) }
+{
+    let mut prepared = matchers.prepare(alloc);
+    let mut found = Vec::with_capacity(alloc, alerts.len())?;
+    for i in 0..alerts.len() {
+        found.push(prepared.matches(alloc, alerts.get(i))?)?;
+    }
+    Ok(found)
+}
