@@ -128,11 +128,11 @@ Convert your alertmanager.yml to JSON, and check it:
   yq -o=json . alertmanager.yml > alertmanager.json  # Debian's yq: yq . alertmanager.yml
   amcover lint --config alertmanager.json
 
-This prints a line for each finding and each note: first on routes, then on receivers, then
-on inhibition rules. The last line counts them. For example:
+This prints a line for each finding, and for each note a line that begins with note: first on
+routes, then on receivers, then on inhibition rules. The last line counts them. For example:
 
-  /2 hands on: \"db-mail\" {team=\"db\"}: taken by /2/0 {env=\"prod\"}, /2/1 {env!=\"prod\"}
-  /3/2 dead: \"web-chat\" {env!=\"prod\"}: taken by /1 {env!=\"prod\"}
+  note /2 hands on: \"db-mail\" {team=\"db\"}: taken by /2/0 {env=\"prod\"}, /2/1 {env!=\"prod\"}
+  /3/2 dead: \"web-chat\" {env!=\"prod\"}: taken by /1 {env!=\"prod\"} (and 2 routes below)
   receiver \"web-chat\" unmatched: /3/2 {env!=\"prod\"} dead
   rule 1 idle: no alert matches source {severity=\"critical\",severity=\"high\"}
   # 3 findings, 1 note
@@ -142,12 +142,14 @@ and /3/2 is the third child of /3. After the path come the kind of finding or no
 receiver of the route, its matchers, and the reason. The kinds are:
 
   dead       a finding: no alert enters the route, whatever its labels are
-  unusual    a note: no ordinary alert enters the route, but some other alert does. The
+  unusual    a finding: no ordinary alert enters the route, but some other alert does. The
              line shows the label set of such an alert
   hands on   a note: ordinary alerts enter the route, and its children take all of them
 
 An alert is ordinary if its values consist of printable ASCII, from the space to ~. So an
-alert with a line feed in a value, which . does not match, is not ordinary.
+alert with a line feed in a value, which . does not match, is not ordinary. A dead route below
+a dead one has no line, and neither has an unusual one below an unusual one. The line of the
+topmost counts all routes below it.
 
 The reason names routes. Together they are enough, and each of them is needed: without it,
 the reason would not hold. For an unusual route, and for one that hands on, the reason speaks
@@ -161,9 +163,9 @@ only of ordinary alerts.
                         they are its children
   no alert is possible  the universe file calls all these alerts impossible
 
-A receiver is unmatched, a finding, if no alert goes to it. It is unusual, a note, if some
-alert does, but no ordinary one. The line names the routes that have the receiver, each with
-its kind, or says that there are none.
+A receiver is unmatched if no alert goes to it, and unusual if some alert does, but no ordinary
+one. The line names the routes that have the receiver, each with its kind, or says that there
+are none. This is a finding, but a note if there are such routes and all of them hand on.
 
 A rule is idle, a finding, if no alert inhibits another by it, whatever fires. Its number is
 its position in inhibit_rules, from 0. The reason is one of these. The matchers that it
@@ -179,22 +181,34 @@ names are enough, and each of them is needed:
 The usual mistake is a source of critical alerts, a target of warnings, and severity in equal.
 
 With --silences and --at, lint also checks the silences, except those that are over at that
-time. Their numbers are positions in the file, from 0. With --alerts, notes say what no alert
-of that file matches or has:
+time. With --alerts, notes say what the alerts of that file show. Numbers of silences and of
+alerts are positions in their files, from 0:
 
   amcover lint --config alertmanager.json --silences silences.json \\
     --at \"$(date -u +%FT%TZ)\" --alerts alerts.json
 
   silence 3 idle: no alert matches {team=\"db\",team=\"web\"}
              a finding: it can hide no alert
-  silence 4 all: every alert matches {team=~\"(?s).*\"}
-             a finding: it hides every alert
-  silence 5 unused: no alert of the file matches {team=\"ops\"}
-             a note: it is active, and hides none of the alerts of the file
-  /2/0 unseen: no alert has severity=\"critcal\", some have \"critical\"
-             a note: a matcher of a route, a rule or a silence has = and a value that no
-             alert of the file has, though some alert has the label. The line shows the
-             most similar value of an alert, if at most two characters need to change
+  silence 4 all: every ordinary alert with an alertname matches {alertname=~\".+\"}
+             a finding: it hides all of these
+  note silence 5 unused: no alert of the file matches {team=\"ops\"}
+             it is active, and hides none of the alerts of the file
+  note silence 6 unproved: it is not known which alerts match {team=~\"\\\\bdb\"}
+             a pattern is not followed, such as one with \\b without --ascii. A rule may be
+             unproved too
+  note /3 unreached: \"db-pager\" {team=\"db\"}: no alert of the file enters
+             the same is said of receivers, and of the two sides of rules
+  note rule 5 wide: alert 2 inhibits 23 of 40 others; both lack cluster
+             by this rule, one alert inhibits at least 10 others, and at least half of them.
+             Alerts that lack a label of equal do not differ in it
+  note silence 1 hides all of \"net-pager\": 11 alerts
+             it is active, and hides each alert of the file that goes to the receiver
+  note /2/0 unseen: no alert has tema, some have team
+             a matcher or equal names a label that no alert of the file has
+  note /2/0 unseen: no alert has severity=\"critcal\", some have \"critical\"
+             a matcher with = or =~ asks for a value, and no alert of the file has it, though
+             some alert has the label. The line shows the most similar name or value, if at
+             most two characters need to change
 
 lint speaks of every alert that there can be, whatever its labels are. If some alerts never
 occur, say so in a universe file, such as never.json:
@@ -211,11 +225,11 @@ the routes tell apart. If one lacks such a value, lint refuses the file:
 amcover universe --from never.json --config alertmanager.json adds what a file lacks.
 
 With --ascii, only ordinary alerts count. A route that is unusual without --ascii is then
-dead. If a pattern has \\b, use --ascii: without it, lint refuses the configuration as
-unproved.
+dead. If a pattern of a route has \\b, use --ascii: without it, lint refuses the configuration
+as unproved.
 
 lint ignores time intervals. Silences and inhibition do not change what it says of routes and
-receivers.
+receivers, and firing alerts only add notes.
 
 Exit status: 0 done without a finding, 1 refused input, 2 usage, 3 out of memory, 4 the
 output failed, 5 done with a finding.",

@@ -6,7 +6,7 @@ use Rattle.std.specs.List.{AllByRecursion}
 use Rattle.std.proofs.lemmas.Bool.{false≢true}
 use Rattle.std.proofs.lemmas.Option.{slice_get-map}
 use Rattle.am_universe.specs.declared.place.Place.{Place}
-use Rattle.am_universe.specs.Universe.{Label, IsLabel, IsUniverse, names, is_label_name}
+use Rattle.am_universe.specs.Universe.{Label, IsLabel, IsUniverse, names}
 use Rattle.am_universe.proofs.LabelPairLemmas.{at_place}
 use Rattle.am_labels.specs.Matcher.{Matcher}
 use Rattle.am_labels.specs.Space.{Space}
@@ -27,9 +27,6 @@ use Rattle.am_reports.specs.Made.{AreDeclaredWhole, IsDeclaredRefusal, LacksValu
 use Rattle.am_reports.specs.Made.{IsStateRefusal}
 
 -- ---- The state at a position.
-
-named : (l : Label) → IsLabel l → l.name ≢ []
-named l is none = false≢true (subst (λ (name : List ℕ). IsTrue (is_label_name name)) none is.name)
 
 mapped : {A B : Type 0} (f : A → B) (o : Option A) (b : B) → option_map f o ≡ Some b
     → (a : A) × (o ≡ Some a) × (f a ≡ b)
@@ -59,7 +56,7 @@ told_at a s ms asked states i l is reported each at =
       found.1,
       found.2,
       subst (λ (name : List ℕ). IsSoIfNamed a s ms asked name found.0.completeness) found.2 so
-          (named l (at_place IsLabel s.labels i l is.labels at)),
+          (at_place IsLabel s.labels i l is.labels at).name,
     )
 
 -- ---- What follows from it.

@@ -1,6 +1,6 @@
--- What the lines of `lint` say about the routes, the rules, the silences and the values of a world,
--- for every alert. (This project's own.)
-use Rattle.std.specs.Prelude.{◌≡◌, ℕ, List, Option}
+-- What the lines of `lint` say about the routes, the rules and the silences of a world, for every
+-- alert, and what they say of the alerts of a file. (This project's own.)
+use Rattle.std.specs.Prelude.{◌≡◌, ℕ, List, [], ◌++◌, Option, Some, None}
 use Rattle.std.specs.List.{AllZip, flat_map, enumerate_from, zip}
 use Rattle.am_universe.specs.declared.place.Place.{Place}
 use Rattle.am_universe.specs.declared.place.Place.TheVariants as places
@@ -15,14 +15,17 @@ use Rattle.am_complete.specs.declared.origin.Origin.TheVariants as origin_is
 use Rattle.am_asked.specs.OriginPointer.{origin_pointer}
 use Rattle.am_report_texts.specs.Line.{Line, Report, count_findings, count_notes}
 use Rattle.am_lint.specs.Report.{SaysOfRoutes}
-use Rattle.am_lint.specs.LintLines.{count_pieces}
+use Rattle.am_lint.specs.LintLines.{Said, count_pieces}
+use Rattle.am_lint.specs.declared.found.ReceiverFinding.{ReceiverFinding}
 use Rattle.am_idle.specs.Rules.{IsRuleFinding}
 use Rattle.am_idle.specs.RuleLines.{rule_lines}
 use Rattle.am_idle.specs.RuleFindings.{IsFirstRefusedRule}
 use Rattle.am_idle.specs.Silences.{IsSilenceFinding, IsFirstRefused}
 use Rattle.am_idle.specs.SilenceLines.{silence_lines}
-use Rattle.am_idle.specs.declared.rules.IdleReason.{IdleReason}
+use Rattle.am_idle.specs.declared.rule_findings.RuleFinding.{RuleFinding}
 use Rattle.am_idle.specs.declared.silences.SilenceFinding.{SilenceFinding}
+use Rattle.am_firing.specs.FiringLines.{firing_lines}
+use Rattle.am_unseen.specs.UnseenLines.{unseen_lines}
 use Rattle.am_outcomes.specs.Configurations.{One}
 use Rattle.am_reports.specs.Made.{StandsForAll}
 
@@ -45,20 +48,20 @@ each_lines lines xs found =
 -- Source: own choice.
 -- Example: if some ordinary alert ends at each route, and some goes to each receiver, there are no
 -- lines.
-pub record SaysOfAllRoutes (a : Alphabet) (s : Space) (c : Configuration) (lines : List Line)
-    : Type 0 where
+pub record SaysOfAllRoutes (a : Alphabet) (s : Space) (c : Configuration) (routes : List Said)
+    (receivers : List (Option ReceiverFinding)) (lines : List Line) : Type 0 where
   pub labels : List Label
   pub stands : StandsForAll a s.impossible (One c) labels
-  pub says : SaysOfRoutes a s labels c lines
+  pub says : SaysOfRoutes a s labels c routes receivers lines
 
--- What the lines say about each rule is true: nothing if some alert inhibits another by the rule,
--- and else that the rule is idle, and why.
+-- What the lines say about each rule is true: nothing if some alert inhibits another by the rule;
+-- that the rule is idle, and why; or that this is not known.
 -- Source: own choice.
 -- Example: if both sides of the only rule ask for just `team="db"`, and `equal` has no name, there
 -- is one line.
 pub record SaysOfRules (a : Alphabet) (s : Space) (rules : List Rule) (lines : List Line)
     : Type 0 where
-  pub found : List (Option IdleReason)
+  pub found : List (Option RuleFinding)
   pub each : AllZip (IsRuleFinding a s) rules found
   pub lines_are : lines ≡ each_lines rule_lines rules found
 
@@ -70,6 +73,19 @@ pub record SaysOfSilences (a : Alphabet) (s : Space) (w : World)
   pub found : List (Option SilenceFinding)
   pub each : AllZip (IsSilenceFinding a s w alerts) w.silences found
   pub lines_are : lines ≡ each_lines silence_lines w.silences found
+
+-- The lines about what the alerts of a file show: what they do not reach, which rules and
+-- silences mute many of them, and what none of them has. They leave out what is said of routes,
+-- receivers, rules and silences for every alert. Without a file of alerts there are none.
+-- Source: own choice.
+-- Example: if the only alert of the file enters each route, goes to each receiver, and has what
+-- each matcher names, and there are no rules and silences, there are none.
+abbrev pub alert_lines :
+    World → Option (List LabelMap) → List Said → List (Option ReceiverFinding)
+    → List (Option RuleFinding) → List (Option SilenceFinding) → List Line
+alert_lines w None routes receivers rules silences = []
+alert_lines w (Some alerts) routes receivers rules silences =
+    firing_lines w routes receivers rules silences ++ unseen_lines w
 
 -- ---- Why there are no such lines.
 

@@ -15,11 +15,11 @@ use Rattle.am_files.specs.Faults.{later_stages}
 use Rattle.am_asked.specs.OriginPointer.{matcher_places}
 use Rattle.am_reports.specs.Made.{AreDeclaredWhole, IsDeclaredRefusal, IsRoutesRefusal}
 use Rattle.am_report_texts.specs.Line.{Line, count_findings}
+use Rattle.am_lint.specs.LintLines.{Said}
+use Rattle.am_lint.specs.declared.found.ReceiverFinding.{ReceiverFinding}
 use Rattle.am_report_texts.specs.declared.writing.Form.{Form}
 use Rattle.am_report_texts.specs.Written.{IsWritten}
-use Rattle.am_unseen.specs.Unseen.{unseen_values}
-use Rattle.am_unseen.specs.UnseenLines.{unseen_lines}
-use Rattle.am_reports.specs.LintLines.{lint_report, SaysOfAllRoutes, SaysOfRules}
+use Rattle.am_reports.specs.LintLines.{lint_report, alert_lines, SaysOfAllRoutes, SaysOfRules}
 use Rattle.am_reports.specs.LintLines.{SaysOfSilences, IsRulesRefusal, IsSilencesRefusal}
 
 -- What is said is refused at this place for a label that the universe file declares; or no such
@@ -41,20 +41,26 @@ RefusesLint inputs place r =
     × IsLintRefusal inputs.alphabet s w place r
 
 -- The lines are those of a report on a world, for every alert that counts. What they say about
--- routes and receivers, rules, silences and values is true. The alerts are those that fire, if they
--- are known.
+-- routes and receivers, rules and silences is true, and so is what they say of the alerts of the
+-- file, if there is one.
 -- Source: own choice.
 -- Example: if some ordinary alert ends at each route, each receiver gets one, and there are no
 -- rules, silences and alerts, there are no lines.
 pub record AreLintLines (a : Alphabet) (s : Space) (w : World) (alerts : Option (List LabelMap))
     (lines : List Line) : Type 0 where
+  pub found_routes : List Said
+  pub found_receivers : List (Option ReceiverFinding)
   pub routes : List Line
-  pub says_of_routes : SaysOfAllRoutes a (undeclared s) w.config routes
+  pub says_of_routes :
+      SaysOfAllRoutes a (undeclared s) w.config found_routes found_receivers routes
   pub rules : List Line
   pub says_of_rules : SaysOfRules a (undeclared s) w.config.rules rules
   pub silences : List Line
   pub says_of_silences : SaysOfSilences a (undeclared s) w alerts silences
-  pub lines_are : lines ≡ routes ++ (rules ++ (silences ++ unseen_lines (unseen_values w)))
+  pub of_alerts : List Line
+  pub says_of_alerts : of_alerts ≡ alert_lines w alerts found_routes found_receivers
+      says_of_rules.found says_of_silences.found
+  pub lines_are : lines ≡ routes ++ (rules ++ (silences ++ of_alerts))
 
 -- No label that the space declares lacks a value, and the text is a report of such lines, with this
 -- number of findings.

@@ -13,6 +13,7 @@ use Rattle.am_json.specs.Pointer.{Refusal}
 use Rattle.am_config.specs.ConfigFile.{Configuration}
 use Rattle.am_classes.specs.declared.alphabet.Alphabet.{Alphabet}
 use Rattle.am_classes.specs.declared.alphabet.Alphabet.TheVariants.{Unicode, Ascii}
+use Rattle.am_complete.specs.declared.allowed_names.AllowedNames.TheVariants as allowed_are
 use Rattle.am_complete.specs.declared.origin.Origin.{Origin}
 use Rattle.am_complete.specs.declared.label_state.Completeness.{Completeness}
 use Rattle.am_complete.specs.declared.label_state.Completeness.TheVariants as state_is
@@ -41,7 +42,8 @@ pub record StandsForAll (a : Alphabet) (lists : List (List Matcher)) (k : Config
   pub order : AddsInOrder [] (labels_of_routes k lists) u
 
 -- No universe is made, since there is no room for the labels that are asked about, or since some of
--- them are unproved. The refusal of an unproved label is at the file of the first matcher on it.
+-- them are unproved. The refusal of an unproved label is at the file of the first matcher on it. No
+-- label is unproved for its name.
 -- Source: own choice.
 -- Example: this is so if 65 routes ask about 65 labels, each with one matcher `=`.
 abbrev pub IsMadeRefusal :
@@ -49,8 +51,8 @@ abbrev pub IsMadeRefusal :
 IsMadeRefusal a lists k place r =
     let s = space_of lists [] in
     let asked = labels_of_routes k lists in
-    NoRoomFor a s asked place r
-    ⊎ UnprovedFor a s asked (λ l. first_place k l.name l.first) place r
+    NoRoomFor a allowed_are.Any s asked place r
+    ⊎ UnprovedFor a allowed_are.Any s asked (λ l. first_place k l.name l.first) place r
 
 -- ---- Labels that a universe file declares.
 

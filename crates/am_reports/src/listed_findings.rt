@@ -1,7 +1,8 @@
 //! What is found of inhibition rules and of silences, for every alert, and their lines.
 //!
 //! Rules and silences have no `unusual`. Routes often have `.*` for every text. In a rule or a
-//! silence the difference matters only if it has such a pattern, and `lint --ascii` shows it.
+//! silence the difference matters only if it has such a pattern, and `lint --ascii` shows it. If it
+//! is not known which alerts one of them matches, its line says so, and the others have theirs.
 
 ghost use Rattle.std.specs.Prelude.{◌≡◌, ◌≢◌, ◌++◌, [], length, map, IfOk, IfErr, OnOk};
 ghost use Rattle.std.specs.Prelude.{option_map};
@@ -22,7 +23,7 @@ use am_complete::Origin;
 use am_config::Rule;
 use am_eval::World;
 use am_idle::{
-    IdleReason, SilenceFinding, find_rules, find_silences, push_rule_line, push_silence_line,
+    RuleFinding, SilenceFinding, find_rules, find_silences, push_rule_line, push_silence_line,
 };
 use am_labels::Space;
 use am_list_files::{Alerts, Silences};
@@ -30,17 +31,17 @@ use am_report_texts::Line;
 use am_universe::{Fault, Kind, Place};
 use std::alloc::{AllocError, Global};
 
-/// Finds why each of some inhibition rules is idle, for every alert over an alphabet that no
+/// Finds what is wrong with each of some inhibition rules, for every alert over an alphabet that no
 /// impossible list of a space matches. The space declares no label, before and after.
 ///
-/// Fails with `Limit` or `Unproved`, at `Config` and with the pointer of the first rule for whose
-/// matchers no universe can be made, and with `Memory`.
+/// Fails with `Limit`, at `Config` and with the pointer of the first rule for whose matchers there
+/// is no room in a universe, and with `Memory`.
 pub(crate) fn rule_findings(
     alloc: Global,
     alphabet: Alphabet,
     space: &mut Space,
     rules: &[Rule],
-) -> Result<Vec<Option<IdleReason>>, Fault>
+) -> Result<Vec<Option<RuleFinding>>, Fault>
     requires { space.old.labels ≡ [] }
     ensures found { IfOk result (λ found.
         AllZip (IsRuleFinding alphabet space.old) rules.now found.items) }
@@ -65,7 +66,7 @@ pub(crate) fn push_rules<'a>(
     alloc: Global,
     lines: &mut Vec<Line<'a>>,
     rules: &'a [Rule],
-    found: &[Option<IdleReason>],
+    found: &[Option<RuleFinding>],
 ) -> Result<(), AllocError>
     requires same { length found.now ≡ length rules.now }
     requires each { AllZip HasPositionsIfAny rules.now found.now }
@@ -81,8 +82,8 @@ pub(crate) fn push_rules<'a>(
 /// Finds what is wrong with the silences of a world, for the same alerts. If it is known which
 /// alerts fire, it also finds which active silences hide none of them.
 ///
-/// Fails with `Limit` or `Unproved`, at `Silences` and with the pointer of the first silence for
-/// whose matchers no universe can be made, and with `Memory`.
+/// Fails with `Limit`, at `Silences` and with the pointer of the first silence for whose matchers
+/// there is no room in a universe, and with `Memory`.
 pub(crate) fn silence_findings(
     alloc: Global,
     alphabet: Alphabet,
@@ -125,8 +126,8 @@ pub(crate) fn push_silences<'a>(
     Ok(())
 }
 
-/// The fault of matchers for which no universe can be made. It is `Memory` if `kind` is neither
-/// `Limit` nor `Unproved`, or if memory runs out here.
+/// The fault of matchers for which there is no room in a universe. It is `Memory` if `kind` is not
+/// `Limit`, or if memory runs out here.
 fn fault_at(alloc: Global, kind: Kind, place: Place, origin: &Origin) -> Fault
     ensures refusal { result.kind ≢ kinds.Memory → (result.place ≡ place)
         × (refusal_of result ≡ record { kind = kind; pointer = origin_pointer origin.now }) }
@@ -134,7 +135,6 @@ fn fault_at(alloc: Global, kind: Kind, place: Place, origin: &Origin) -> Fault
 {
     match (kind, pointer_to(alloc, origin)) {
         (Kind::Limit, Ok(pointer)) => Fault::within(Kind::Limit, place, pointer),
-        (Kind::Unproved, Ok(pointer)) => Fault::within(Kind::Unproved, place, pointer),
         _ => Fault::memory(alloc),
     }
 }

@@ -13,19 +13,19 @@ ghost use Rattle.am_reports.specs.Made.{IsDeclaredRefusal, IsStateRefusal};
 use crate::configs::{labels_asked, unproved_label};
 use am_asked::universe_for;
 use am_classes::Alphabet;
-use am_complete::{Completeness, LabelState, label_states};
+use am_complete::{AllowedNames, Completeness, LabelState, label_states};
 use am_labels::Space;
 use am_outcomes::Configs;
 use am_universe::{Fault, Kind, Place, Universe};
 use std::alloc::Global;
 
 /// Makes a universe that stands for every alert over an alphabet, for the matchers of the routes
-/// and of the impossible lists of a space that declares no label.
+/// and of the impossible lists of a space that declares no label. It stays in memory, so its labels
+/// may have any name that is not empty.
 ///
 /// Fails with the first of: `Limit`, at `Universe`, if there is no room for the labels that are
 /// asked about; `Unproved`, at the file and with the pointer of the route or list that first asks
-/// about the first label whose classes could not be computed, or which needs a value and has no
-/// label name. `Memory` may come at any point.
+/// about the first label whose classes could not be computed. `Memory` may come at any point.
 pub(crate) fn universe_for_routes(
     alloc: Global,
     alphabet: Alphabet,
@@ -42,7 +42,15 @@ pub(crate) fn universe_for_routes(
     let Ok(asked) = labels_asked(alloc, configs, space) else {
         return Err(Fault::memory(alloc));
     };
-    let found = universe_for(alloc, alphabet, false, space, asked.as_slice(), None)?;
+    let found = universe_for(
+        alloc,
+        alphabet,
+        AllowedNames::Any,
+        false,
+        space,
+        asked.as_slice(),
+        None,
+    )?;
     match found {
         Ok(universe) => Ok(universe),
         Err(label) => Err(unproved_label(alloc, configs, label.name(), &label.first())),

@@ -29,8 +29,7 @@ use std::alloc::Global;
 /// - `Limit`, at `Universe` and with no pointer, if the routes and impossible lists need more
 ///   labels, or more values of one label, than a universe may have;
 /// - `Unproved`, at the file and with the pointer of the route or impossible list that first asks
-///   about a label, if the classes of the label could not be computed, or if it needs a value and
-///   its name is no label name;
+///   about a label, if the classes of the label could not be computed;
 /// - `Limit`, at `Universe` and with no pointer, if there are more ways through the routes than
 ///   there is room for;
 /// - `Write`.

@@ -1,8 +1,7 @@
 //! What is found of routes and receivers, for every alert.
 //!
-//! A route that hands on is a note, since many routes only group their children. Each route below a
-//! dead route has a line too. So there is a line for exactly the routes that are dead, and these
-//! lines go when the upper route is mended.
+//! A route that hands on is a note, since many routes only group their children. A dead route below
+//! a dead route has no line of its own: it is dead too for the reason of the upper one.
 
 ghost use Rattle.std.specs.Prelude.{◌≡◌, ◌≢◌, [], length, map, IfOk, IfErr, OnOk, IfSome};
 ghost use Rattle.std.specs.List.{AllByRecursion};
@@ -46,8 +45,9 @@ pub(crate) fn route_findings(
 ) -> Result<RouteFindings, Fault>
     requires { space.old.labels ≡ [] }
     ensures says { IfOk result (λ found. SaysOfAllRoutes alphabet space.old
-        (config_view config.now) (report_lines found.universe (config_view config.now)
-        (map said_of found.routes.items) found.receivers.items)) }
+        (config_view config.now) (map said_of found.routes.items) found.receivers.items
+        (report_lines found.universe (config_view config.now) (map said_of found.routes.items)
+        found.receivers.items)) }
     ensures shown { IfOk result (λ found. AllByRecursion
         (IsShown (sizes found.universe) (config_view config.now)) found.routes.items) }
     ensures each { IfOk result (λ found.
@@ -104,8 +104,9 @@ fn findings_over(
     requires every { IfSome every
         (StandsForAll Unicode space.old.impossible (One (config_view config.now))) }
     ensures says { IfOk result (λ found. SaysOfAllRoutes (alphabet_over every) space.old
-        (config_view config.now) (report_lines found.universe (config_view config.now)
-        (map said_of found.routes.items) found.receivers.items)) }
+        (config_view config.now) (map said_of found.routes.items) found.receivers.items
+        (report_lines found.universe (config_view config.now) (map said_of found.routes.items)
+        found.receivers.items)) }
     ensures shown { IfOk result (λ found. AllByRecursion
         (IsShown (sizes found.universe) (config_view config.now)) found.routes.items) }
     ensures each { IfOk result (λ found.

@@ -1,5 +1,5 @@
 -- What is said about the space without labels is true of the space that was read.
-use Rattle.std.proofs.Common.{◌≡◌, ◌≢◌, List, length, option_map, refl, ap, ◌∙◌, inl, inr, subst}
+use Rattle.std.proofs.Common.{◌≡◌, ◌≢◌, List, length, map, option_map, refl, ap, ◌∙◌, inl, inr, subst}
 use Rattle.std.proofs.lemmas.Slice.Zip.{AllZip-long}
 use Rattle.am_universe.specs.declared.fault.Fault.{Fault}
 use Rattle.am_universe.specs.declared.kind.Kind.TheVariants as kinds
@@ -11,6 +11,7 @@ use Rattle.am_eval.specs.World.{World}
 use Rattle.am_files.proofs.FirstFaults.{handed_on}
 use Rattle.am_classes.specs.declared.alphabet.Alphabet.{Alphabet}
 use Rattle.am_outcomes.specs.Configurations.{One}
+use Rattle.am_lint.specs.FoundView.{said_of}
 use Rattle.am_idle.specs.Rules.{IsRuleFinding}
 use Rattle.am_idle.specs.RuleLines.{rule_lines, HasPositionsIfAny}
 use Rattle.am_idle.specs.Silences.{IsSilenceFinding}
@@ -133,10 +134,13 @@ returns-in-Ok-clause-reports c =
     let w = c.args.world.now in
     let rules = c.in_ok-rules.rules.items in
     let silences = c.in_ok-silences.silences.items in
+    let alerts = option_map (λ a. a.now) c.args.alerts in
     record {
       whole = declared_whole at.In_ok-check_declared;
-      lines = found_lines c.in_ok-routes.routes rules silences w;
+      lines = found_lines c.in_ok-routes.routes rules silences alerts w;
       are = record {
+        found_routes = map said_of c.in_ok-routes.routes.routes.items;
+        found_receivers = c.in_ok-routes.routes.receivers.items;
         routes = _;
         says_of_routes = rw (c.config-2.ensures.config, cleared at.After-undeclare)
             at c.in_ok-routes.ensures.says;
@@ -153,6 +157,8 @@ returns-in-Ok-clause-reports c =
           each = rw (rules_cleared at.In_ok-rules) at c.in_ok-silences.ensures.found;
           lines_are = refl;
         };
+        of_alerts = _;
+        says_of_alerts = refl;
         lines_are = refl;
       };
       counted = rw (c.as_slice.ensures.value, c.as_slice-2.ensures.value) at c.in-Ok.ensures.findings;

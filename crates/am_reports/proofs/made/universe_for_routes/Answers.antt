@@ -5,6 +5,7 @@ use Rattle.am_labels.specs.Space.{Space}
 use Rattle.am_json.specs.Reading.{refusal_of}
 use Rattle.am_files.proofs.FirstFaults.{handed_on}
 use Rattle.am_complete.specs.AskedLabel.{IsAskedOf}
+use Rattle.am_complete.specs.declared.allowed_names.AllowedNames.TheVariants as allowed_are
 use Rattle.am_complete.specs.Covering.{AddsNeeded}
 use Rattle.am_complete.specs.Complete.{impossible_matchers}
 use Rattle.am_complete.proofs.AmongMatchers.{last_among}
@@ -45,10 +46,10 @@ returns-in_err-found-clause-refused c =
     → IsMadeRefusal a s.impossible k f.place (refusal_of f)) fault c.from_residual.result
     c.from_residual.ensures.1
     (λ remembered.
-    let full : NoRoomFor a s (labels_of_routes k s.impossible) fault.place (refusal_of fault) =
+    let full : NoRoomFor a allowed_are.Any s (labels_of_routes k s.impossible) fault.place (refusal_of fault) =
     rw (are_asked at) at (c.in_err-found.ensures.refused remembered) in
     inl (subst (λ (t : Space).
-    NoRoomFor a t (labels_of_routes k s.impossible) fault.place (refusal_of fault))
+    NoRoomFor a allowed_are.Any t (labels_of_routes k s.impossible) fault.place (refusal_of fault))
     (undeclared_is s c.requires) full))
 
 pub returns-clause-refused : goal.returns-clause-refused
@@ -59,11 +60,11 @@ returns-clause-refused c = λ remembered.
     let label = c.in-Err.label.now in
     let told = rw (c.first.ensures.first, c.name.ensures.name)
     at (c.unproved_label.ensures.refusal remembered) in
-    let unproved : IsFirstUnproved c.args.alphabet s labels label =
+    let unproved : IsFirstUnproved c.args.alphabet allowed_are.Any s labels label =
     rw (are_asked at) at (rw c.in-Err.is at c.in_ok-found.ensures.unproved).1 in
     inr (
       label,
-      subst (λ (t : Space). IsFirstUnproved c.args.alphabet t labels label)
+      subst (λ (t : Space). IsFirstUnproved c.args.alphabet allowed_are.Any t labels label)
           (undeclared_is s c.requires) unproved,
       told.0,
       told.1,
