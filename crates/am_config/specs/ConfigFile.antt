@@ -68,6 +68,12 @@ pub record Configuration : Type 0 where
   pub rules : List Rule
   pub rest : Members
 
+-- The position of the receiver with a name, if one is declared.
+-- Source: own choice.
+-- Example: of the receivers `default` and `db-mail`, `db-mail` has the position 1.
+abbrev pub receiver_position : Configuration → List ℕ → Option ℕ
+receiver_position c name = position (λ other. same_text other name) c.receivers
+
 -- The configuration that has nothing but these.
 abbrev pub config_with : List (List ℕ) → RouteTree → List Rule → Configuration
 config_with receivers root rules =

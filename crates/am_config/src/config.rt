@@ -30,7 +30,7 @@ pub struct Config {
 
 impl Config {
     ghost use Rattle.std.specs.Prelude.{◌<◌, Some, None, IfSome, IfNone, length, slice_get};
-    ghost use Rattle.am_config.specs.ConfigFile.{IsConfig};
+    ghost use Rattle.am_config.specs.ConfigFile.{IsConfig, receiver_position};
     ghost use Rattle.am_config.specs.ConfigView.{config_view};
     ghost use Rattle.am_config.specs.RouteView.{route_view};
     ghost use Rattle.am_config.specs.Path.{route_at};
@@ -75,8 +75,7 @@ impl Config {
 
     /// The position of the receiver with this name; `None` if no receiver has it.
     pub fn receiver_position(&self, name: &str) -> Option<usize>
-        ensures position { result ≡ position (λ other. same_text other name.now)
-            (config_view self.now).receivers }
+        ensures position { result ≡ receiver_position (config_view self.now) name.now }
     {
         position(&self.receivers, name)
     }

@@ -1,15 +1,14 @@
 -- Question texts: which text is which question about a configuration, and why a text is refused.
 -- (This project's own.)
 use Rattle.std.specs.Prelude.{◌≡◌, ◌≤◌, ◌<◌, ◌⊎◌, ℕ, List, [], ◌∷◌, ◌++◌, length, Option, Some}
-use Rattle.std.specs.Prelude.{None, position, IsTrue, is_some}
-use Rattle.am_universe.specs.Text.{same_text}
+use Rattle.std.specs.Prelude.{None, IsTrue, is_some}
 use Rattle.am_universe.specs.declared.kind.Kind.{Kind}
 use Rattle.am_universe.specs.declared.kind.Kind.TheVariants as kinds
 use Rattle.am_labels.specs.declared.limits.TheConstants.{MAX_MATCHERS}
 use Rattle.am_labels.specs.Matcher.{Matcher}
 use Rattle.am_labels.specs.MatcherText.{Spells}
 use Rattle.am_labels.specs.MatcherRefusals.{have_valid_patterns, TextRefusedFor}
-use Rattle.am_config.specs.ConfigFile.{Configuration}
+use Rattle.am_config.specs.ConfigFile.{Configuration, receiver_position}
 use Rattle.am_config.specs.Path.{path_text, route_at}
 use Rattle.am_questions.specs.declared.limits.TheConstants.{MAX_LEXEMES}
 use Rattle.am_eval.specs.Tree.{Tree, Part, Not, And, Or}
@@ -20,10 +19,6 @@ use Rattle.am_questions.specs.Grammar.{WrittenBraces, IsQuestion}
 
 -- ---- What is meant.
 
--- The position of the receiver with a name.
-abbrev pub receiver_named : Configuration → List ℕ → Option ℕ
-receiver_named c name = position (λ other. same_text other name) c.receivers
-
 -- The text is that of this path, and a route is at the path.
 abbrev pub IsPathOfRoute : Configuration → List ℕ → List ℕ → Type 0
 IsPathOfRoute c text path = (text ≡ path_text path) × IsTrue (is_some (route_at c.root path))
@@ -32,7 +27,7 @@ IsPathOfRoute c text path = (text ≡ path_text path) × IsTrue (is_some (route_
 abbrev pub Means : Configuration → Written → Simple → Type 0
 Means c (WrittenIs property) simple = simple ≡ Is property
 Means c (WrittenReceiver name) simple =
-    (receiver : ℕ) × (receiver_named c name ≡ Some receiver) × (simple ≡ Receiver receiver)
+    (receiver : ℕ) × (receiver_position c name ≡ Some receiver) × (simple ≡ Receiver receiver)
 Means c (WrittenRoute reach text) simple =
     (path : List ℕ) × IsPathOfRoute c text path × (simple ≡ Route reach path)
 Means c (WrittenBraces text) simple =
@@ -76,7 +71,7 @@ parts_of (Or t u) = parts_of t ++ parts_of u
 abbrev pub PartRefusedFor : Configuration → Written → Kind → Type 0
 PartRefusedFor c (WrittenIs property) kind = ⊥
 PartRefusedFor c (WrittenReceiver name) kind =
-    (kind ≡ kinds.UnknownReceiver) × (receiver_named c name ≡ None)
+    (kind ≡ kinds.UnknownReceiver) × (receiver_position c name ≡ None)
 PartRefusedFor c (WrittenRoute reach text) kind =
     (kind ≡ kinds.UnknownRoute) × ((path : List ℕ) → IsPathOfRoute c text path → ⊥)
 PartRefusedFor c (WrittenBraces text) kind = TextRefusedFor text kind
