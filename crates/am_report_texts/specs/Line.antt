@@ -24,7 +24,7 @@ pub record ShownRoute : Type 0 where
 
 -- What a piece shows: a word, a number, the name of a label or of a field, such names, a JSON
 -- pointer, a text, texts, the path of a route, a label set with its labels in order, matchers,
--- routes, or inhibition rules with firing alerts, by their positions.
+-- lists of matchers, routes, or inhibition rules with firing alerts, by their positions.
 pub data Shown : Type 0 where
   Word : List ℕ → Shown
   Number : ℕ → Shown
@@ -36,6 +36,7 @@ pub data Shown : Type 0 where
   Path : List ℕ → Shown
   Labels : List (List ℕ × List ℕ) → Shown
   Matchers : List Matcher → Shown
+  Lists : List (List Matcher) → Shown
   Routes : List ShownRoute → Shown
   Inhibitors : List (ℕ × ℕ) → Shown
 
@@ -87,7 +88,7 @@ inhibitor_text found = decimal found.0 ++ (codes "/" ++ decimal found.1)
 -- What is shown, as a text.
 -- Source: own choice.
 -- Example: the texts `a` and `b` are `"a","b"`. The routes `/0` and `/1` without matchers are
--- `/0 {}, /1 {}`.
+-- `/0 {}, /1 {}`. Two lists are `{team="db"} or {env="dev"}`.
 abbrev pub shown_text : Shown → List ℕ
 shown_text (Word w) = unbroken w
 shown_text (Number n) = decimal n
@@ -99,6 +100,7 @@ shown_text (Texts ts) = texts_behind [] (codes ",") quoted_text ts
 shown_text (Path p) = path_text p
 shown_text (Labels ls) = labels_text ls
 shown_text (Matchers ms) = matchers_text ms
+shown_text (Lists ls) = texts_behind [] (codes " or ") matchers_text ls
 shown_text (Routes rs) = texts_behind [] (codes ", ") shown_route_text rs
 shown_text (Inhibitors is) = texts_behind [] (codes ",") inhibitor_text is
 

@@ -13,7 +13,8 @@ use Rattle.am_report_texts.specs.declared.lines.Level.TheVariants as level_is
 use Rattle.am_report_texts.specs.MatchersText.{matcher_text}
 use Rattle.am_report_texts.specs.Line.{Shown, ShownRoute, Piece, Line, Report}
 use Rattle.am_report_texts.specs.Line.{Word, Number, Name, Names, Pointer, Text, Texts, Path}
-use Rattle.am_report_texts.specs.Line.{Labels, Matchers, Routes, Inhibitors, Words, Value}
+use Rattle.am_report_texts.specs.Line.{Labels, Matchers, Lists, Routes, Inhibitors, Words}
+use Rattle.am_report_texts.specs.Line.{Value}
 
 -- An object gets members, in their order. A later one takes the place of one with the same name.
 abbrev pub with_members : Members → List (List ℕ × Data) → Members
@@ -69,6 +70,7 @@ field_name field_is.Similar = codes "similar"
 field_name field_is.Source = codes "source"
 field_name field_is.State = codes "state"
 field_name field_is.Target = codes "target"
+field_name field_is.Unless = codes "unless"
 field_name field_is.Value = codes "value"
 
 -- A path is shown as its text and as its positions.
@@ -111,6 +113,7 @@ shown_members name (Path p) = path_members name p
 shown_members name (Labels ls) =
     (name, object_of (map (λ label. (label.0, string label.1)) ls)) ∷ []
 shown_members name (Matchers ms) = (name, matchers_data ms) ∷ []
+shown_members name (Lists ls) = (name, array_of matchers_data ls) ∷ []
 shown_members name (Routes rs) = (name, array_of route_data rs) ∷ []
 shown_members name (Inhibitors is) = (name, array_of inhibitor_data is) ∷ []
 

@@ -28,6 +28,7 @@ shown_view (shown_is.Texts ts) = line.Texts (map (λ t. t.now) ts.items)
 shown_view (shown_is.Path p) = line.Path p
 shown_view (shown_is.Labels ls) = line.Labels (map (λ l. (l.0.now, l.1.now)) ls.items)
 shown_view (shown_is.Matchers ms) = line.Matchers (map (λ m. m.now) ms.items)
+shown_view (shown_is.Lists ls) = line.Lists (map (λ ms. map (λ m. m.now) ms.items) ls.items)
 shown_view (shown_is.Routes rs) = line.Routes (map route_view rs.items)
 shown_view (shown_is.Inhibitors is) = line.Inhibitors is.now
 

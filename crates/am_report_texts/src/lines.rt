@@ -53,6 +53,7 @@ pub enum Field {
     Source,
     State,
     Target,
+    Unless,
     Value,
 }
 
@@ -103,6 +104,7 @@ impl Field {
             Field::Source => "source",
             Field::State => "state",
             Field::Target => "target",
+            Field::Unless => "unless",
             Field::Value => "value",
         }
     }
@@ -151,6 +153,8 @@ pub enum Shown<'a> {
     /// A label set, with its labels in order.
     Labels(Vec<(&'a str, &'a str)>),
     Matchers(Vec<&'a Matcher>),
+    /// Lists of matchers.
+    Lists(Vec<Vec<&'a Matcher>>),
     Routes(Vec<ShownRoute<'a>>),
     /// Inhibition rules, each with a firing alert that inhibits by it, by their positions.
     Inhibitors(&'a [(usize, usize)]),

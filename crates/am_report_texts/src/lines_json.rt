@@ -6,7 +6,8 @@ ghost use Rattle.std.specs.List.{flat_map};
 ghost use Rattle.serde_json.specs.Data.{Data, string};
 ghost use Rattle.serde_json.specs.View.{members_view, view};
 ghost use Rattle.am_report_texts.specs.LineData.{array_of, inhibitor_data, kind_members};
-ghost use Rattle.am_report_texts.specs.LineData.{level_members, line_data, number_data};
+ghost use Rattle.am_report_texts.specs.LineData.{level_members, line_data, matchers_data};
+ghost use Rattle.am_report_texts.specs.LineData.{number_data};
 ghost use Rattle.am_report_texts.specs.LineData.{object_of, path_members, piece_members};
 ghost use Rattle.am_report_texts.specs.LineData.{report_data, route_data, shown_members};
 ghost use Rattle.am_report_texts.specs.LineData.{with_members};
@@ -52,11 +53,18 @@ fn put_each<T: Item>(
         ≡ with_members (members_view object.old.entries)
         ((name.now, array_of T.item_data items.now) ∷ [])) }
 {
+    put(object, alloc, name, array(alloc, items)?)
+}
+
+/// Returns items as an array.
+fn array<T: Item>(alloc: Global, items: &[T]) -> Result<Value, AllocError>
+    ensures { IfOk result (λ value. view value ≡ array_of T.item_data items.now) }
+{
     let mut values = Vec::with_capacity(alloc, items.len())?;
     for item in items {
         values.push(item.json(alloc)?)?;
     }
-    put(object, alloc, name, Value::Array(values))
+    Ok(Value::Array(values))
 }
 
 impl Item for Line<'_> {
@@ -101,6 +109,15 @@ impl Item for &Matcher {
         let mut text = String::new(alloc);
         self.push_to(alloc, &mut text)?;
         Ok(Value::String(text))
+    }
+}
+
+/// A list of matchers is an array of their texts.
+impl Item for Vec<&Matcher> {
+    ghost item_data = { λ list. matchers_data (map (λ m. m.now) list.items) };
+
+    fn json(&self, alloc: Global) -> Result<Value, AllocError> {
+        array(alloc, self.as_slice())
     }
 }
 
@@ -188,6 +205,7 @@ fn put_shown(
         Shown::Path(path) => put_path(alloc, object, name, path),
         Shown::Labels(labels) => put_labels(alloc, object, name, labels.as_slice()),
         Shown::Matchers(matchers) => put_each(alloc, object, name, matchers.as_slice()),
+        Shown::Lists(lists) => put_each(alloc, object, name, lists.as_slice()),
         Shown::Routes(routes) => put_each(alloc, object, name, routes.as_slice()),
         Shown::Inhibitors(inhibitors) => put_each(alloc, object, name, inhibitors),
     }

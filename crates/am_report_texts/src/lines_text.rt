@@ -1,11 +1,11 @@
 //! Reports as a text.
 #![tactic(auto, using(crate::proofs::PieceSteps::text_steps))]
 
-ghost use Rattle.std.specs.Prelude.{◌≡◌, ◌++◌, ℕ, List, [], codes, decimal, string_bytes};
+ghost use Rattle.std.specs.Prelude.{◌≡◌, ◌++◌, ℕ, List, [], map, codes, decimal, string_bytes};
 ghost use Rattle.std.specs.Prelude.{IfOk, OnOk};
 ghost use Rattle.am_universe.specs.Text.{quoted_text};
 ghost use Rattle.am_config.specs.Path.{path_text, step_text};
-ghost use Rattle.am_report_texts.specs.MatchersText.{matcher_text};
+ghost use Rattle.am_report_texts.specs.MatchersText.{matcher_text, matchers_text};
 ghost use Rattle.am_report_texts.specs.NameText.{name_text};
 ghost use Rattle.am_report_texts.specs.Separated.{texts_behind};
 ghost use Rattle.am_report_texts.specs.Line.{inhibitor_text, label_text, line_text, mark_of};
@@ -123,6 +123,7 @@ fn push_shown(alloc: Global, text: &mut String, shown: &Shown<'_>) -> Result<(),
         Shown::Path(path) => push_path(alloc, text, path),
         Shown::Labels(labels) => push_in_braces(alloc, text, labels.as_slice()),
         Shown::Matchers(matchers) => push_in_braces(alloc, text, matchers.as_slice()),
+        Shown::Lists(lists) => push_each(alloc, text, " or ", lists.as_slice()),
         Shown::Routes(routes) => push_each(alloc, text, ", ", routes.as_slice()),
         Shown::Inhibitors(inhibitors) => push_each(alloc, text, ",", inhibitors),
     }
@@ -204,6 +205,15 @@ impl TextItem for &Matcher {
         push_name(text, self.name())?;
         text.push_str(self.op().text())?;
         push_quoted(text, self.value())
+    }
+}
+
+/// A list of matchers.
+impl TextItem for Vec<&Matcher> {
+    ghost item_text = { λ list. matchers_text (map (λ m. m.now) list.items) };
+
+    fn push_to(&self, alloc: Global, text: &mut String) -> Result<(), AllocError> {
+        push_in_braces(alloc, text, self.as_slice())
     }
 }
 
