@@ -27,7 +27,7 @@ use Rattle.am_lint.proofs.FoundLemmas.{IsFurther, IsFoundSo}
 -- ---- Lists, position by position.
 
 -- what follows for the two items at each position
-each_place : {X Y : Type 0} (R Q : X → Y → Type 0) (xs : List X) (ys : List Y)
+pub each_place : {X Y : Type 0} (R Q : X → Y → Type 0) (xs : List X) (ys : List Y)
     → ((x : X) (y : Y) → IsIn xs x → IsIn ys y → R x y → Q x y) → AllZip R xs ys → AllZip Q xs ys
 each_place R Q [] [] each h = tt
 each_place R Q (x ∷ xs) (y ∷ ys) each h = (

@@ -37,7 +37,7 @@ met_among s t (next_route first rs) zero r h is =
 met_among s t (next_route first rs) (suc p) r h is =
     met_among s t rs p r (rest_met s t (route_matchers first) (routes_matchers rs) h) is
 
-met_at : (s t : LabelMap) (root : RouteTree) (q : List ℕ) (r : RouteTree)
+pub met_at : (s t : LabelMap) (root : RouteTree) (q : List ℕ) (r : RouteTree)
     → MeetsTheSame (route_matchers root) s t → route_at root q ≡ Some r
     → MeetsTheSame (route_matchers r) s t
 met_at s t root [] r h at =

@@ -6,11 +6,17 @@
 //! [`push_lint_lines`] adds a line for each finding and note. If one space stands for all ordinary
 //! alerts, whose values are printable ASCII, and the other for all alerts, the findings hold of all
 //! alerts. [`laws`] say that.
+//!
+//! A [`Table`] has the routes of a configuration as cubes, and [`literals_of`] returns what an
+//! alert has to meet to end at one of them. `am_route_alerts` looks at them too.
 #![tactic(auto)]
 
 // The routes, and what they ask of an alert.
 mod literals;
 mod table;
+
+pub use literals::{Literals, Part, literals_of};
+pub use table::{Table, TableRoute};
 
 // How the label sets of a space arrive at a route.
 mod arrival;

@@ -11,7 +11,7 @@ use std::alloc::{AllocError, Global};
 
 /// A part of the literals for a route, by the routes that they name.
 #[derive(Clone, Copy)]
-pub(crate) enum Part {
+pub enum Part {
     /// The routes on the way to the route, and the route itself. An alert must match each of them.
     Way,
     /// The earlier siblings of the route, or of a route on the way, that lack `continue`. An alert
@@ -43,7 +43,7 @@ impl Part {
 
 /// The literals for a route, one part after another.
 #[derive(Drop)]
-pub(crate) struct Literals<'t> {
+pub struct Literals<'t> {
     pub all: Vec<Candidate<'t>>,
     /// How many an alert meets that matches the way to the route.
     pub on_way: usize,
@@ -53,7 +53,7 @@ pub(crate) struct Literals<'t> {
 
 /// Returns the literals for the route at a path. An alert ends there exactly if it meets all of
 /// them. Fails only if memory runs out.
-pub(crate) fn literals_of<'t>(
+pub fn literals_of<'t>(
     alloc: Global,
     table: &'t Table<'_>,
     path: &Path,

@@ -13,7 +13,7 @@ use std::alloc::{AllocError, Global};
 
 /// A route by its path, with what a search needs to know about it.
 #[derive(Drop)]
-pub(crate) struct TableRoute {
+pub struct TableRoute {
     pub path: Path,
     pub continues: bool,
     pub cube: Cube,
@@ -22,7 +22,7 @@ pub(crate) struct TableRoute {
 
 /// The routes of a configuration over a space, in preorder, and what is impossible.
 #[derive(Drop)]
-pub(crate) struct Table<'a> {
+pub struct Table<'a> {
     pub possible: PossibleSets<'a>,
     pub config: &'a Config,
     pub routes: Vec<TableRoute>,
@@ -30,11 +30,7 @@ pub(crate) struct Table<'a> {
 
 impl<'a> Table<'a> {
     /// Returns the table of a configuration over a space. Fails only if memory runs out.
-    pub(crate) fn of(
-        alloc: Global,
-        space: &'a Space,
-        config: &'a Config,
-    ) -> Result<Table<'a>, AllocError>
+    pub fn of(alloc: Global, space: &'a Space, config: &'a Config) -> Result<Table<'a>, AllocError>
         ensures space { IfOk result (λ table. table_space table ≡ space.now) }
         ensures config { IfOk result (λ table. table_config table ≡ config_view config.now) }
         ensures knows { IfOk result KnowsRoutes }
