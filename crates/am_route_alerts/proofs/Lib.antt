@@ -1,0 +1,9 @@
+pub mod ImpliedLemmas
+pub mod ShortenedLemmas
+pub mod ZipLists
+pub mod LiteralRoutes
+pub mod LiteralsHold
+pub mod EndLemmas
+pub mod KnownMatchers
+pub mod RouteAlertsOver
+pub mod ReceiverLines

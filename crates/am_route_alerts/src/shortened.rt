@@ -1,0 +1,66 @@
+//! The fewest of some matchers that say the same as all of them.
+
+ghost use Rattle.std.specs.Prelude.{◌≡◌, length, map, IfOk};
+ghost use Rattle.am_first_sets.specs.PossibleSets.{possible_space};
+ghost use Rattle.am_first_sets.specs.Reason.{AreNamedBefore};
+ghost use Rattle.am_first_sets.specs.Solving.{marked};
+ghost use Rattle.am_route_alerts.specs.MatcherCubes.{AreEachCubes, MeetsAll};
+ghost use Rattle.am_route_alerts.specs.Shortened.{IsShortened};
+
+use crate::implied::leave_out_implied;
+use crate::matcher_cubes::KnownMatcher;
+use am_first_sets::{Candidate, PossibleSets};
+use am_labels::Matcher;
+use std::alloc::{AllocError, Global};
+
+/// Returns matchers without those that follow from the others, for the label sets of a space that
+/// meet given literals. Of two that say the same, the first one stays. Fails only if memory runs
+/// out.
+pub(crate) fn shortened<'a, 'c>(
+    alloc: Global,
+    possible: &PossibleSets<'_>,
+    given: &[Candidate<'c>],
+    matchers: &[KnownMatcher<'c, 'a>],
+) -> Result<Vec<&'a Matcher>, AllocError>
+    requires cubes { AreEachCubes (possible_space possible.now).labels matchers.now }
+    requires named { AreNamedBefore (length given.now) given.now }
+    ensures shortened { IfOk result (λ kept.
+        IsShortened (MeetsAll (possible_space possible.now) given.now)
+        (map (λ known. known.matcher.now) matchers.now) (map (λ m. m.now) kept.items)) }
+{
+    let mut literals = given.to_vec(alloc)?;
+    for known in matchers {
+        literals.push(Candidate {
+            cube: known.cube,
+            wanted: true,
+            named: true,
+            tag: 0,
+        })?;
+    }
+    leave_out_implied(
+        alloc,
+        possible.choices(),
+        literals.as_mut_slice(),
+        given.len(),
+        &[],
+    )?;
+    named_matchers(alloc, &literals[given.len()..], matchers)
+}
+
+/// Returns the matchers whose literals are named. Fails only if memory runs out.
+fn named_matchers<'a>(
+    alloc: Global,
+    literals: &[Candidate<'_>],
+    matchers: &[KnownMatcher<'_, 'a>],
+) -> Result<Vec<&'a Matcher>, AllocError>
+    ensures { IfOk result (λ kept. kept.items ≡ marked (map (λ k. k.named) literals.now)
+        (map (λ known. known.matcher) matchers.now)) }
+{
+    let mut kept = Vec::new(alloc);
+    for (literal, known) in literals.iter().zip(matchers) {
+        if literal.named {
+            kept.push(known.matcher)?;
+        }
+    }
+    Ok(kept)
+}
