@@ -18,15 +18,16 @@ _amcover() {
         done < <(compgen -f -- "$word")
         return
         ;;
-    --after | --at | --limit | --question | --steps)
+    --after | --at | --limit | --question | --receiver | --steps)
         return
         ;;
     esac
     if ((COMP_CWORD == 1)); then
-        options="lint compare outcomes ask dead receivers explain alerts universe --help --version"
+        options="lint routes compare outcomes ask dead receivers explain alerts universe --help --version"
     else
         case ${COMP_WORDS[1]} in
         lint) options="--config --silences --alerts --at --universe --ascii --json --help" ;;
+        routes) options="--config --receiver --universe --ascii --json --help" ;;
         compare) options="--old --new --universe --ascii --json --help" ;;
         outcomes) options="--config --universe --ascii --json --help" ;;
         ask) options="--universe --config --silences --alerts --at --limit --steps --after --help" ;;
@@ -39,7 +40,7 @@ _amcover() {
     fi
     for it in $options; do
         # An option that stands there already is offered again only if it may be repeated.
-        if [[ " --question " != *" $it "* && $given == *" $it "* ]]; then
+        if [[ " --question --receiver " != *" $it "* && $given == *" $it "* ]]; then
             continue
         fi
         if [[ $it == "$word"* ]]; then

@@ -162,6 +162,13 @@ pub(crate) const COUNTED: Argument = Argument {
     help: "Count the matchers of this question too; may be repeated",
 };
 
+/// A receiver that `routes` is asked about.
+pub(crate) const RECEIVER: Argument = Argument {
+    id: "receiver",
+    form: Form::Values("receiver", "NAME"),
+    help: "Print only the routes with this receiver; may be repeated",
+};
+
 pub(crate) const ROUTES: Argument = Argument {
     id: "routes",
     form: Form::Flag("routes"),

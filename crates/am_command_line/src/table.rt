@@ -3,7 +3,8 @@
 
 use crate::options::{
     AFTER, ALERTS, ASCII, ASKED, ASKED_OF_ALERTS, AT, CHECK, CONFIG, COUNTED, CommandRow, FROM,
-    IMPOSSIBLE, JSON, LIMIT, NEW, Need, OLD, OPEN, ROUTES, SET, SILENCES, STEPS, UNIVERSE,
+    IMPOSSIBLE, JSON, LIMIT, NEW, Need, OLD, OPEN, RECEIVER, ROUTES, SET, SILENCES, STEPS,
+    UNIVERSE,
 };
 use crate::requests::{ask_request, universe_request, words_of};
 use crate::steps::Steps;
@@ -19,6 +20,11 @@ pub enum Request<'a> {
     /// What is wrong with a configuration and with silences, for every alert.
     Lint {
         ascii: bool,
+    },
+    /// Which alerts end at each route, or at each route that has one of these receivers.
+    Routes {
+        ascii: bool,
+        receivers: Vec<&'a str>,
     },
     /// Which alerts go to other receivers under a new configuration than under an old one.
     Compare {
@@ -75,6 +81,10 @@ pub(crate) fn request_of<'a>(
     let question = matches.get_str("question");
     let request = match name {
         "lint" => Request::Lint { ascii },
+        "routes" => Request::Routes {
+            ascii,
+            receivers: words_of(alloc, matches, "receiver")?,
+        },
         "compare" => Request::Compare { ascii },
         "outcomes" => Request::Outcomes { ascii },
         "ask" => ask_request(question.unwrap_or(""), matches),
@@ -104,6 +114,7 @@ Begin with your own alertmanager.yml:
 Examples:
 
   amcover lint --config alertmanager.json
+  amcover routes --config alertmanager.json --receiver db-pager
   amcover compare --old old.json --new alertmanager.json
   amcover outcomes --config alertmanager.json
   amcover explain --config alertmanager.json 'team=db,severity=warning'
@@ -118,7 +129,7 @@ Each command has help on what it reads and prints, for example `amcover lint --h
 };
 
 /// The commands, in the order of the help.
-pub(crate) const COMMANDS: [CommandRow; 9] = [
+pub(crate) const COMMANDS: [CommandRow; 10] = [
     CommandRow {
         name: "lint",
         about: "Say what is wrong with a configuration, and why",
@@ -238,6 +249,62 @@ output failed, 5 done with a finding.",
             (SILENCES, Need::Optional),
             (ALERTS, Need::Optional),
             (AT, Need::Optional),
+            (IMPOSSIBLE, Need::Optional),
+            (ASCII, Need::Optional),
+            (JSON, Need::Optional),
+        ],
+    },
+    CommandRow {
+        name: "routes",
+        about: "Show which alerts end at each route, by matchers",
+        help: "\
+Convert your alertmanager.yml to JSON, and ask which alerts reach a receiver:
+
+  yq -o=json . alertmanager.yml > alertmanager.json  # Debian's yq: yq . alertmanager.yml
+  amcover routes --config alertmanager.json --receiver db-pager
+
+This prints a line for each route that has the receiver, and then `# end`. For example:
+
+  /0 \"db-pager\" {severity=\"critical\",team=\"db\"} unless {env=\"dev\"} or {env=\"test\"}
+  /3/1 \"db-pager\" {team=\"db-oncall\"}
+  /7 \"db-pager\" no alert
+  # end
+
+A path names a route, and counts from 0: / is the top-level route, /3 is its fourth child,
+and /3/1 the second child of that. Then comes the receiver of the route, and then which
+alerts end there: those that match the first braces, and none of the lists behind `unless`.
+This is exact for every alert, whatever its labels are. `no alert` means that none ends
+there: amcover lint says why. So an alert goes to db-pager exactly if it meets one of these
+lines. It may go to other receivers as well, if a route has `continue`.
+
+The first braces have the matchers of the route and of those above it. The lists are those
+of earlier siblings without `continue`, also of the routes above, and of children: they take
+alerts away. What follows from other matchers is left out.
+
+Without --receiver there is a line for each route. With several, there are those of each:
+
+  amcover routes --config alertmanager.json
+  amcover routes --config alertmanager.json --receiver db-pager --receiver db-mail
+
+If some alerts never occur, say so in a universe file, such as never.json:
+
+  {\"labels\": [], \"impossible\": [\"team=web,severity=critical\"]}
+
+  amcover routes --config alertmanager.json --universe never.json
+
+The file may declare labels too. Then each needs a value for every case that the matchers of
+the routes tell apart: amcover universe --from never.json --config alertmanager.json adds what
+it lacks.
+
+With --ascii, only alerts count whose values consist of printable ASCII, from the space to ~.
+If a pattern has \\b, use --ascii: without it, routes refuses the configuration as unproved.
+
+routes ignores silences, inhibition and time intervals.
+
+Exit status: 0 done, 1 refused input, 2 usage, 3 out of memory, 4 the output failed.",
+        takes: &[
+            (CONFIG, Need::Required),
+            (RECEIVER, Need::Optional),
             (IMPOSSIBLE, Need::Optional),
             (ASCII, Need::Optional),
             (JSON, Need::Optional),

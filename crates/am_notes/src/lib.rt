@@ -23,6 +23,9 @@ mod universes;
 // What a file looks like.
 mod likeness;
 
+// Which receiver may be meant.
+mod receivers;
+
 // What to type after a refusal.
 mod remedies;
 

@@ -2,6 +2,7 @@
 
 use crate::likeness::Likeness;
 use crate::notes::Notes;
+use crate::receivers::add_similar_receivers;
 use crate::sentences::looks_like;
 use am_command_line::{Call, Request};
 use am_json::limits::MAX_FILE_BYTES;
@@ -28,6 +29,7 @@ pub(crate) fn add_remedy(
         Kind::Shape | Kind::UnknownField => add_likeness(alloc, notes, call, fault.place),
         Kind::BadMatcher => add_bad_matcher(alloc, notes, call, fault),
         Kind::Limit => add_if_any(alloc, notes, limit_remedy(call, fault)),
+        Kind::UnknownReceiver => add_unknown_receiver(alloc, notes, call, fault),
         kind => add_if_any(alloc, notes, remedy(call, kind, fault.place)),
     }
 }
@@ -106,6 +108,19 @@ fn add_bad_matcher(
         );
     }
     add_if_any(alloc, notes, bad_matcher_remedy(fault.place))
+}
+
+/// Adds a note on a name that no receiver has.
+fn add_unknown_receiver(
+    alloc: Global,
+    notes: &mut Notes,
+    call: &Call<'_>,
+    fault: &Fault,
+) -> Result<(), AllocError> {
+    if add_similar_receivers(alloc, notes, call)? {
+        return Ok(());
+    }
+    add_if_any(alloc, notes, remedy(call, fault.kind, fault.place))
 }
 
 fn bad_matcher_remedy(place: Place) -> Option<&'static str> {
@@ -235,11 +250,15 @@ fn limit_remedy(call: &Call<'_>, fault: &Fault) -> Option<&'static str> {
         return None;
     }
     match call.request {
-        Request::Outcomes { ascii: true } | Request::Compare { ascii: true } => Some(
+        Request::Routes { ascii: true, .. }
+        | Request::Outcomes { ascii: true }
+        | Request::Compare { ascii: true } => Some(
             "the routes tell too many alerts apart: \
             a universe file that says what never occurs may help",
         ),
-        Request::Outcomes { ascii: false } | Request::Compare { ascii: false } => Some(
+        Request::Routes { ascii: false, .. }
+        | Request::Outcomes { ascii: false }
+        | Request::Compare { ascii: false } => Some(
             "the routes tell too many alerts apart: --ascii may help, \
             or a universe file that says what never occurs",
         ),
@@ -252,12 +271,14 @@ fn limit_remedy(call: &Call<'_>, fault: &Fault) -> Option<&'static str> {
 fn unproved_remedy(request: &Request<'_>) -> &'static str {
     match request {
         Request::Lint { ascii: false }
+        | Request::Routes { ascii: false, .. }
         | Request::Outcomes { ascii: false }
         | Request::Compare { ascii: false } => {
             "with --ascii patterns are read that are not read otherwise; \
             amcover universe --check UNIVERSE --config FILE says more"
         }
         Request::Lint { ascii: true }
+        | Request::Routes { ascii: true, .. }
         | Request::Outcomes { ascii: true }
         | Request::Compare { ascii: true } => {
             "amcover universe --ascii --check UNIVERSE --config FILE says more"

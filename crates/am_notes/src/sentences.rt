@@ -1,6 +1,6 @@
 //! The sentences of notes that name a label, a value or a file, each written only here.
 
-use am_report_texts::{push_name, push_quoted};
+use am_report_texts::{gap_before, push_name, push_quoted};
 use std::alloc::{AllocError, Global};
 
 /// The command that shows what a universe leaves out.
@@ -58,6 +58,21 @@ pub(crate) fn undeclarable(alloc: Global, name: &str) -> Result<String, AllocErr
 pub(crate) fn unproved(alloc: Global, name: &str) -> Result<String, AllocError> {
     let name = named(alloc, name)?;
     format!(in alloc; "whether the universe leaves out values of {name} is not proved; {CHECK}")
+}
+
+/// No receiver has a name, but some have similar ones.
+pub(crate) fn unknown_receiver(
+    alloc: Global,
+    name: &str,
+    similar: &[&str],
+) -> Result<String, AllocError> {
+    let mut names = String::new(alloc);
+    for (i, other) in similar.iter().enumerate() {
+        names.push_str(gap_before(i, "", ","))?;
+        push_quoted(&mut names, other)?;
+    }
+    let name = quoted(alloc, name)?;
+    format!(in alloc; "no receiver is named {name}; similar: {names}")
 }
 
 /// What is given as one file looks like another.

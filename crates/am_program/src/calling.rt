@@ -14,7 +14,7 @@ use am_command_line::{Call, Request, Steps};
 use am_commands::{ask, dead, explain_words, receivers};
 use am_files::Files;
 use am_report_texts::Form;
-use am_reports::{CompareInputs, LintInputs, ReportInputs, compare, lint, outcomes};
+use am_reports::{CompareInputs, LintInputs, ReportInputs, compare, lint, outcomes, routes};
 use am_search::Page;
 use am_universe::{Fault, Sink};
 use am_universe_command::{UniverseForm, UniverseInputs, check_universe, universe};
@@ -38,6 +38,15 @@ pub fn make_call<W: Sink>(alloc: Global, call: &Call<'_>, out: &mut W) -> Result
                 form,
             };
             lint(alloc, &inputs, out)
+        }
+        Request::Routes { ascii, receivers } => {
+            let inputs = ReportInputs {
+                universe: given,
+                config: files.config(),
+                alphabet: alphabet_of(*ascii),
+                form,
+            };
+            nothing_found(routes(alloc, &inputs, receivers.as_slice(), out))
         }
         Request::Compare { ascii } => {
             let inputs = CompareInputs {

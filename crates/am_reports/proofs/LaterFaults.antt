@@ -1,5 +1,5 @@
 -- The first fault after those of the inputs.
-use Rattle.std.proofs.Common.{ℕ, List, Bool, true, false, inl, inr, refl, sym, subst}
+use Rattle.std.proofs.Common.{◌≡◌, ℕ, List, Bool, true, false, inl, inr, refl, sym, subst}
 use Rattle.std.specs.Prelude.{if◌then◌else◌}
 use Rattle.am_universe.specs.declared.place.Place.{Place}
 use Rattle.am_universe.specs.declared.place.Place.TheVariants as places
@@ -26,6 +26,8 @@ use Rattle.am_reports.specs.LintInputs.{LintInputs, AcceptsLintInputs}
 use Rattle.am_reports.specs.Made.{IsMadeRefusal, IsDeclaredRefusal}
 use Rattle.am_reports.specs.LaterStages.{IsOutcomesRefusal}
 use Rattle.am_reports.specs.OutcomesReport.{outcomes_promise, RefusesOutcomes}
+use Rattle.am_reports.specs.AskedReceivers.{ArePositions, IsUnknownReceiver}
+use Rattle.am_reports.specs.RoutesReport.{routes_promise, RefusesRoutes, IsUnmadeRefusal}
 use Rattle.am_reports.specs.Comparing.{compare_promise, RefusesComparison}
 use Rattle.am_reports.specs.Linting.{lint_promise, RefusesLint, IsLintRefusal}
 
@@ -68,6 +70,11 @@ outcomes_in a s k place r (inl declared) = declared_in a s k place r declared
 outcomes_in a s k place r (inr (whole, inl made)) = made_in a s.impossible k place r made
 outcomes_in a s k place r (inr (whole, inr many)) = inl (sym many.0)
 
+unmade_in : (a : Alphabet) (s : Space) (c : Configuration) (place : Place) (r : Refusal)
+    → IsUnmadeRefusal a s c place r → IsIn matcher_places place
+unmade_in a s c place r (inl declared) = declared_in a s (One c) place r declared
+unmade_in a s c place r (inr (whole, made)) = made_in a s.impossible (One c) place r made
+
 lint_in : (a : Alphabet) (s : Space) (w : World) (place : Place) (r : Refusal)
     → IsLintRefusal a s w place r → IsIn matcher_places place
 lint_in a s w place r (inl declared) =
@@ -93,6 +100,35 @@ outcomes_refused inputs s c place r accepts refused =
         (c, accepts.says_config),
         refused_later (RefusesOutcomes inputs) place r (s, c, accepts, refused) matcher_places
             (outcomes_in inputs.alphabet s (One c) place r refused),
+      ),
+    )
+
+-- a name of `routes` is that of no receiver
+pub names_refused : (inputs : ReportInputs) (names : List (List ℕ)) (s : Space)
+    (c : Configuration) (place : Place) (r : Refusal) → AcceptsReportInputs inputs s c
+    → place ≡ places.Question → IsUnknownReceiver c names r
+    → IsFirstFaultOfCall (routes_promise inputs names).stages place r
+names_refused inputs names s c place r accepts at unknown =
+    inr (
+      (s, accepts.says_universe),
+      inr ((c, accepts.says_config), inl (at, (c, accepts.says_config, unknown))),
+    )
+
+pub routes_refused : (inputs : ReportInputs) (names : List (List ℕ)) (s : Space)
+    (c : Configuration) (positions : List ℕ) (place : Place) (r : Refusal)
+    → AcceptsReportInputs inputs s c → ArePositions c names positions
+    → IsUnmadeRefusal inputs.alphabet s c place r
+    → IsFirstFaultOfCall (routes_promise inputs names).stages place r
+routes_refused inputs names s c positions place r accepts are refused =
+    inr (
+      (s, accepts.says_universe),
+      inr (
+        (c, accepts.says_config),
+        inr (
+          (c, accepts.says_config, positions, are),
+          refused_later (RefusesRoutes inputs) place r (s, c, accepts, refused) matcher_places
+              (unmade_in inputs.alphabet s c place r refused),
+        ),
       ),
     )
 

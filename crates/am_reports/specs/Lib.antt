@@ -9,4 +9,6 @@ pub mod FoundLines
 pub mod Linting
 pub mod AllOutcomes
 pub mod OutcomesReport
+pub mod AskedReceivers
+pub mod RoutesReport
 pub mod Comparing

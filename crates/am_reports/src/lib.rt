@@ -1,10 +1,10 @@
-//! The commands `lint`, `compare` and `outcomes`, which speak of every alert, as functions over
-//! bytes and a [`Sink`](am_universe::Sink).
+//! The commands `lint`, `routes`, `compare` and `outcomes`, which speak of every alert, as
+//! functions over bytes and a [`Sink`](am_universe::Sink).
 //!
 //! [`lint`] says what is wrong with a configuration, with silences, and with the values that
-//! matchers name, and why. [`outcomes`] lists to which receivers alerts go, and [`compare`] what
-//! changes between two configurations. They need no universe file: each makes the universes that
-//! stand for every alert itself.
+//! matchers name, and why. [`routes`] says which alerts end at each route, [`outcomes`] lists to
+//! which receivers alerts go, and [`compare`] says what changes between two configurations. They
+//! need no universe file: each makes the universes that stand for every alert itself.
 #![tactic(auto)]
 
 // The inputs.
@@ -21,6 +21,9 @@ mod all_outcomes;
 mod configs;
 mod made;
 
+// The receivers that are asked about.
+mod receivers;
+
 // What `lint` finds.
 mod listed_findings;
 mod route_findings;
@@ -29,7 +32,9 @@ mod route_findings;
 mod comparing;
 mod linting;
 mod outcomes_report;
+mod routes_report;
 
 pub use comparing::compare;
 pub use linting::lint;
 pub use outcomes_report::outcomes;
+pub use routes_report::routes;

@@ -12,6 +12,14 @@ returns-in-Lint g c = record {
   ) at c.lint.ensures.kept);
 }
 
+pub returns-in-Routes : goal.returns-in-Routes
+returns-in-Routes g c = record {
+  kept = rw c.in-Routes.is (nothing_found c.nothing_found.ensures
+      (rw (c.as_slice.ensures.value, c.alphabet_of-in-Routes.ensures, c.form_of-form.ensures)
+      at (rw (c.as_deref-given.ensures.value, c.config.ensures.bytes, c.files_of.ensures)
+      at c.routes.ensures.kept)));
+}
+
 pub returns-in-Compare : goal.returns-in-Compare
 returns-in-Compare g c = record {
   kept = rw c.in-Compare.is (so_many_found c.something_found.ensures
@@ -22,9 +30,9 @@ returns-in-Compare g c = record {
 
 pub returns-in-Outcomes : goal.returns-in-Outcomes
 returns-in-Outcomes g c = record {
-  kept = rw c.in-Outcomes.is (nothing_found c.nothing_found.ensures
+  kept = rw c.in-Outcomes.is (nothing_found c.nothing_found-in-Outcomes.ensures
       (rw (c.alphabet_of-in-Outcomes.ensures, c.form_of-form.ensures)
-      at (rw (c.as_deref-given.ensures.value, c.config.ensures.bytes, c.files_of.ensures)
+      at (rw (c.as_deref-given.ensures.value, c.config-in-Outcomes.ensures.bytes, c.files_of.ensures)
       at c.outcomes.ensures.kept)));
 }
 
@@ -53,7 +61,7 @@ returns-in-Receivers g c = record {
 pub returns-in-Explain : goal.returns-in-Explain
 returns-in-Explain g c = record {
   kept = rw c.in-Explain.is (nothing_found c.nothing_found-in-Explain.ensures
-      (rw (c.files_of.ensures, c.as_slice.ensures.value) at c.explain_words.ensures.kept));
+      (rw (c.files_of.ensures, c.as_slice-in-Explain.ensures.value) at c.explain_words.ensures.kept));
 }
 
 pub returns-in-Alerts : goal.returns-in-Alerts
