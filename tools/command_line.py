@@ -1,6 +1,6 @@
 """The commands and options of amcover, for the scripts beside this file. They are read from the
-sources that define them, in crates/am_command_line/src: table.rt, options.rt, and the version in
-commands.rt. A script ends if a source has another form than the one that is read here.
+sources that define them, in crates/am_command_line/src: table.rt, reports.rt, options.rt, and the
+version in commands.rt. A script ends if a source has another form than the one that is read here.
 """
 import re
 import sys
@@ -61,16 +61,17 @@ class Program:
 
     def __init__(self):
         options = (FOLDER / "options.rt").read_text(encoding="utf-8")
+        reports = (FOLDER / "reports.rt").read_text(encoding="utf-8")
         table = (FOLDER / "table.rt").read_text(encoding="utf-8")
         source = (FOLDER / "commands.rt").read_text(encoding="utf-8")
         self.version = re.search(rf"\.version\({TEXT}\)", source)[1]
         self.arguments = {name: parts for name, *parts in ARGUMENT.findall(options)}
         if len(self.arguments) != options.count(": Argument ="):
             stop("an argument of options.rt is not read")
-        rows = COMMAND.findall(table)
-        if len(rows) != table.count(' name: "'):
-            stop("a command of table.rt is not read")
-        (_, about, example, _), *rows = rows
+        (_, about, example, _), *others = COMMAND.findall(table)
+        rows = [*COMMAND.findall(reports), *others]
+        if len(rows) + 1 != (reports + table).count(' name: "'):
+            stop("a command of table.rt or reports.rt is not read")
         self.about, self.example = meant(about), meant(example)
         self.commands = [
             Command(name, meant(about), meant(help_text), self.taken(takes))

@@ -1,6 +1,7 @@
 //! The commands as `clap` takes them, made from the table.
 
 use crate::options::{Argument, CommandRow, Form, Need};
+use crate::reports::REPORTS;
 use crate::table::{COMMANDS, PROGRAM};
 use clap::builder::ValueParser;
 use clap::{Arg, ArgAction, Command};
@@ -11,11 +12,22 @@ const MAX_NUMBER: u64 = 4294967295;
 
 /// The program with its commands.
 pub(crate) fn command<'a>(alloc: Global) -> Result<Command<'a>, AllocError> {
-    let mut command = with_settings(command_of(alloc, &PROGRAM)?)?;
-    for row in COMMANDS {
-        command = command.subcommand(command_of(alloc, &row)?)?;
+    let program = with_settings(command_of(alloc, &PROGRAM)?)?;
+    let program = with_commands(alloc, program, &REPORTS)?;
+    with_commands(alloc, program, &COMMANDS)
+}
+
+/// Gives the program these commands.
+fn with_commands<'a>(
+    alloc: Global,
+    program: Command<'a>,
+    rows: &[CommandRow<'a>],
+) -> Result<Command<'a>, AllocError> {
+    let mut program = program;
+    for row in rows {
+        program = program.subcommand(command_of(alloc, row)?)?;
     }
-    Ok(command)
+    Ok(program)
 }
 
 /// Gives the program its version and its name, and says that a command has to follow.

@@ -9,6 +9,7 @@
 mod command_line;
 mod commands;
 mod options;
+mod reports;
 mod requests;
 mod steps;
 mod table;
