@@ -18,7 +18,7 @@ IsRouteAlerts Occurs c route found =
     (found.path ≡ route.0) × (found.receiver ≡ receiver_of route.1)
     × IsEnds Occurs c route.0 found.ends
 
--- Whether a receiver is asked about: it is one of those that are given, or none are given.
+-- Whether a receiver is asked about: it is one of those that are given. `None` stands for all.
 abbrev pub is_asked : Option (List ℕ) → ℕ → Bool
 is_asked None receiver = true
 is_asked (Some receivers) receiver = list_any (λ other. other == receiver) receivers

@@ -26,9 +26,9 @@ pub struct RouteAlerts<'a> {
     pub ends: Option<EndMatchers<'a>>,
 }
 
-/// Finds which label sets of a space end at each route of a configuration, in preorder. If some
+/// Finds which label sets of a space end at each route of a configuration, in preorder. If
 /// receivers are given, by their positions, only the routes that have one of them are looked at.
-/// Fails only if memory runs out.
+/// `None` stands for all receivers. Fails only if memory runs out.
 pub fn alerts_of_routes<'a>(
     alloc: Global,
     space: &Space,

@@ -56,6 +56,7 @@ fn first_position(universe: &Universe, found: &PositionBox, label: usize) -> Opt
     None
 }
 
+/// Makes the hint of a position of a label. Fails only if memory runs out.
 fn hint_at(
     alloc: Global,
     universe: &Universe,

@@ -20,8 +20,8 @@ use std::alloc::{AllocError, Global};
 ///
 /// The literals before the position must be named. A possible choice meets the named literals
 /// exactly if it met those that were named before, and some possible choice fails each of those
-/// that are left behind the position and meets the others. Fails only if memory runs out; then any
-/// of the literals may have lost their names.
+/// that are left behind the position and meets the others. Hints change only how long it takes.
+/// Fails only if memory runs out; then any of the literals may have lost their names.
 pub(crate) fn leave_out_implied(
     alloc: Global,
     possible: &PossibleChoices,
