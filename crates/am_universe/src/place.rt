@@ -16,6 +16,8 @@ pub enum Place {
     Silences,
     /// The file of firing alerts.
     Alerts,
+    /// The file of alerting rules.
+    Rules,
     /// The instant that is asked about.
     Instant,
     /// The question.
@@ -42,6 +44,7 @@ impl Place {
             Place::New => "new",
             Place::Silences => "silences",
             Place::Alerts => "alerts",
+            Place::Rules => "rules",
             Place::Instant => "instant",
             Place::Question => "question",
             Place::Set => "set",
