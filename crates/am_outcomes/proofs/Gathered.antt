@@ -26,7 +26,7 @@ use Rattle.am_labels.specs.Space.{Space, all_choices}
 use Rattle.am_labels.proofs.SpaceLaws.{space_choices, space_choices_sorted}
 use Rattle.am_search.specs.Start.{comes_before}
 use Rattle.am_search.proofs.ChoiceOrder.{Ascends, above_first, ascends_rest, not_itself, not_back}
-use Rattle.am_outcomes.specs.Configurations.{Configurations, each_of}
+use Rattle.am_outcomes.specs.Configurations.{Configurations, tried_of}
 use Rattle.am_outcomes.specs.Outcomes.{same_outcome, with_first, with_outcome, outcome_of, outcomes_of}
 use Rattle.am_outcomes.specs.OutcomesView.{lists_view, entry_view}
 use Rattle.am_outcomes.specs.FirstsOfWays.{AreFirstsOfWays}
@@ -240,7 +240,7 @@ module _ (s : Space) (k : Configurations) where
         ]
   ]
 
-  pub outcomes_are : (firsts : List (List ℕ)) → AreFirstsOfWays s (each_of k) firsts
+  pub outcomes_are : (firsts : List (List ℕ)) → AreFirstsOfWays s (tried_of k) firsts
       → IsSortedBy comes_before firsts → outcomes_after [] firsts ≡ outcomes_of s k
   outcomes_are firsts are up =
       sym (same_outcomes (all_choices s) firsts []

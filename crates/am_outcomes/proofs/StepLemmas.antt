@@ -1,23 +1,24 @@
--- The steps of routes, one route more.
+-- The steps of routes and silences, one more.
 use Rattle.std.proofs.Common.{◌≡◌, ◌⊎◌, ℕ, zero, suc, ◌+◌, ◌<◌, ◌≤◌, Bool, true, false, cond}
 use Rattle.std.proofs.Common.{◌-◌, List, [], ◌∷◌, ◌++◌, length, map, drop, get_or, slice_get, Some}
-use Rattle.std.proofs.Common.{append_assoc, append-nil, refl, ap, sym, subst, inl, inr, arith}
+use Rattle.std.proofs.Common.{append_assoc, append-nil, refl, ap, sym, ◌∙◌, subst, inl, inr, arith}
 use Rattle.std.specs.Prelude.{not, ◌&&◌}
 use Rattle.std.proofs.lemmas.List.{length_push, drop_more}
 use Rattle.std.proofs.lemmas.Option.{same_Some}
 use Rattle.am_universe.specs.Universe.{Label, sizes}
 use Rattle.am_universe.specs.Choice.{IsWhole}
 use Rattle.am_universe.specs.LabelSet.{label_set_of}
-use Rattle.am_labels.specs.Matcher.{all_hold}
+use Rattle.am_labels.specs.Matcher.{Matcher, all_hold}
 use Rattle.am_config.specs.ConfigFile.{Configuration, RouteTree, Routes, route, routes_of}
 use Rattle.am_config.specs.ConfigFile.{continues_of, children_of, matchers_of}
 use Rattle.am_config.specs.ConfigFile.{route_count, routes_count}
 use Rattle.am_judged_lists.specs.Cube.{matches, IsCubeOf}
 use Rattle.am_first_sets.proofs.CubeTruth.{matches_where}
 use Rattle.am_eval.specs.Routing.{is_last}
-use Rattle.am_outcomes.specs.declared.route_steps.RouteStep.{RouteStep}
-use Rattle.am_outcomes.specs.RouteSteps.{AreSteps, GoesFrom, GoesThrough, GoesPast, step_after}
-use Rattle.am_outcomes.specs.Ways.{way_at, child_way, way}
+use Rattle.am_outcomes.specs.Configurations.{Tried}
+use Rattle.am_outcomes.specs.declared.steps.Step.{Step}
+use Rattle.am_outcomes.specs.Steps.{AreSteps, GoesFrom, GoesThrough, GoesPast, step_after}
+use Rattle.am_outcomes.specs.Ways.{way_at, child_way, routes_way, list_way, way}
 
 -- ---- The item at a position of a longer list.
 
@@ -55,7 +56,7 @@ next_from_behind view xs i x within is =
 
 -- ---- More steps.
 
-goes_longer : (steps more : List RouteStep) (next : ℕ) (c : List ℕ) (w : List Bool)
+goes_longer : (steps more : List Step) (next : ℕ) (c : List ℕ) (w : List Bool)
     → GoesFrom steps next c w → GoesFrom (steps ++ more) next c w
 goes_longer steps more next c [] goes = goes
 goes_longer steps more next c (b ∷ w) (k, step, is, at, says, goes) = (
@@ -67,12 +68,12 @@ goes_longer steps more next c (b ∷ w) (k, step, is, at, says, goes) = (
   goes_longer steps more (step_after step b) c w goes,
 )
 
-pub steps_pushed : (steps : List RouteStep) (one : RouteStep) → AreSteps steps
+pub steps_pushed : (steps : List Step) (one : Step) → AreSteps steps
     → one.matched ≤ length steps → one.unmatched ≤ length steps → AreSteps (steps ++ one ∷ [])
 steps_pushed steps one are matched unmatched k step at = elim (got_before steps one k step at) [
   | inl there ↦ are k step there
   | inr last ↦
-      subst (λ (x : RouteStep). (x.matched ≤ k) × (x.unmatched ≤ k)) last.1
+      subst (λ (x : Step). (x.matched ≤ k) × (x.unmatched ≤ k)) last.1
       (omega (arith, matched, last.0), omega (arith, unmatched, last.0))
 ]
 
@@ -85,15 +86,50 @@ either_way : (s w : List Bool) (last : Bool) → s ++ cond last w w ≡ s ++ w
 either_way s w true = refl
 either_way s w false = refl
 
-pub through_more : (u : List Label) (steps new : List RouteStep) (first after : ℕ)
-    (config : Configuration) (later : List Configuration) → GoesThrough u later steps first
+-- one configuration more is tried before all else
+abbrev pub tried_first : Configuration → Tried → Tried
+tried_first config later = record {
+  configurations = config ∷ later.configurations;
+  lists = later.lists;
+}
+
+pub through_more : (u : List Label) (steps new : List Step) (first after : ℕ)
+    (config : Configuration) (later : Tried) → GoesThrough u later steps first
     → GoesPast u config.root steps first first new after
-    → GoesThrough u (config ∷ later) new after
+    → GoesThrough u (tried_first config later) new after
 through_more u steps new first after config later so_far one c whole =
     let s = label_set_of u c in
     let w = way s later in
-    subst (GoesFrom new after c) (either_way (way_at s config.root) w (is_last s config.root))
+    subst (GoesFrom new after c)
+    (either_way (way_at s config.root) w (is_last s config.root)
+    ∙ sym (append_assoc (way_at s config.root) (routes_way s later.configurations)
+    (list_way s later.lists)))
     (one c whole w w (so_far c whole) (so_far c whole))
+
+-- ---- Silence by silence, the last one first.
+
+-- only lists of matchers are tried
+abbrev pub only_lists : List (List Matcher) → Tried
+only_lists lists = record { configurations = []; lists = lists }
+
+pub list_pushed : (u : List Label) (ms : List Matcher) (lists : List (List Matcher))
+    (steps : List Step) (one : Step) → IsCubeOf u ms one.cube → one.matched ≡ 0
+    → one.unmatched ≡ length steps → GoesThrough u (only_lists lists) steps (length steps)
+    → GoesThrough u (only_lists (ms ∷ lists)) (steps ++ one ∷ []) (length (steps ++ one ∷ []))
+list_pushed u ms lists steps one cube ends next so_far c whole =
+    let s = label_set_of u c in (
+      length steps,
+      one,
+      length_push steps one,
+      got_last steps one,
+      matches_where u c whole ms one.cube (cube c whole.0),
+      rest (all_hold s ms) (list_way s lists) (rw next (so_far c whole)),
+    )
+  where
+    rest : (m : Bool) (later : List Bool) → GoesFrom steps one.unmatched c later
+        → GoesFrom (steps ++ one ∷ []) (step_after one m) c (cond m [] later)
+    rest true later goes = ends
+    rest false later goes = goes_longer steps (one ∷ []) one.unmatched c later goes
 
 -- ---- Child by child, the last one first.
 
@@ -102,7 +138,7 @@ count_down (route settings children) = omega arith
 
 -- from a step on, a choice goes its way through some children, and then what is behind
 abbrev pub GoesBelow :
-    List Label → List RouteTree → List RouteStep → ℕ → List RouteStep → ℕ → Type 0
+    List Label → List RouteTree → List Step → ℕ → List Step → ℕ → Type 0
 GoesBelow u ts old behind steps first =
     (c : List ℕ) → IsWhole (sizes u) c → (rest : List Bool) → GoesFrom old behind c rest
     → GoesFrom steps first c (child_way (label_set_of u c) (routes_of ts) ++ rest)
@@ -113,7 +149,7 @@ child_goes s below rest true = ap (λ l. l ++ rest) (sym (append-nil s))
 child_goes s below rest false = sym (append_assoc s below rest)
 
 pub below_more : (u : List Label) (t : RouteTree) (ts : List RouteTree)
-    (old steps more new : List RouteStep) (behind first after : ℕ) → steps ≡ old ++ more
+    (old steps more new : List Step) (behind first after : ℕ) → steps ≡ old ++ more
     → GoesBelow u ts old behind steps first → GoesPast u t steps first behind new after
     → GoesBelow u (t ∷ ts) old behind new after
 below_more u t ts old steps more new behind first after longer so_far one c whole rest goes =
@@ -126,7 +162,7 @@ below_more u t ts old steps more new behind first after longer so_far one c whol
 -- ---- A route with all its children.
 
 -- from the step of a route on, behind those of its children
-by_step : (steps : List RouteStep) (one : RouteStep) (c : List ℕ) (m continues : Bool)
+by_step : (steps : List Step) (one : Step) (c : List ℕ) (m continues : Bool)
     (below later last : List Bool) → matches one.cube c ≡ m
     → GoesFrom steps one.matched c (below ++ cond continues later last)
     → GoesFrom steps one.unmatched c later
@@ -146,7 +182,7 @@ by_step steps one c m continues below later last says goes past =
     rest true false g = longer one.matched (below ++ last) g
     rest false continues g = longer one.unmatched later past
 
-by_continue : (continues : Bool) (old : List RouteStep) (next end : ℕ) (c : List ℕ)
+by_continue : (continues : Bool) (old : List Step) (next end : ℕ) (c : List ℕ)
     (later last : List Bool) → GoesFrom old next c later → GoesFrom old end c last
     → GoesFrom old (cond continues next end) c (cond continues later last)
 by_continue true old next end c later last goes_next goes_end = goes_next
@@ -154,7 +190,7 @@ by_continue false old next end c later last goes_next goes_end = goes_end
 
 -- the step of a route is added behind those of its children
 pub route_pushed : (u : List Label) (t : RouteTree) (ts : List RouteTree)
-    (old steps more : List RouteStep) (one : RouteStep) (behind next end : ℕ)
+    (old steps more : List Step) (one : Step) (behind next end : ℕ)
     → IsCubeOf u (matchers_of t) one.cube → routes_of ts ≡ children_of t → one.unmatched ≡ next
     → steps ≡ old ++ more → behind ≡ cond (continues_of t) next end
     → GoesBelow u ts old behind steps one.matched

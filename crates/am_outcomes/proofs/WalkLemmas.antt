@@ -11,14 +11,14 @@ use Rattle.std.proofs.lemmas.List.Sums.{sum_by-cons}
 use Rattle.std.proofs.lemmas.Grind.{common_steps}
 use Rattle.std.proofs.lemmas.Option.{same_Some, slice_get_within}
 use Rattle.am_labels.specs.Space.{Space, IsChoiceOf}
-use Rattle.am_config.specs.ConfigFile.{Configuration}
 use Rattle.am_judged_lists.specs.Cube.{MaskedLabels, matches}
 use Rattle.am_judged_lists.specs.Boxes.{IsInBox}
 use Rattle.am_first_sets.specs.Solving.{avoids}
 use Rattle.am_first_sets.specs.Meeting.{all_match, meets_cubes}
-use Rattle.am_outcomes.specs.declared.route_steps.RouteStep.{RouteStep}
+use Rattle.am_outcomes.specs.Configurations.{Tried}
+use Rattle.am_outcomes.specs.declared.steps.Step.{Step}
 use Rattle.am_outcomes.specs.declared.walks.Walk.{Walk}
-use Rattle.am_outcomes.specs.RouteSteps.{AreSteps, GoesFrom, step_after}
+use Rattle.am_outcomes.specs.Steps.{AreSteps, GoesFrom, step_after}
 use Rattle.am_outcomes.specs.Walks.{is_on, IsWalk, AreBranches}
 use Rattle.am_outcomes.specs.Ways.{way_of}
 
@@ -81,19 +81,19 @@ is_itself : (b : Bool) → is_as b b ≡ true
 is_itself true = refl
 is_itself false = refl
 
-module _ (s : Space) (cs : List Configuration) (steps : List RouteStep) (walk : Walk)
-    (k : ℕ) (step : RouteStep) (is : IsWalk s cs steps walk) (next : walk.next ≡ k + 1)
+module _ (s : Space) (t : Tried) (steps : List Step) (walk : Walk)
+    (k : ℕ) (step : Step) (is : IsWalk s t steps walk) (next : walk.next ≡ k + 1)
     (at : slice_get steps k ≡ Some step) (are : AreSteps steps) where
-  -- at the next step of a walk, its choices match the route or do not
+  -- at the next step of a walk, the cube of the step matches its choices or does not
   record IsDecided (c : List ℕ) : Type 0 where
     pub rest : List Bool
-    pub way : way_of s cs c ≡ is.begun ++ matches step.cube c ∷ rest
+    pub way : way_of s t c ≡ is.begun ++ matches step.cube c ∷ rest
     pub goes : GoesFrom steps (step_after step (matches step.cube c)) c rest
 
   decided : (c : List ℕ) → IsChoiceOf s c → is_on c walk ≡ true → IsDecided c
   decided c choice on = let told = is.goes c choice on in by told.0 told.1 told.2
     where
-      by : (rest : List Bool) → way_of s cs c ≡ is.begun ++ rest
+      by : (rest : List Bool) → way_of s t c ≡ is.begun ++ rest
           → GoesFrom steps walk.next c rest → IsDecided c
       by [] way goes = absurd (omega (arith, goes, next))
       by (b ∷ rest) way (j, one, here, there, says, goes) =
@@ -101,14 +101,14 @@ module _ (s : Space) (cs : List Configuration) (steps : List RouteStep) (walk : 
           let equal : one ≡ step =
           same_Some one step (sym there ∙ ap (slice_get steps) same ∙ at) in
           let matched : b ≡ matches step.cube c =
-          sym says ∙ ap (λ (x : RouteStep). matches x.cube c) equal in
+          sym says ∙ ap (λ (x : Step). matches x.cube c) equal in
           record {
             rest = rest;
             way = way ∙ ap (λ m. is.begun ++ m ∷ rest) matched;
             goes = subst (λ (n : ℕ). GoesFrom steps n c rest) (λ i. step_after (equal i) (matched i)) goes;
           }
 
-  -- The choices of a branch are those of the walk that match the route, or those that do not.
+  -- The choices of a branch are those of the walk that the cube matches, or those that it does not.
   pub record IsBranch (b : Bool) (branch : Walk) : Type 0 where
     pub to : branch.next ≡ step_after step b
     pub same : (c : List ℕ) → IsChoiceOf s c
@@ -130,7 +130,7 @@ module _ (s : Space) (cs : List Configuration) (steps : List RouteStep) (walk : 
   is_nearer : (b : Bool) (branch : Walk) → IsBranch b branch → branch.next < walk.next
   is_nearer b branch it = omega (arith, nearer_if b, it.to, next)
 
-  is_walk : (b : Bool) (branch : Walk) → IsBranch b branch → IsWalk s cs steps branch
+  is_walk : (b : Bool) (branch : Walk) → IsBranch b branch → IsWalk s t steps branch
   is_walk b branch it = record {
     near = omega (arith, nearer_if b, it.to, slice_get_within steps k step at);
     within = it.within;
@@ -169,7 +169,7 @@ module _ (s : Space) (cs : List Configuration) (steps : List RouteStep) (walk : 
   ]
 
   pub one_branch : (b : Bool) (branch : Walk) → AllAre b → IsBranch b branch
-      → AreBranches s cs steps walk (branch ∷ [])
+      → AreBranches s t steps walk (branch ∷ [])
   one_branch b branch each it = record {
     each = (is_walk b branch it, tt);
     nearer = (is_nearer b branch it, tt);
@@ -181,7 +181,7 @@ module _ (s : Space) (cs : List Configuration) (steps : List RouteStep) (walk : 
   -- the walk goes on as it is
   pub whole_branch : (b : Bool) (branch : Walk) → AllAre b → branch.next ≡ step_after step b
       → ((c : List ℕ) → is_on c branch ≡ is_on c walk) → branch.within ≡ walk.within
-      → AreBranches s cs steps walk (branch ∷ [])
+      → AreBranches s t steps walk (branch ∷ [])
   whole_branch b branch each to same box = one_branch b branch each (record {
     to = to;
     same = λ c choice. same c ∙ all_on b each c choice;
@@ -200,7 +200,7 @@ module _ (s : Space) (cs : List Configuration) (steps : List RouteStep) (walk : 
   on_either false matched = omega arith
 
   pub both_branches : (matched unmatched : Walk) → IsBranch true matched
-      → IsBranch false unmatched → AreBranches s cs steps walk (matched ∷ unmatched ∷ [])
+      → IsBranch false unmatched → AreBranches s t steps walk (matched ∷ unmatched ∷ [])
   both_branches matched unmatched one other = record {
     each = (is_walk true matched one, (is_walk false unmatched other, tt));
     nearer = (is_nearer true matched one, (is_nearer false unmatched other, tt));
@@ -264,7 +264,7 @@ module _ (s : Space) (cs : List Configuration) (steps : List RouteStep) (walk : 
               (ap (λ m. matches m c) same ∙ as_it_must false (matches step.cube c) parts.1);
         }
 
-    -- no choice of the walk matches the route, or each does
+    -- the cube matches no choice of the walk, or each
     pub none_matched : ((c : List ℕ) → IsChoiceOf s c
         → meets_cubes (walk.wanted.items ++ cube ∷ []) walk.unwanted.items c ≡ false)
         → AllAre false

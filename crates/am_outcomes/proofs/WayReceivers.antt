@@ -1,26 +1,27 @@
 -- Alerts that go the same way have the same outcome.
 use Rattle.std.proofs.Common.{◌≡◌, ℕ, ◌+◌, Bool, true, false, cond, List, [], ◌∷◌, ◌++◌, map}
 use Rattle.std.proofs.Common.{append_assoc, refl, ap, sym, ◌∙◌}
-use Rattle.std.specs.Prelude.{not, ◌&&◌}
+use Rattle.std.specs.Prelude.{not, ◌&&◌, ◌||◌}
 use Rattle.std.specs.List.{AllByRecursion, filter_map, flat_map}
 use Rattle.am_universe.specs.LabelSet.{LabelMap}
-use Rattle.am_labels.specs.Matcher.{all_hold}
+use Rattle.am_labels.specs.Matcher.{Matcher, all_hold}
 use Rattle.am_config.specs.ConfigFile.{Configuration, RouteTree, Routes, route, no_routes}
 use Rattle.am_config.specs.ConfigFile.{next_route, matchers_of, continues_of, options_of}
 use Rattle.am_config.specs.Path.{route_at}
 use Rattle.am_eval.specs.Routing.{Child, ends_at, children_seen, ends_tried, tried, or_own_path}
 use Rattle.am_eval.specs.Routing.{is_last, receiver_at, ends}
 use Rattle.am_differences.specs.Options.{differing_options}
-use Rattle.am_outcomes.specs.Configurations.{Configurations, One, Pair, each_of}
+use Rattle.am_outcomes.specs.Configurations.{Configurations, One, Pair, Silenced, tried_of}
+use Rattle.am_outcomes.specs.Configurations.{matchers_of_each}
 use Rattle.am_outcomes.specs.Handling.{route_pairs}
-use Rattle.am_outcomes.specs.Outcomes.{outcome_of}
-use Rattle.am_outcomes.specs.Ways.{way_at, child_way, way}
+use Rattle.am_outcomes.specs.Outcomes.{is_silenced_by, outcome_of}
+use Rattle.am_outcomes.specs.Ways.{way_at, child_way, routes_way, list_way, way}
 
 -- the ends at the children behind one, which may be the last that is tried
 abbrev ends_behind : Bool → List Child → List (List ℕ)
 ends_behind last cs = flat_map (λ c. c.ends) (cond last [] (tried cs))
 
--- the outcome by the ends
+-- the outcome by the ends, and by whether the alert is silenced
 abbrev one_outcome : Configuration → List (List ℕ) → List (List ℕ)
 one_outcome c paths = filter_map (receiver_at c) paths ∷ []
 
@@ -32,6 +33,10 @@ two_outcomes old new before after =
     (route_pairs old new (filter_map (route_at old.root) before)
     (filter_map (route_at new.root) after)))
     ∷ []
+
+abbrev silenced_outcome : Configuration → List (List ℕ) → Bool → List (List ℕ)
+silenced_outcome c paths silenced =
+    filter_map (receiver_at c) paths ∷ cond silenced (0 ∷ []) [] ∷ []
 
 module _ (s z : LabelMap) where
   -- the route is matched by both or by neither, what follows its way is the same, and so are its
@@ -93,14 +98,41 @@ module _ (s z : LabelMap) where
   abbrev HaveSameEnds : List Configuration → Type 0
   HaveSameEnds cs = AllByRecursion (λ c. ends s c ≡ ends z c) cs
 
-  same_ends : (cs : List Configuration) → way s cs ≡ way z cs → HaveSameEnds cs
-  same_ends [] e = tt
-  same_ends (c ∷ cs) e =
-      let one = same_at c.root (way s cs) (way z cs) e in (one.2, same_ends cs one.1)
+  -- and so is what follows the ways through them
+  same_ends : (cs : List Configuration) (x y : List Bool)
+      → routes_way s cs ++ x ≡ routes_way z cs ++ y → HaveSameEnds cs × (x ≡ y)
+  same_ends [] x y e = (tt, e)
+  same_ends (c ∷ cs) x y e =
+      let one = same_at c.root (routes_way s cs ++ x) (routes_way z cs ++ y)
+      (sym (append_assoc (way_at s c.root) (routes_way s cs) x) ∙ e
+      ∙ append_assoc (way_at z c.root) (routes_way z cs) y) in
+      let later = same_ends cs x y one.1 in ((one.2, later.0), later.1)
 
-  pub same_on_way : (k : Configurations) → way s (each_of k) ≡ way z (each_of k)
+  -- some silence matches both, or none matches either
+  one_list : (a b c d : Bool) (x y : List Bool) → (x ≡ y → c ≡ d)
+      → a ∷ cond a [] x ≡ b ∷ cond b [] y → (a || c) ≡ (b || d)
+  one_list true true c d x y later e = refl
+  one_list false false c d x y later e = let rest : x ≡ y = cc in later rest
+  one_list true false c d x y later e = absurd cc
+  one_list false true c d x y later e = absurd cc
+
+  same_silenced : (silences : List (ℕ × List Matcher))
+      → list_way s (matchers_of_each silences) ≡ list_way z (matchers_of_each silences)
+      → is_silenced_by s silences ≡ is_silenced_by z silences
+  same_silenced [] e = refl
+  same_silenced (silence ∷ silences) e =
+      one_list (all_hold s silence.1) (all_hold z silence.1) (is_silenced_by s silences)
+      (is_silenced_by z silences) (list_way s (matchers_of_each silences))
+      (list_way z (matchers_of_each silences)) (same_silenced silences) e
+
+  pub same_on_way : (k : Configurations) → way s (tried_of k) ≡ way z (tried_of k)
       → outcome_of k s ≡ outcome_of k z
-  same_on_way (One c) e = ap (one_outcome c) (same_ends (c ∷ []) e).0
+  same_on_way (One c) e = ap (one_outcome c) (same_ends (c ∷ []) [] [] e).0.0
   same_on_way (Pair old new) e =
-      let same = same_ends (old ∷ new ∷ []) e in
+      let same = (same_ends (old ∷ new ∷ []) [] [] e).0 in
       λ j. two_outcomes old new (same.0 j) (same.1.0 j)
+  same_on_way (Silenced c silences) e =
+      let same = same_ends (c ∷ []) (list_way s (matchers_of_each silences))
+      (list_way z (matchers_of_each silences)) e in
+      let silenced = same_silenced silences same.1 in
+      λ j. silenced_outcome c (same.0.0 j) (silenced j)

@@ -24,18 +24,18 @@ use Rattle.am_universe.proofs.ListLemmas.{IsIn, IsIn-from_Contains, Contains-fro
 use Rattle.am_universe.proofs.ListLemmas.{AllByRecursion-each}
 use Rattle.am_labels.specs.Space.{Space, IsChoiceOf, all_choices}
 use Rattle.am_labels.proofs.SpaceLaws.{space_choices, space_choices_sorted}
-use Rattle.am_config.specs.ConfigFile.{Configuration}
 use Rattle.am_judged_lists.specs.Boxes.{IsInBox}
 use Rattle.am_judged_lists.specs.Cube.{MaskedLabels}
 use Rattle.am_search.specs.Start.{comes_before}
 use Rattle.am_search.proofs.ChoiceOrder.{Ascends, above_first, ascends_rest, not_itself, not_back}
 use Rattle.am_first_sets.specs.Meeting.{meets_cubes}
 use Rattle.am_first_sets.proofs.FirstPossible.{is_found, none_passes}
+use Rattle.am_outcomes.specs.Configurations.{Tried}
 use Rattle.am_outcomes.specs.declared.limits.TheConstants.{MAX_WAYS}
-use Rattle.am_outcomes.specs.declared.route_steps.RouteStep.{RouteStep}
+use Rattle.am_outcomes.specs.declared.steps.Step.{Step}
 use Rattle.am_outcomes.specs.declared.walks.Walk.{Walk}
 use Rattle.am_outcomes.specs.FirstsOfWays.{IsFirstOfWay, AreFirstsOfWays}
-use Rattle.am_outcomes.specs.RouteSteps.{AreSteps, GoesFrom}
+use Rattle.am_outcomes.specs.Steps.{AreSteps, GoesFrom}
 use Rattle.am_outcomes.specs.Walks.{is_on, IsWalk, AreBranches, AddsBranches}
 use Rattle.am_outcomes.specs.Ways.{way_of, HaveDistinctWays, HaveManyWays}
 use Rattle.am_outcomes.proofs.WalkLemmas.{one_if, count_one}
@@ -152,24 +152,24 @@ lighter walks walk branches nearer few =
 
 -- ---- Choices with the same way.
 
-module _ (s : Space) (cs : List Configuration) where
+module _ (s : Space) (t : Tried) where
   abbrev same_way : List ℕ → List ℕ → Bool
-  same_way c x = pointwise beq (way_of s cs x) (way_of s cs c)
+  same_way c x = pointwise beq (way_of s t x) (way_of s t c)
 
   same_decided : (c x : List ℕ)
-      → Decides (same_way c x) (way_of s cs x ≡ way_of s cs c)
-  same_decided c x = pointwise_decides booleans_Decides (way_of s cs x) (way_of s cs c)
+      → Decides (same_way c x) (way_of s t x ≡ way_of s t c)
+  same_decided c x = pointwise_decides booleans_Decides (way_of s t x) (way_of s t c)
 
 -- ---- Walks and what they have found.
 
-module _ (s : Space) (cs : List Configuration) (steps : List RouteStep) where
+module _ (s : Space) (t : Tried) (steps : List Step) where
   -- Each choice of the space is on one of the walks, or has the way of one of those that are found,
   -- and only once.
   pub record AreWalked (walks : List Walk) (firsts : List (List ℕ)) : Type 0 where
-    pub each : AllByRecursion (IsWalk s cs steps) walks
-    pub found : (first : List ℕ) → Contains firsts first → IsFirstOfWay s cs first
+    pub each : AllByRecursion (IsWalk s t steps) walks
+    pub found : (first : List ℕ) → Contains firsts first → IsFirstOfWay s t first
     pub once : (c : List ℕ) → IsChoiceOf s c
-        → count_by (is_on c) walks + count_by (same_way s cs c) firsts ≡ 1
+        → count_by (is_on c) walks + count_by (same_way s t c) firsts ≡ 1
 
   none_there : (x : List ℕ) → Contains [] x → ⊥
   none_there x there = IsIn-from_Contains [] x there
@@ -183,7 +183,7 @@ module _ (s : Space) (cs : List Configuration) (steps : List RouteStep) where
 
   pub started : (walk : Walk) → walk.wanted.items ≡ [] → walk.unwanted.items ≡ []
       → walk.next ≤ length steps → ((c : List ℕ) → IsChoiceOf s c → IsInBox walk.within c)
-      → ((c : List ℕ) → IsChoiceOf s c → GoesFrom steps walk.next c (way_of s cs c))
+      → ((c : List ℕ) → IsChoiceOf s c → GoesFrom steps walk.next c (way_of s t c))
       → AreWalked (walk ∷ []) []
   started walk none_wanted none_unwanted near inside goes =
       let on : (c : List ℕ) → is_on c walk ≡ true =
@@ -194,7 +194,7 @@ module _ (s : Space) (cs : List Configuration) (steps : List RouteStep) where
             near = near;
             within = λ c choice is. inside c choice;
             begun = [];
-            goes = λ c choice is. (way_of s cs c, refl, goes c choice);
+            goes = λ c choice is. (way_of s t c, refl, goes c choice);
             all = λ c choice rest way. on c;
           },
           tt,
@@ -206,11 +206,11 @@ module _ (s : Space) (cs : List Configuration) (steps : List RouteStep) where
       }
 
   pub branched : (walks : List Walk) (walk : Walk) (branches : List Walk) (firsts : List (List ℕ))
-      → AreWalked (walks ++ walk ∷ []) firsts → AreBranches s cs steps walk branches
+      → AreWalked (walks ++ walk ∷ []) firsts → AreBranches s t steps walk branches
       → AreWalked (walks ++ branches) firsts
   branched walks walk branches firsts so_far are = record {
-    each = all_joined (IsWalk s cs steps) walks branches
-        (all_pushed (IsWalk s cs steps) walks walk so_far.each).0 are.each;
+    each = all_joined (IsWalk s t steps) walks branches
+        (all_pushed (IsWalk s t steps) walks walk so_far.each).0 are.each;
     found = so_far.found;
     once = λ c choice.
         let before = counted_both (is_on c) walks (walk ∷ []) in
@@ -222,8 +222,8 @@ module _ (s : Space) (cs : List Configuration) (steps : List RouteStep) where
   }
 
   pub last_walk : (walks : List Walk) (walk : Walk) (firsts : List (List ℕ))
-      → AreWalked (walks ++ walk ∷ []) firsts → IsWalk s cs steps walk
-  last_walk walks walk firsts so_far = (all_pushed (IsWalk s cs steps) walks walk so_far.each).1
+      → AreWalked (walks ++ walk ∷ []) firsts → IsWalk s t steps walk
+  last_walk walks walk firsts so_far = (all_pushed (IsWalk s t steps) walks walk so_far.each).1
 
   -- ---- The end of a walk.
 
@@ -232,7 +232,7 @@ module _ (s : Space) (cs : List Configuration) (steps : List RouteStep) where
       → AreWalked (walks ++ walk ∷ []) firsts → None ≡ find (λ c. is_on c walk) (all_choices s)
       → AreWalked walks firsts
   ended_empty walks walk firsts so_far none = record {
-    each = (all_pushed (IsWalk s cs steps) walks walk so_far.each).0;
+    each = (all_pushed (IsWalk s t steps) walks walk so_far.each).0;
     found = so_far.found;
     once = λ c choice.
         let before = counted_both (is_on c) walks (walk ∷ []) in
@@ -248,12 +248,12 @@ module _ (s : Space) (cs : List Configuration) (steps : List RouteStep) where
   no_way_left c begun [] way goes e = e ∙ append-nil begun
   no_way_left c begun (b ∷ rest) way goes e = absurd (omega (arith, goes.2))
 
-  module _ (walk : Walk) (is : IsWalk s cs steps walk) (at_end : walk.next ≡ 0) (x : List ℕ)
+  module _ (walk : Walk) (is : IsWalk s t steps walk) (at_end : walk.next ≡ 0) (x : List ℕ)
       (first : Some x ≡ find (λ c. is_on c walk) (all_choices s)) where
-    its_way : (c : List ℕ) → IsChoiceOf s c → is_on c walk ≡ true → way_of s cs c ≡ is.begun
+    its_way : (c : List ℕ) → IsChoiceOf s c → is_on c walk ≡ true → way_of s t c ≡ is.begun
     its_way c choice on =
         let told = is.goes c choice on in
-        no_way_left c is.begun told.0 (way_of s cs c)
+        no_way_left c is.begun told.0 (way_of s t c)
         (subst (λ (n : ℕ). GoesFrom steps n c told.0) at_end told.2) told.1
 
     found_there : IsChoiceOf s x × (is_on x walk ≡ true)
@@ -261,21 +261,21 @@ module _ (s : Space) (cs : List Configuration) (steps : List RouteStep) where
         let r = is_found (λ c. is_on c walk) (all_choices s) x (sym first) in
         ((space_choices s x).0 (Contains-from_IsIn (all_choices s) x r.0), r.1)
 
-    on_if_same : (c : List ℕ) → IsChoiceOf s c → way_of s cs x ≡ way_of s cs c
+    on_if_same : (c : List ℕ) → IsChoiceOf s c → way_of s t x ≡ way_of s t c
         → is_on c walk ≡ true
     on_if_same c choice same =
         is.all c choice []
         (sym same ∙ its_way x found_there.0 found_there.1 ∙ sym (append-nil is.begun))
 
-    on_exactly : (c : List ℕ) → IsChoiceOf s c → same_way s cs c x ≡ is_on c walk
+    on_exactly : (c : List ℕ) → IsChoiceOf s c → same_way s t c x ≡ is_on c walk
     on_exactly c choice =
-        same_from_decides (same_way s cs c x) (is_on c walk)
-        (same_decided s cs c x) (
+        same_from_decides (same_way s t c x) (is_on c walk)
+        (same_decided s t c x) (
           λ on. its_way x found_there.0 found_there.1 ∙ sym (its_way c choice on),
           on_if_same c choice,
         )
 
-    is_first : IsFirstOfWay s cs x
+    is_first : IsFirstOfWay s t x
     is_first = record {
       choice = found_there.0;
       before = λ c choice same.
@@ -288,19 +288,19 @@ module _ (s : Space) (cs : List Configuration) (steps : List RouteStep) where
     pub ended : (walks : List Walk) (firsts : List (List ℕ))
         → AreWalked (walks ++ walk ∷ []) firsts → AreWalked walks (firsts ++ x ∷ [])
     ended walks firsts so_far = record {
-      each = (all_pushed (IsWalk s cs steps) walks walk so_far.each).0;
+      each = (all_pushed (IsWalk s t steps) walks walk so_far.each).0;
       found = λ y there. elim (IsIn-split firsts (x ∷ []) y
           (IsIn-from_Contains (firsts ++ x ∷ []) y there)) [
             | inl old ↦ so_far.found y (Contains-from_IsIn firsts y old)
-            | inr (inl new) ↦ subst (IsFirstOfWay s cs) new is_first
+            | inr (inl new) ↦ subst (IsFirstOfWay s t) new is_first
             | inr (inr none) ↦ absurd none
           ];
       once = λ c choice.
           let before = counted_both (is_on c) walks (walk ∷ []) in
           let one = count_one (is_on c) walk in
-          let more = counted_both (same_way s cs c) firsts (x ∷ []) in
-          let new = count_one (same_way s cs c) x in
-          let same : one_if (same_way s cs c x) ≡ one_if (is_on c walk) =
+          let more = counted_both (same_way s t c) firsts (x ∷ []) in
+          let new = count_one (same_way s t c) x in
+          let same : one_if (same_way s t c x) ≡ one_if (is_on c walk) =
           ap one_if (on_exactly c choice) in
           let was = so_far.once c choice in
           omega (arith, before, one, more, new, same, was);
@@ -313,17 +313,17 @@ module _ (s : Space) (cs : List Configuration) (steps : List RouteStep) where
     apart_from_it : AreWalked (walks ++ walk ∷ []) firsts
     apart_from_it = subst (λ (ws : List Walk). AreWalked ws firsts) taken so_far
 
-    pub taken_walk : IsWalk s cs steps walk
+    pub taken_walk : IsWalk s t steps walk
     taken_walk = last_walk walks walk firsts apart_from_it
 
     -- it goes on with its branches
-    pub gone_on : (new : List Walk) (step : RouteStep) → 0 < walk.next
+    pub gone_on : (new : List Walk) (step : Step) → 0 < walk.next
         → step ≡ get_or steps (walk.next - 1) step → AreSteps steps
         → AddsBranches s walks walk step new → AreWalked new firsts × (weight new < weight old)
     gone_on new step more at are adds =
         let near = taken_walk.near in
         let k = walk.next - 1 in
-        let added = adds cs steps k taken_walk (omega (arith, more))
+        let added = adds t steps k taken_walk (omega (arith, more))
         (slice_get_read steps (length steps) k step refl (omega (arith, more, near)) at) are in (
           subst (λ (ws : List Walk). AreWalked ws firsts) (sym added.1)
               (branched walks walk added.0 firsts apart_from_it added.2),
@@ -350,37 +350,37 @@ module _ (s : Space) (cs : List Configuration) (steps : List RouteStep) where
   -- ---- When no walk is left.
 
   pub all_found : (walks : List Walk) (firsts : List (List ℕ)) → length walks ≡ 0
-      → AreWalked walks firsts → AreFirstsOfWays s cs firsts
+      → AreWalked walks firsts → AreFirstsOfWays s t firsts
   all_found walks firsts none so_far = record {
     each = so_far.found;
     all = λ c choice.
         let once = so_far.once c choice in
         let off = count_by-le-length (is_on c) walks in
-        let r = one_counted (same_way s cs c) firsts (omega (arith, once, off, none)) in
-        (r.0, Contains-from_IsIn firsts r.0 r.1, (same_decided s cs c r.0).0 r.2);
+        let r = one_counted (same_way s t c) firsts (omega (arith, once, off, none)) in
+        (r.0, Contains-from_IsIn firsts r.0 r.1, (same_decided s t c r.0).0 r.2);
   }
 
   -- ---- Too many ways.
 
   distinct : (firsts : List (List ℕ))
-      → ((c : List ℕ) → IsIn firsts c → count_by (same_way s cs c) firsts ≤ 1)
-      → HaveDistinctWays s cs firsts
+      → ((c : List ℕ) → IsIn firsts c → count_by (same_way s t c) firsts ≤ 1)
+      → HaveDistinctWays s t firsts
   distinct [] at_most = tt
   distinct (x ∷ firsts) at_most = (
-    AllByRecursion-each (λ y. way_of s cs x ≡ way_of s cs y → ⊥) firsts (λ y i same.
-        let front = counted_front (same_way s cs x) x firsts in
-        let itself : one_if (same_way s cs x x) ≡ 1 =
-        ap one_if ((same_decided s cs x x).1 refl) in
-        let other = some_counted (same_way s cs x) firsts y i ((same_decided s cs x y).1 (sym same)) in
+    AllByRecursion-each (λ y. way_of s t x ≡ way_of s t y → ⊥) firsts (λ y i same.
+        let front = counted_front (same_way s t x) x firsts in
+        let itself : one_if (same_way s t x x) ≡ 1 =
+        ap one_if ((same_decided s t x x).1 refl) in
+        let other = some_counted (same_way s t x) firsts y i ((same_decided s t x y).1 (sym same)) in
         let most = at_most x (inl refl) in
         absurd (omega (arith, front, itself, other, most))),
     distinct firsts (λ c i.
-        let front = counted_front (same_way s cs c) x firsts in
+        let front = counted_front (same_way s t c) x firsts in
         let most = at_most c (inr i) in omega (arith, front, most)),
   )
 
   pub many_ways : (walks : List Walk) (firsts : List (List ℕ)) → AreWalked walks firsts
-      → MAX_WAYS < length firsts → HaveManyWays s cs
+      → MAX_WAYS < length firsts → HaveManyWays s t
   many_ways walks firsts so_far many =
       let choice = λ (c : List ℕ) (i : IsIn firsts c).
       (so_far.found c (Contains-from_IsIn firsts c i)).choice in
@@ -392,11 +392,11 @@ module _ (s : Space) (cs : List Configuration) (steps : List RouteStep) where
         many = many;
       }
 
-module _ (s : Space) (cs : List Configuration) where
+module _ (s : Space) (t : Tried) where
   -- ---- In declared order.
 
-  pub permuted : (xs ys : List (List ℕ)) → IsPermutation xs ys → AreFirstsOfWays s cs xs
-      → AreFirstsOfWays s cs ys
+  pub permuted : (xs ys : List (List ℕ)) → IsPermutation xs ys → AreFirstsOfWays s t xs
+      → AreFirstsOfWays s t ys
   permuted xs ys same are = record {
     each = λ x there. are.each x (Contains-permutation ys xs x (IsPermutation-sym xs ys same) there);
     all = λ c choice.

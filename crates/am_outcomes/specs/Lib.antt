@@ -2,7 +2,7 @@ pub mod Configurations
 pub mod Handling
 pub mod Outcomes
 pub mod Ways
-pub mod RouteSteps
+pub mod Steps
 pub mod Walks
 pub mod FirstsOfWays
 pub mod OutcomeLines

@@ -1,17 +1,27 @@
--- What becomes of the alerts of a space, under one configuration or under two that are compared.
+-- What becomes of the alerts of a space, under one configuration or under two that are compared, or
+-- under one with silences.
 use Rattle.std.specs.Prelude.{ℕ, List, [], ◌∷◌, ◌++◌, map, fold, Bool, if◌then◌else◌}
 use Rattle.std.specs.List.{list_any}
 use lib.Pointwise.{pointwise}
 use Rattle.am_universe.specs.LabelSet.{LabelMap, label_set_of}
 use Rattle.am_universe.specs.Text.{same_text}
+use Rattle.am_labels.specs.Matcher.{Matcher, all_hold}
 use Rattle.am_labels.specs.Space.{Space, all_choices}
 use Rattle.am_eval.specs.Routing.{receivers}
-use Rattle.am_outcomes.specs.Configurations.{Configurations, One, Pair}
+use Rattle.am_outcomes.specs.Configurations.{Configurations, One, Pair, Silenced}
 use Rattle.am_outcomes.specs.Handling.{other_options}
+
+-- An alert is silenced by some active silences: all matchers of one of them match it.
+-- Source: Alertmanager documentation 0.25, "Silences": an alert is checked whether it matches all
+-- the equality or regular expression matchers of an active silence.
+-- Example: without an active silence no alert is silenced.
+abbrev pub is_silenced_by : LabelMap → List (ℕ × List Matcher) → Bool
+is_silenced_by s silences = list_any (λ silence. all_hold s silence.1) silences
 
 -- What becomes of an alert. Under one configuration, it is the list of its receivers, by their
 -- positions. Under two, it is this list under the old one, that under the new one, and the options
--- that differ at ends with receivers of the same name.
+-- that differ at ends with receivers of the same name. With silences, it is the list of its
+-- receivers, and one that has an item exactly if the alert is silenced.
 -- Source: Alertmanager configuration reference 0.25, "<route>".
 -- Example: let there be one configuration. If an alert ends at two routes, and both routes have the
 -- receiver at position 2, it is the one list of 2 and 2.
@@ -19,6 +29,8 @@ abbrev pub outcome_of : Configurations → LabelMap → List (List ℕ)
 outcome_of (One c) s = receivers s c ∷ []
 outcome_of (Pair old new) s =
     receivers s old ∷ receivers s new ∷ other_options old new s ∷ []
+outcome_of (Silenced c silences) s =
+    receivers s c ∷ (if is_silenced_by s silences then 0 ∷ [] else []) ∷ []
 
 -- Outcomes are the same if all their lists are.
 abbrev pub same_outcome : List (List ℕ) → List (List ℕ) → Bool

@@ -1,4 +1,4 @@
--- How outcomes and configurations are kept in memory.
+-- How outcomes, and what is tried, are kept in memory.
 use Rattle.std.specs.Prelude.{ℕ, List, map}
 use Rattle.std.specs.Borrow.{Bor}
 use Rattle.std.specs.Global.{Vec}
@@ -8,14 +8,22 @@ use Rattle.am_config.specs.RouteView.{route_view}
 use Rattle.am_config.specs.declared.config.Config.{Config}
 use Rattle.am_config.specs.declared.route.Route.{Route}
 use Rattle.am_report_texts.specs.ReceiverNames.{receiver_names}
+use Rattle.am_outcomes.specs.Configurations.{Tried, matchers_of_each, silences_view}
+use Rattle.am_outcomes.specs.declared.configs.ActiveSilence.{ActiveSilence}
 use Rattle.am_outcomes.specs.declared.changes.Change.{Change}
 use Rattle.am_outcomes.specs.declared.changes.FoundReceiver.{FoundReceiver}
 use Rattle.am_outcomes.specs.declared.changes.Side.{Side}
 use Rattle.am_outcomes.specs.OutcomeLines.{list_at}
 
--- Some configurations.
+-- Some configurations, and what is tried of them and of some silences.
 abbrev pub configs_view : List (Bor Config) → List Configuration
 configs_view configs = map (λ c. config_view c.now) configs
+
+abbrev pub tried_view : List (Bor Config) → List ActiveSilence → Tried
+tried_view configs silences = record {
+  configurations = configs_view configs;
+  lists = matchers_of_each (silences_view silences);
+}
 
 -- The lists of an outcome.
 abbrev pub lists_view : List (Vec ℕ) → List (List ℕ)

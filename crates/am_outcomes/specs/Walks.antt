@@ -1,14 +1,14 @@
--- Walks through the routes.
+-- Walks through the routes and the silences, from step to step.
 use Rattle.std.specs.Prelude.{◌≡◌, ◌≤◌, ◌<◌, ◌+◌, ℕ, List, ◌++◌, length, Bool, IsTrue}
 use Rattle.std.specs.Prelude.{slice_get, Some, if◌then◌else◌}
 use Rattle.std.specs.List.{AllByRecursion, count_by}
 use Rattle.am_labels.specs.Space.{Space, IsChoiceOf}
-use Rattle.am_config.specs.ConfigFile.{Configuration}
 use Rattle.am_judged_lists.specs.Boxes.{IsInBox}
 use Rattle.am_first_sets.specs.Meeting.{meets_cubes}
-use Rattle.am_outcomes.specs.declared.route_steps.RouteStep.{RouteStep}
+use Rattle.am_outcomes.specs.Configurations.{Tried}
+use Rattle.am_outcomes.specs.declared.steps.Step.{Step}
 use Rattle.am_outcomes.specs.declared.walks.Walk.{Walk}
-use Rattle.am_outcomes.specs.RouteSteps.{AreSteps, GoesFrom}
+use Rattle.am_outcomes.specs.Steps.{AreSteps, GoesFrom}
 use Rattle.am_outcomes.specs.Ways.{way_of}
 
 -- A choice is one of a walk: it matches the wanted cubes and none of the unwanted ones.
@@ -17,29 +17,28 @@ is_on c walk = meets_cubes walk.wanted.items walk.unwanted.items c
 
 -- The choices of a walk are those whose ways begin as the walk did. From its next step on, each
 -- goes the rest of its way. All of them are in the box of the walk.
-pub record IsWalk (s : Space) (cs : List Configuration) (steps : List RouteStep) (walk : Walk) :
-    Type 0 where
+pub record IsWalk (s : Space) (t : Tried) (steps : List Step) (walk : Walk) : Type 0 where
   pub near : walk.next ≤ length steps
   pub within : (c : List ℕ) → IsChoiceOf s c → IsTrue (is_on c walk) → IsInBox walk.within c
   pub begun : List Bool
   pub goes : (c : List ℕ) → IsChoiceOf s c → IsTrue (is_on c walk)
-      → (rest : List Bool) × (way_of s cs c ≡ begun ++ rest) × GoesFrom steps walk.next c rest
+      → (rest : List Bool) × (way_of s t c ≡ begun ++ rest) × GoesFrom steps walk.next c rest
   pub all : (c : List ℕ) → IsChoiceOf s c
-      → (rest : List Bool) → way_of s cs c ≡ begun ++ rest → IsTrue (is_on c walk)
+      → (rest : List Bool) → way_of s t c ≡ begun ++ rest → IsTrue (is_on c walk)
 
 -- A walk is followed by others, at most two, which are nearer to the end: each of its choices is on
 -- one of them, and no other choice is on any.
-pub record AreBranches (s : Space) (cs : List Configuration) (steps : List RouteStep) (walk : Walk)
+pub record AreBranches (s : Space) (t : Tried) (steps : List Step) (walk : Walk)
     (branches : List Walk) : Type 0 where
-  pub each : AllByRecursion (IsWalk s cs steps) branches
+  pub each : AllByRecursion (IsWalk s t steps) branches
   pub nearer : AllByRecursion (λ branch. branch.next < walk.next) branches
   pub at_most : length branches ≤ 2
   pub split : (c : List ℕ) → IsChoiceOf s c
       → count_by (is_on c) branches ≡ (if is_on c walk then 1 else 0)
 
 -- The walks that were there are followed by the branches of one more.
-abbrev pub AddsBranches : Space → List Walk → Walk → RouteStep → List Walk → Type 0
+abbrev pub AddsBranches : Space → List Walk → Walk → Step → List Walk → Type 0
 AddsBranches s old walk step new =
-    (cs : List Configuration) (steps : List RouteStep) (k : ℕ) → IsWalk s cs steps walk
-    → walk.next ≡ k + 1 → slice_get steps k ≡ Some step → AreSteps steps
-    → (branches : List Walk) × (new ≡ old ++ branches) × AreBranches s cs steps walk branches
+    (t : Tried) (steps : List Step) (k : ℕ) → IsWalk s t steps walk → walk.next ≡ k + 1
+    → slice_get steps k ≡ Some step → AreSteps steps
+    → (branches : List Walk) × (new ≡ old ++ branches) × AreBranches s t steps walk branches

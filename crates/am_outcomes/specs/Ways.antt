@@ -1,13 +1,14 @@
--- The way of an alert through the routes: which of those that are tried it matches.
+-- The way of an alert: which of the routes and the lists of matchers that are tried it matches.
 use Rattle.std.specs.Prelude.{◌≢◌, ◌<◌, ℕ, List, [], ◌∷◌, ◌++◌, length, Bool, ⊤}
 use Rattle.std.specs.Prelude.{if◌then◌else◌}
 use Rattle.std.specs.List.{flat_map, AllByRecursion}
 use Rattle.am_universe.specs.LabelSet.{LabelMap, label_set_of}
-use Rattle.am_labels.specs.Matcher.{all_hold}
+use Rattle.am_labels.specs.Matcher.{Matcher, all_hold}
 use Rattle.am_labels.specs.Space.{Space, IsChoiceOf}
 use Rattle.am_config.specs.ConfigFile.{Configuration, RouteTree, Routes, route, no_routes}
 use Rattle.am_config.specs.ConfigFile.{next_route}
 use Rattle.am_eval.specs.Routing.{is_last}
+use Rattle.am_outcomes.specs.Configurations.{Tried}
 use Rattle.am_outcomes.specs.declared.limits.TheConstants.{MAX_WAYS}
 
 -- The way of an alert through some configurations, one after the other: for each route that is
@@ -30,11 +31,26 @@ abbrev mutual
   child_way s (next_route t ts) =
       way_at s t ++ (if is_last s t then [] else child_way s ts)
 
-abbrev pub way : LabelMap → List Configuration → List Bool
-way s cs = flat_map (λ c. way_at s c.root) cs
+abbrev pub routes_way : LabelMap → List Configuration → List Bool
+routes_way s cs = flat_map (λ c. way_at s c.root) cs
 
-abbrev pub way_of : Space → List Configuration → List ℕ → List Bool
-way_of s cs choice = way (label_set_of s.labels choice) cs
+-- The way of an alert through lists of matchers: for each list that is tried, whether the alert
+-- matches it. The lists are tried up to and including the first one that the alert matches.
+-- Source: own choice. It is asked only whether the alert matches some list.
+-- Example: let there be the lists `team="db"`, `team="web"` and `severity="warning"`. For an alert
+-- of the team `web` the way is false and true, whatever its severity.
+abbrev pub list_way : LabelMap → List (List Matcher) → List Bool
+list_way s [] = []
+list_way s (ms ∷ lists) =
+    let matched = all_hold s ms in matched ∷ (if matched then [] else list_way s lists)
+
+-- The way of an alert through all that is tried: the routes of each configuration, one after the
+-- other, and then the lists of matchers.
+abbrev pub way : LabelMap → Tried → List Bool
+way s t = routes_way s t.configurations ++ list_way s t.lists
+
+abbrev pub way_of : Space → Tried → List ℕ → List Bool
+way_of s t choice = way (label_set_of s.labels choice) t
 
 -- Choices have distinct ways if no two of them have the same way. There are many ways if more than
 -- `MAX_WAYS` choices of a space have distinct ways.
@@ -42,14 +58,14 @@ way_of s cs choice = way (label_set_of s.labels choice) cs
 -- Example: let the children of the top-level route have `continue`, and let each of them ask with
 -- `=` about a label of its own, which may have that value or be absent. With 21 of them there are
 -- many ways: the choices have 2,097,152. With 20 there are not.
-abbrev pub HaveDistinctWays : Space → List Configuration → List (List ℕ) → Type 0
-HaveDistinctWays s cs [] = ⊤
-HaveDistinctWays s cs (choice ∷ others) =
-    AllByRecursion (λ other. way_of s cs choice ≢ way_of s cs other) others
-    × HaveDistinctWays s cs others
+abbrev pub HaveDistinctWays : Space → Tried → List (List ℕ) → Type 0
+HaveDistinctWays s t [] = ⊤
+HaveDistinctWays s t (choice ∷ others) =
+    AllByRecursion (λ other. way_of s t choice ≢ way_of s t other) others
+    × HaveDistinctWays s t others
 
-pub record HaveManyWays (s : Space) (cs : List Configuration) : Type 0 where
+pub record HaveManyWays (s : Space) (t : Tried) : Type 0 where
   pub choices : List (List ℕ)
   pub each : AllByRecursion (IsChoiceOf s) choices
-  pub apart : HaveDistinctWays s cs choices
+  pub apart : HaveDistinctWays s t choices
   pub many : MAX_WAYS < length choices

@@ -7,7 +7,7 @@
 ghost use Rattle.std.specs.Prelude.{◌≡◌, ◌<◌, [], Some, length, slice_get, IfOk, IfSome, IfNone};
 ghost use Rattle.std.specs.List.Sorted.{IsSortedBy};
 ghost use Rattle.am_search.specs.Start.{comes_before};
-ghost use Rattle.am_outcomes.specs.Configurations.{configurations_of, each_of};
+ghost use Rattle.am_outcomes.specs.Configurations.{configurations_of, tried_of};
 ghost use Rattle.am_outcomes.specs.OutcomesView.{lists_view};
 ghost use Rattle.am_outcomes.specs.FirstsOfWays.{AreFirstsOfWays};
 ghost use Rattle.am_outcomes.specs.Outcomes.{outcomes_of};
@@ -60,12 +60,14 @@ impl Outcomes {
 }
 
 /// Finds each outcome that some choice of a space has, and the first choice that has it. Returns
-/// `None` if there are more ways through the routes than there is room for. Fails only if memory
-/// runs out.
+/// `None` if there are more ways through the routes and the silences than there is room for. Fails
+/// only if memory runs out.
 ///
 /// Under one configuration, the outcome of a choice is the list of the receivers to which its label
 /// set goes, by their positions. Under two, it is this list under each, and the positions of the
-/// options that differ at ends with receivers of the same name.
+/// options that differ at ends with receivers of the same name. With silences, it is the list of
+/// the receivers, and a second list that has one item if a silence matches the label set, and none
+/// if not.
 pub fn find_outcomes(
     alloc: Global,
     space: &Space,
@@ -74,7 +76,7 @@ pub fn find_outcomes(
     ensures some { IfOk result (λ found. IfSome found (λ outcomes.
         outcomes ≡ outcomes_of space.now (configurations_of configs.entry))) }
     ensures none { IfOk result (λ found. IfNone found
-        (HaveManyWays space.now (each_of (configurations_of configs.entry)))) }
+        (HaveManyWays space.now (tried_of (configurations_of configs.entry)))) }
 {
     match firsts_of_each(alloc, space, configs)? {
         Some(firsts) => Ok(Some(outcomes_in(alloc, space, configs, firsts.as_slice())?)),
@@ -82,23 +84,24 @@ pub fn find_outcomes(
     }
 }
 
-/// Finds the first choice of each way through the routes of the configurations, in declared order,
-/// as [`firsts_of_ways`] does.
+/// Finds the first choice of each way through all that is tried, in declared order, as
+/// [`firsts_of_ways`] does.
 fn firsts_of_each(
     alloc: Global,
     space: &Space,
     configs: Configs<'_>,
 ) -> Result<Option<Vec<Choice>>, AllocError>
     ensures firsts { IfOk result (λ found. IfSome found (λ firsts.
-        AreFirstsOfWays space.now (each_of (configurations_of configs.entry)) firsts.items)) }
+        AreFirstsOfWays space.now (tried_of (configurations_of configs.entry)) firsts.items)) }
     ensures sorted { IfOk result (λ found. IfSome found (λ firsts.
         IsSortedBy comes_before firsts.items)) }
     ensures many { IfOk result (λ found. IfNone found
-        (HaveManyWays space.now (each_of (configurations_of configs.entry)))) }
+        (HaveManyWays space.now (tried_of (configurations_of configs.entry)))) }
 {
     match configs {
-        Configs::One(config) => firsts_of_ways(alloc, space, &[config]),
-        Configs::Pair(old, new) => firsts_of_ways(alloc, space, &[old, new]),
+        Configs::One(config) => firsts_of_ways(alloc, space, &[config], &[]),
+        Configs::Pair(old, new) => firsts_of_ways(alloc, space, &[old, new], &[]),
+        Configs::Silenced(config, silences) => firsts_of_ways(alloc, space, &[config], silences),
     }
 }
 
@@ -110,7 +113,7 @@ fn outcomes_in(
     configs: Configs<'_>,
     choices: &[Choice],
 ) -> Result<Outcomes, AllocError>
-    requires firsts { AreFirstsOfWays space.now (each_of (configurations_of configs)) choices.now }
+    requires firsts { AreFirstsOfWays space.now (tried_of (configurations_of configs)) choices.now }
     requires sorted { IsSortedBy comes_before choices.now }
     ensures { IfOk result (λ outcomes.
         outcomes ≡ outcomes_of space.now (configurations_of configs.entry)) }

@@ -1,17 +1,18 @@
-//! The outcomes of alerts: at which routes they end, and what these do with them.
+//! The outcomes of alerts: at which routes they end, what these do with them, and whether a silence
+//! hides them.
 
-ghost use Rattle.std.specs.Prelude.{◌≡◌, find, map, option_map, IfOk};
+ghost use Rattle.std.specs.Prelude.{◌≡◌, [], ◌∷◌, find, map, option_map, if◌then◌else◌, IfOk};
 ghost use Rattle.am_config.specs.ConfigFile.{receiver_of};
 ghost use Rattle.am_config.specs.ConfigView.{config_view};
 ghost use Rattle.am_config.specs.RouteView.{route_view};
 ghost use Rattle.am_report_texts.specs.ReceiverNames.{receiver_names};
-ghost use Rattle.am_outcomes.specs.Configurations.{configurations_of};
+ghost use Rattle.am_outcomes.specs.Configurations.{configurations_of, silences_view};
 ghost use Rattle.am_outcomes.specs.Handling.{handling_routes, has_receiver, route_pairs};
 ghost use Rattle.am_outcomes.specs.Handling.{same_names, without_first};
-ghost use Rattle.am_outcomes.specs.Outcomes.{outcome_of};
+ghost use Rattle.am_outcomes.specs.Outcomes.{is_silenced_by, outcome_of};
 ghost use Rattle.am_outcomes.specs.OutcomesView.{lists_view, pairs_view, routes_view};
 
-use crate::configs::Configs;
+use crate::configs::{ActiveSilence, Configs};
 use am_config::{Config, Route};
 use am_differences::differing_options;
 use am_eval::{ends, receivers_of};
@@ -40,7 +41,43 @@ pub(crate) fn outcome_of(
             let options = differing_options(alloc, pairs.as_slice())?;
             Ok(vec![in alloc; old_receivers, new_receivers, options]?)
         }
+        Configs::Silenced(config, silences) => {
+            let receivers = receivers_of(alloc, config, set)?;
+            Ok(vec![in alloc; receivers, silenced_list(alloc, silences, set)?]?)
+        }
     }
+}
+
+/// Returns one item if some silence matches an alert, and none if not.
+fn silenced_list(
+    alloc: Global,
+    silences: &[ActiveSilence<'_>],
+    set: &LabelSet,
+) -> Result<Vec<usize>, AllocError>
+    ensures { IfOk result (λ list. list.items
+        ≡ (if is_silenced_by set.now (silences_view silences.now) then 0 ∷ [] else [])) }
+{
+    if is_silenced_by(alloc, silences, set)? {
+        Ok(vec![in alloc; 0]?)
+    } else {
+        Ok(Vec::new(alloc))
+    }
+}
+
+fn is_silenced_by(
+    alloc: Global,
+    silences: &[ActiveSilence<'_>],
+    set: &LabelSet,
+) -> Result<bool, AllocError>
+    ensures { IfOk result (λ silenced.
+        silenced ≡ is_silenced_by set.now (silences_view silences.now)) }
+{
+    for silence in silences {
+        if silence.matchers.matches(alloc, set)? {
+            return Ok(true);
+        }
+    }
+    Ok(false)
 }
 
 /// Returns the routes that handle an alert, in order.

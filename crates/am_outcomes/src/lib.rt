@@ -1,18 +1,20 @@
 //! What becomes of the alerts of a space, under one configuration or under two that are compared.
+//! Under one, active silences can be given, which may hide alerts.
 //!
 //! [`find_outcomes`] lists each outcome that some choice has, with the first choice that has it. It
 //! does not go through the choices one by one. It goes through the routes, of one configuration
-//! after the other, and where an alert may match a route or not it goes on with both. What is at
-//! the end of such a walk is one *way* through the routes. All alerts that go it end at the same
-//! routes, and so have the same outcome. [`outcomes_report`] has a line for each outcome, and
+//! after the other, and where an alert may match a route or not it goes on with both. Then it goes
+//! through the silences in the same way, until one matches. What is at the end of such a walk is
+//! one *way*. All alerts that go it end at the same routes, and are all silenced or none of them
+//! is, and so they have the same outcome. [`outcomes_report`] has a line for each outcome, and
 //! [`compare_outcomes`] one for each that differs between two configurations.
 #![tactic(auto)]
 
 // The limit of the search.
 pub mod limits;
 
-// The walks through the routes.
-mod route_steps;
+// The walks through the routes and the silences.
+mod steps;
 mod walks;
 mod ways;
 
@@ -21,7 +23,7 @@ mod configs;
 mod found;
 mod handling;
 
-pub use configs::Configs;
+pub use configs::{ActiveSilence, Configs};
 pub use found::{Outcomes, find_outcomes};
 
 // The lines of outcomes.

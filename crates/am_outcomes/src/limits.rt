@@ -1,6 +1,6 @@
 //! The limit of the search for outcomes. It is this project's own.
 
-/// The most ways through the routes that are told apart.
+/// The most ways through routes and silences that are told apart.
 ///
 /// The first choice of each way is kept, so this bounds the memory. A contract can state it without
 /// a word about how the search goes: so many choices have distinct ways.

@@ -1,4 +1,4 @@
-//! Walks through the routes, and how one goes on past a step.
+//! Walks through the routes and the silences, and how one goes on past a step.
 
 ghost use Rattle.std.specs.Prelude.{◌≡◌, ◌++◌, [], ◌∷◌, ℕ, List, false, IfOk, IfNone, OnOk, IsTrue};
 ghost use Rattle.am_labels.specs.Space.{IsChoiceOf};
@@ -8,12 +8,12 @@ ghost use Rattle.am_first_sets.specs.PossibleSets.{possible_space};
 ghost use Rattle.am_first_sets.specs.Meeting.{meets_cubes};
 ghost use Rattle.am_outcomes.specs.Walks.{AddsBranches};
 
-use crate::route_steps::RouteStep;
+use crate::steps::Step;
 use am_first_sets::PossibleSets;
 use am_judged_lists::{Cube, Matching, Part, PositionBox};
 use std::alloc::{AllocError, Global};
 
-/// A walk through the routes: what was decided so far, and the step that is next. Its choices are
+/// A walk from step to step: what was decided so far, and the step that is next. Its choices are
 /// those that match all wanted cubes and none of the unwanted ones.
 #[derive(Drop)]
 pub(crate) struct Walk<'a> {
@@ -30,13 +30,13 @@ pub(crate) struct Walk<'a> {
 
 impl<'a> Walk<'a> {
     /// Adds the walks on which the choices of this one go past its next step: those that match the
-    /// route of the step, and those that do not. There is no walk without a choice. Fails only if
+    /// cube of the step, and those that do not. There is no walk without a choice. Fails only if
     /// memory runs out.
     pub(crate) fn push_branches(
         self,
         alloc: Global,
         possible: &PossibleSets<'_>,
-        step: &'a RouteStep,
+        step: &'a Step,
         walks: &mut Vec<Walk<'a>>,
     ) -> Result<(), AllocError>
         ensures { OnOk result (AddsBranches (possible_space possible.now) walks.old.items self.entry
@@ -53,13 +53,13 @@ impl<'a> Walk<'a> {
         Ok(())
     }
 
-    /// The same at a step whose route some choices of the box match, and others do not. The cube is
+    /// The same at a step whose cube some choices of the box match, and others do not. The cube is
     /// that of the step.
     fn push_both(
         self,
         alloc: Global,
         possible: &PossibleSets<'_>,
-        step: &RouteStep,
+        step: &Step,
         cube: &'a Cube,
         walks: &mut Vec<Walk<'a>>,
     ) -> Result<(), AllocError>

@@ -10,7 +10,7 @@ use Rattle.am_json.specs.Pointer.{Refusal, refusal_here}
 use Rattle.am_classes.specs.declared.alphabet.Alphabet.{Alphabet}
 use Rattle.am_every_alert.specs.Deciding.{space_of}
 use Rattle.am_outcomes.specs.Ways.{HaveManyWays}
-use Rattle.am_outcomes.specs.Configurations.{Configurations, each_of}
+use Rattle.am_outcomes.specs.Configurations.{Configurations, tried_of}
 use Rattle.am_reports.specs.Made.{StandsForAll, IsDeclaredRefusal, IsMadeRefusal, AreDeclaredWhole}
 
 -- A universe can be made, but with it there are more ways through the routes than there is room
@@ -23,7 +23,7 @@ pub record TooManyWaysFor (a : Alphabet) (lists : List (List Matcher)) (k : Conf
     (r : Refusal) : Type 0 where
   pub labels : List Label
   pub stands : StandsForAll a lists k labels
-  pub many : HaveManyWays (space_of lists labels) (each_of k)
+  pub many : HaveManyWays (space_of lists labels) (tried_of k)
   pub refusal : r ≡ refusal_here kinds.Limit
 
 -- What is said is refused at this place for a label that the universe file declares; or no such

@@ -11,7 +11,7 @@ ghost use Rattle.am_universe.specs.declared.kind.Kind.TheVariants as kinds;
 ghost use Rattle.am_universe.specs.declared.place.Place.TheVariants as places;
 ghost use Rattle.am_json.specs.Pointer.{refusal_here};
 ghost use Rattle.am_json.specs.Reading.{refusal_of};
-ghost use Rattle.am_outcomes.specs.Configurations.{configurations_of, each_of};
+ghost use Rattle.am_outcomes.specs.Configurations.{configurations_of, tried_of};
 ghost use Rattle.am_outcomes.specs.Outcomes.{outcomes_of};
 ghost use Rattle.am_outcomes.specs.Ways.{HaveManyWays};
 ghost use Rattle.am_reports.specs.Made.{AreDeclaredWhole};
@@ -65,7 +65,7 @@ fn outcomes_of_choices(
         outcomes ≡ outcomes_of space.now (configurations_of configs.entry)) }
     ensures refused { IfErr result (λ fault. fault.kind ≢ kinds.Memory
         → (fault.place ≡ places.Universe)
-        × HaveManyWays space.now (each_of (configurations_of configs.entry))
+        × HaveManyWays space.now (tried_of (configurations_of configs.entry))
         × (refusal_of fault ≡ refusal_here kinds.Limit)) }
 {
     match find_outcomes(alloc, space, configs) {

@@ -1,15 +1,15 @@
-use Rattle.std.proofs.Common.{List, length}
-use Rattle.am_config.specs.ConfigFile.{Configuration}
+use Rattle.std.proofs.Common.{length}
 use Rattle.am_first_sets.specs.PossibleSets.{possible_space}
-use Rattle.am_outcomes.specs.RouteSteps.{GoesThrough}
+use Rattle.am_outcomes.specs.Configurations.{Tried}
+use Rattle.am_outcomes.specs.Steps.{GoesThrough}
 use Rattle.am_outcomes.proofs.WaysFound.{AreWalked, weight}
 use Rattle.am_outcomes.proofs.ways.unsorted_firsts.Given as goal
 
 -- each choice is on one walk, or its way is found
 abbrev pub invariant-loop-walk : goal.invariant-loop-walk
 invariant-loop-walk l =
-    (cs : List Configuration) → GoesThrough l.universe cs l.steps (length l.steps)
-    → AreWalked (possible_space l.possible) cs l.steps l.walks.items l.firsts.items
+    (t : Tried) → GoesThrough l.universe t l.steps (length l.steps)
+    → AreWalked (possible_space l.possible) t l.steps l.walks.items l.firsts.items
 
 -- a walk is replaced by others that are nearer to the end
 abbrev pub decreases-loop-walk : goal.decreases-loop-walk

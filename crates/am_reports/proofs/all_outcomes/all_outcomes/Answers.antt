@@ -8,7 +8,7 @@ use Rattle.am_labels.specs.Space.{Space}
 use Rattle.am_json.specs.Reading.{refusal_of}
 use Rattle.am_files.proofs.FirstFaults.{handed_on}
 use Rattle.am_classes.specs.declared.alphabet.Alphabet.{Alphabet}
-use Rattle.am_outcomes.specs.Configurations.{Configurations, configurations_of, each_of}
+use Rattle.am_outcomes.specs.Configurations.{Configurations, configurations_of, tried_of}
 use Rattle.am_outcomes.specs.Outcomes.{outcomes_of}
 use Rattle.am_outcomes.specs.Ways.{HaveManyWays}
 use Rattle.am_every_alert.specs.Deciding.{space_of}
@@ -65,7 +65,7 @@ returns-clause-refused c =
           labels = c.in_ok-universe.universe;
           stands = stands at.After-declare-2;
           many = subst
-              (λ (t : Space). HaveManyWays t (each_of (configurations_of c.args.configs)))
+              (λ (t : Space). HaveManyWays t (tried_of (configurations_of c.args.configs)))
               (made at.After-declare-2) refused.1;
           refusal = refused.2;
         },

@@ -1,23 +1,24 @@
-use Rattle.std.proofs.Common.{◌≡◌, ◌-◌, List, length, drop, refl, ap, sym, subst, subst₂, arith}
+use Rattle.std.proofs.Common.{◌≡◌, ◌-◌, Bor, List, length, drop, sym, subst, arith}
 use Rattle.std.proofs.lemmas.List.{drop_all}
 use Rattle.am_config.specs.ConfigFile.{Configuration}
 use Rattle.am_config.specs.ConfigView.{config_view}
-use Rattle.am_outcomes.specs.declared.route_steps.RouteStep.{RouteStep}
-use Rattle.am_outcomes.specs.OutcomesView.{configs_view}
-use Rattle.am_outcomes.specs.RouteSteps.{AreSteps, GoesThrough, GoesPast}
-use Rattle.am_outcomes.proofs.StepLemmas.{through_more, next_from_behind, no_steps}
-use Rattle.am_outcomes.proofs.route_steps.route_steps.Goals as goal
+use Rattle.am_config.specs.declared.config.Config.{Config}
+use Rattle.am_outcomes.specs.Configurations.{matchers_of_each, silences_view}
+use Rattle.am_outcomes.specs.OutcomesView.{tried_view}
+use Rattle.am_outcomes.specs.Steps.{GoesThrough, GoesPast}
+use Rattle.am_outcomes.proofs.StepLemmas.{through_more, next_from_behind}
+use Rattle.am_outcomes.proofs.steps.steps_of.Goals as goal
 
 pub loop-i-init : goal.loop-i-init
 loop-i-init c =
     let configs = c.args.configs.now in
-    let none = c.new-steps.ensures.items in
+    let steps = c.in_ok-steps.steps.items in
     record {
-      steps = subst AreSteps (sym none) no_steps;
-      goes = subst₂ (λ (cs : List Configuration) (steps : List RouteStep).
-          GoesThrough c.args.universe.now cs steps (length steps))
-          (sym (ap configs_view (drop_all (length configs - 0) configs (omega arith)))) (sym none)
-          (λ d whole. refl);
+      steps = c.in_ok-steps.ensures.steps;
+      goes = subst (λ (cs : List (Bor Config)).
+          GoesThrough c.args.universe.now (tried_view cs c.args.silences.now) steps (length steps))
+          (sym (drop_all (length configs - 0) configs (omega arith)))
+          c.in_ok-steps.ensures.goes;
     }
 
 pub loop-i-preserved : goal.loop-i-preserved
@@ -25,6 +26,7 @@ loop-i-preserved c =
     let l = c.loop-i in
     let u = c.args.universe.now in
     let configs = c.args.configs.now in
+    let silences = c.args.silences.now in
     let config = c.index-configs-configs.result in
     let steps = l.steps.items in
     let new = c.push_route.new.steps.items in
@@ -35,9 +37,12 @@ loop-i-preserved c =
     rw (← c.root-root.ensures.root, ← pushed.first, ← next) pushed.goes in
     record {
       steps = pushed.steps;
-      goes = subst (λ (cs : List Configuration). GoesThrough u cs new (length new))
+      goes = subst (λ (cs : List Configuration).
+          GoesThrough u
+          (record { configurations = cs; lists = matchers_of_each (silences_view silences) }) new
+          (length new))
           (sym (next_from_behind (λ c. config_view c.now) configs l.i config c.loop-i-test.true
           c.index-configs-configs.is))
           (through_more u steps new (length steps) (length new) (config_view config.now)
-          (configs_view (drop (length configs - l.i) configs)) l.invariant.goes past);
+          (tried_view (drop (length configs - l.i) configs) silences) l.invariant.goes past);
     }

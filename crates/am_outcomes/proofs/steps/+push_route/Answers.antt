@@ -6,12 +6,12 @@ use Rattle.am_config.specs.RouteView.{route_view}
 use Rattle.am_config.specs.ConfigFile.{RouteTree, route_count, routes_count}
 use Rattle.am_config.proofs.RouteLists.{child_within}
 use Rattle.am_judged_lists.specs.Cube.{IsCubeOf}
-use Rattle.am_outcomes.specs.RouteSteps.{AreSteps, GoesPast}
-use Rattle.am_outcomes.specs.declared.route_steps.RouteStep.{RouteStep}
+use Rattle.am_outcomes.specs.Steps.{AreSteps, GoesPast}
+use Rattle.am_outcomes.specs.declared.steps.Step.{Step}
 use Rattle.am_outcomes.proofs.StepLemmas.{GoesBelow, below_more, next_from_behind, steps_pushed}
 use Rattle.am_outcomes.proofs.StepLemmas.{route_pushed, count_down}
-use Rattle.am_outcomes.proofs.route_steps.+push_route.Goals as goal
-use Rattle.am_outcomes.proofs.route_steps.+push_route.Goals.{then-continues, else-continues}
+use Rattle.am_outcomes.proofs.steps.+push_route.Goals as goal
+use Rattle.am_outcomes.proofs.steps.+push_route.Goals.{then-continues, else-continues}
 
 pub push_route-requires : goal.push_route-requires
 push_route-requires t c =
@@ -95,7 +95,7 @@ returns-clause-goes t c =
           (sym w.if-continues.false ∙ c.continues.ensures.continues)
     ] in
     let long = ap length c.in_ok-push.ensures.items in
-    subst₂ (λ (steps : List RouteStep) (n : ℕ). GoesPast u tree old c.args.next c.args.end steps n)
+    subst₂ (λ (steps : List Step) (n : ℕ). GoesPast u tree old c.args.next c.args.end steps n)
     (sym c.in_ok-push.ensures.items) (omega (arith, c.len.ensures, long))
     (route_pushed u tree (map route_view children) old l.steps.items l.invariant.more.0 _ behind
     c.args.next c.args.end
