@@ -1,0 +1,13 @@
+pub mod NarrowedUniverses
+pub mod LabelTexts
+pub mod NarrowingLemmas
+pub mod ReceiverOutcomes
+pub mod SharedOutcomes
+pub mod ShownLabels
+pub mod ShownSets
+pub mod NarrowedLabels
+pub mod RuleAlerts
+pub mod OutcomesOfRules
+pub mod RuleTexts
+pub mod RuleLaws
+pub mod WhereLines

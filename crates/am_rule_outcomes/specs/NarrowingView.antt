@@ -1,0 +1,96 @@
+-- Narrowings and outcomes of rules, as they are kept in memory.
+use Rattle.std.specs.Prelude.{◌≡◌, ℕ, List, [], ◌∷◌, map, Option, Some, None, option_map}
+use Rattle.std.specs.Prelude.{option_and_then, slice_get, string_bytes}
+use Rattle.std.specs.List.{AllByRecursion, AllZip}
+use Rattle.std.specs.Global.{Vec}
+use Rattle.am_universe.specs.Universe.{Label, sizes}
+use Rattle.am_universe.specs.Choice.{IsWhole}
+use Rattle.am_labels.specs.Matcher.{Matcher}
+use Rattle.am_labels.specs.Space.{Space}
+use Rattle.am_classes.specs.Truths.{AreTested, texts_of}
+use Rattle.am_complete.specs.AskedLabel.{AskedLabel}
+use Rattle.am_complete.specs.Complete.{texts_of_label}
+use Rattle.am_outcomes.specs.Configurations.{Configurations}
+use Rattle.am_alerting_rules.specs.RulesFile.{AlertingRule}
+use Rattle.am_alerting_rules.specs.RuleAlerts.{fixed_labels}
+use Rattle.am_rule_outcomes.specs.declared.label_texts.LabelTexts.{LabelTexts}
+use Rattle.am_rule_outcomes.specs.declared.receiver_outcomes.ReceiverOutcome.{ReceiverOutcome}
+use Rattle.am_rule_outcomes.specs.declared.rule_outcomes.RuleOutcomes.{RuleOutcomes}
+use Rattle.am_rule_outcomes.specs.declared.where_lines.NarrowedReceivers.{NarrowedReceivers}
+use Rattle.am_rule_outcomes.specs.Narrowing.{alike_position, matchers_on}
+use Rattle.am_rule_outcomes.specs.declared.rule_outcomes.Shared.{Shared}
+use Rattle.am_rule_outcomes.specs.Narrowed.{Narrowed, narrowed_outcomes}
+use Rattle.am_rule_outcomes.specs.ReceiverOutcomes as spec
+use Rattle.am_rule_outcomes.specs.ReceiverOutcomes.{receiver_outcomes}
+use Rattle.am_rule_outcomes.specs.RuleOutcomes as outcome
+use Rattle.am_rule_outcomes.specs.ShownLabels.{shown_labels}
+
+-- A narrowing, if there is one.
+abbrev pub narrowing_view : Option (Vec (Option ℕ)) → Option (List (Option ℕ))
+narrowing_view found = option_map (λ kept. kept.items) found
+
+-- The texts of a label, tested by the matchers on it. For each text that was looked for, the
+-- position that is kept is that of the first text that is alike to it.
+pub record IsLabelTexts (ms : List Matcher) (label : Label) (texts : LabelTexts) : Type 0 where
+  pub name : texts.name.now ≡ label.name
+  pub matchers : map (λ m. m.now) texts.matchers.items ≡ ms
+  pub are : texts_of texts.texts.items ≡ texts_of_label (Some label)
+  pub tested : AreTested ms texts.texts.items
+  pub known : AllByRecursion (λ e. e.1 ≡ alike_position ms (string_bytes e.0) label)
+      texts.known.entries
+
+-- The same for each label of a universe.
+abbrev pub AreLabelTexts : List AskedLabel → List Label → List LabelTexts → Type 0
+AreLabelTexts asked u labels =
+    AllZip (λ label texts. IsLabelTexts (matchers_on asked label.name) label texts) u labels
+
+-- The receivers of an outcome, which borrow from it.
+abbrev pub receiver_outcome_view : ReceiverOutcome → spec.ReceiverOutcome
+receiver_outcome_view o = record {
+  receivers = o.receivers.now;
+  first = o.first.now;
+  silenced = o.silenced;
+}
+
+-- The same of a narrowed universe, with its labels; and the first choices are whole ones of it.
+abbrev pub narrowed_receivers_view : NarrowedReceivers → List Label × List spec.ReceiverOutcome
+narrowed_receivers_view n = (n.universe.now, map receiver_outcome_view n.outcomes.items)
+
+abbrev pub HaveWholeFirsts : List Label × List spec.ReceiverOutcome → Type 0
+HaveWholeFirsts n = AllByRecursion (λ o. IsWhole (sizes n.0) o.first) n.1
+
+-- For each rule, the narrowed universe and its outcomes, if the rule has alerts.
+abbrev pub narrowed_of : List Narrowed → Option ℕ → Option Narrowed
+narrowed_of each position = option_and_then (slice_get each) position
+
+abbrev pub rule_outcomes_view : RuleOutcomes → List (Option Narrowed)
+rule_outcomes_view found = map (narrowed_of found.each.items) found.of_rules.items
+
+-- The outcomes of narrowings, each at the position of its narrowing.
+abbrev pub AreShared : Space → Configurations → Shared → Type 0
+AreShared s k shared =
+    shared.each.items ≡ map (λ kept. narrowed_outcomes s k kept.now) shared.seen.keys
+
+-- The outcomes of a rule as its lines show them.
+abbrev pub shown_outcome : AlertingRule → List Label → spec.ReceiverOutcome → outcome.RuleOutcome
+shown_outcome r u o = record {
+  receivers = o.receivers;
+  labels = shown_labels (fixed_labels r) u o.first;
+  silenced = o.silenced;
+}
+
+abbrev pub outcomes_shown :
+    AlertingRule → Option (List Label × List spec.ReceiverOutcome) → List outcome.RuleOutcome
+outcomes_shown r None = []
+outcomes_shown r (Some n) = map (shown_outcome r n.0) n.1
+
+abbrev pub shown_outcomes : AlertingRule → Option Narrowed → List outcome.RuleOutcome
+shown_outcomes r None = []
+shown_outcomes r (Some n) = map (shown_outcome r n.labels) (receiver_outcomes n.outcomes)
+
+-- Each rule with its outcomes.
+abbrev pub with_outcomes :
+    List AlertingRule → List (Option Narrowed) → List (AlertingRule × List outcome.RuleOutcome)
+with_outcomes [] found = []
+with_outcomes (r ∷ rules) [] = []
+with_outcomes (r ∷ rules) (n ∷ found) = (r, shown_outcomes r n) ∷ with_outcomes rules found

@@ -1,0 +1,26 @@
+-- Universes that stand for the outcomes of all alerts of a space. (This project's own.)
+use Rattle.std.specs.Prelude.{◌≡◌, List}
+use Rattle.am_universe.specs.Universe.{Label}
+use Rattle.am_universe.specs.LabelSet.{LabelMap}
+use Rattle.am_labels.specs.Matcher.{Matcher}
+use Rattle.am_labels.specs.Space.{Space}
+use Rattle.am_classes.specs.declared.alphabet.Alphabet.{Alphabet}
+use Rattle.am_complete.specs.AskedLabel.{AskedLabel, IsAskedOf}
+use Rattle.am_every_alert.specs.EveryAlert.{MeetsTheSame}
+use Rattle.am_every_alert.specs.Deciding.{StandsFor, deciding_matchers, space_of}
+use Rattle.am_outcomes.specs.Configurations.{Configurations}
+use Rattle.am_outcomes.specs.Outcomes.{outcome_of}
+
+-- A universe stands for the outcomes of all alerts of a space over an alphabet, under
+-- configurations: it stands for every such alert, for some matchers, and alerts that meet the same
+-- of these matchers have the same outcome. Some labels are those that these matchers and the
+-- impossible lists ask about.
+-- Source: own choice.
+-- Example: if all routes match by `team="db"` alone, and nothing is impossible, a universe in which
+-- `team` may be absent or `db` does so, and `team` is the label that is asked about.
+pub record StandsForOutcomes (a : Alphabet) (s : Space) (u : List Label) (asked : List AskedLabel)
+    (k : Configurations) : Type 0 where
+  pub matchers : List Matcher
+  pub stands : StandsFor a (space_of s.impossible u) matchers
+  pub labels : IsAskedOf asked (deciding_matchers s matchers)
+  pub told : (x y : LabelMap) → MeetsTheSame matchers x y → outcome_of k x ≡ outcome_of k y

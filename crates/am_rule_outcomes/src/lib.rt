@@ -1,0 +1,32 @@
+//! To which receivers the alerts of alerting rules go.
+//!
+//! A universe that stands for every alert is *narrowed* to the alerts of a rule: each of its labels
+//! that these alerts have with one text alone keeps one value, which the matchers cannot tell from
+//! that text. [`narrowings`] says which, for each rule, and [`outcomes_of_rules`] finds the
+//! outcomes of each narrowed universe. Rules that narrow the universe alike share them.
+//! [`where_report`] has a line for each list of receivers to which the alerts of a rule go.
+#![tactic(auto)]
+
+// A universe narrowed to the alerts of a rule.
+mod label_texts;
+mod narrowed_universe;
+mod narrowing;
+
+pub use narrowing::{Narrowing, narrowings};
+
+// The outcomes of the alerts of rules.
+mod rule_outcomes;
+
+pub use rule_outcomes::{RuleOutcomes, outcomes_of_rules};
+
+// The receivers of the alerts of rules, and whether the alerts are silenced.
+mod receiver_outcomes;
+mod shown_labels;
+
+// The lines of both.
+mod where_lines;
+
+pub use where_lines::where_report;
+
+// Facts about the definitions alone.
+pub mod laws;
