@@ -17,6 +17,8 @@ pub struct CommandLine<'a, F> {
     pub new: Option<F>,
     pub silences: Option<F>,
     pub alerts: Option<F>,
+    /// The file of alerting rules.
+    pub rules: Option<F>,
     pub at: Option<&'a str>,
     /// Whether the report is to be JSON.
     pub json: bool,
@@ -44,6 +46,7 @@ pub fn parse_command_line<'a>(
             new: matches.get_str("new"),
             silences: matches.get_str("silences"),
             alerts: matches.get_str("alerts"),
+            rules: matches.get_str("rules"),
             at: matches.get_str("at"),
             json: matches.get_flag("json"),
         });

@@ -76,6 +76,12 @@ pub(crate) const ALERTS: Argument = Argument {
     help: "The firing alerts, as exported by amtool alert query -a -s -i -u -o json",
 };
 
+pub(crate) const RULES: Argument = Argument {
+    id: "rules",
+    form: Form::Value("rules", "FILE"),
+    help: "The alerting rules: a Prometheus rules file, as JSON",
+};
+
 pub(crate) const AT: Argument = Argument {
     id: "at",
     form: Form::Value("at", "TIME"),
@@ -162,11 +168,11 @@ pub(crate) const COUNTED: Argument = Argument {
     help: "Count the matchers of this question too; may be repeated",
 };
 
-/// A receiver that `routes` is asked about.
+/// A receiver that a report is asked about.
 pub(crate) const RECEIVER: Argument = Argument {
     id: "receiver",
     form: Form::Values("receiver", "NAME"),
-    help: "Print only the routes with this receiver; may be repeated",
+    help: "Print only the lines with this receiver; may be repeated",
 };
 
 pub(crate) const ROUTES: Argument = Argument {

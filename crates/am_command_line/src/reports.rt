@@ -1,11 +1,12 @@
 //! The commands that speak of every alert: what each takes, and its help text.
 
 use crate::options::{
-    ALERTS, ASCII, AT, CONFIG, CommandRow, IMPOSSIBLE, JSON, NEW, Need, OLD, RECEIVER, SILENCES,
+    ALERTS, ASCII, AT, CONFIG, CommandRow, IMPOSSIBLE, JSON, NEW, Need, OLD, RECEIVER, RULES,
+    SILENCES,
 };
 
 /// These commands, which come first in the help, in its order.
-pub(crate) const REPORTS: [CommandRow; 4] = [
+pub(crate) const REPORTS: [CommandRow; 5] = [
     CommandRow {
         name: "lint",
         about: "Say what is wrong with a configuration, and why",
@@ -124,6 +125,82 @@ output failed, 5 done with a finding.",
             (CONFIG, Need::Required),
             (SILENCES, Need::Optional),
             (ALERTS, Need::Optional),
+            (AT, Need::Optional),
+            (IMPOSSIBLE, Need::Optional),
+            (ASCII, Need::Optional),
+            (JSON, Need::Optional),
+        ],
+    },
+    CommandRow {
+        name: "where",
+        about: "Show where the alerts of alerting rules go, by name",
+        help: "\
+Convert your alertmanager.yml and your rules files to JSON, and ask where the alerts go:
+
+  yq -o=json . alertmanager.yml > alertmanager.json  # Debian's yq: yq . alertmanager.yml
+  yq -o=json . rules.yml > rules.json                # Debian's yq: yq . rules.yml
+  amcover where --config alertmanager.json --rules rules.json
+
+This prints a line for each list of receivers that alerts of a rule go to, and then how many
+rules there are. For example:
+
+  \"node\" {alertname=\"DiskFull\",severity=\"warning\"} -> \"default\"
+  \"node\" {alertname=\"DiskFull\",severity=\"warning\",team=\"db\"} -> \"db-mail\"
+  \"db\" {alertname=\"PostgresDown\",severity=\"critical\",team=\"db\"} -> \"db-pager\"
+  # 2 rules
+
+A line begins with the group of the rule. Then comes an alert of the rule that goes to the
+receivers behind the arrow: alertname, the labels that the rule sets, and further labels that
+series may bring. It is the first of these alerts, and others may go there too. A rule has
+several lines if its alerts go to several lists of receivers: here, some alerts of DiskFull go
+to db-mail, such as one whose series has the label team=\"db\". If a rule has a line with a
+receiver that you did not expect, such as the default one, look at its labels.
+
+All alerts of a rule count. They have its name as alertname, and each label that the rule, or
+else its group, sets to a text without {{. Each other label may be anything: series bring
+labels, and so do templates such as {{ $labels.team }}. The expression of a rule is not read.
+If it rules out some alerts, say so in a universe file, as below. External labels need
+nothing, unless a rule sets one of them to the empty text. What alert_relabel_configs change
+is not known.
+
+To see only alerts that go to some receivers, name these. The last line then says how many
+rules have such alerts:
+
+  amcover where --config alertmanager.json --rules rules.json --receiver db-pager
+
+With --silences and --at, a line ends in `silenced` if active silences hide all alerts of the
+rule that go to these receivers, and in `partly silenced` if they hide some of them:
+
+  amcover where --config alertmanager.json --rules rules.json --silences silences.json \\
+    --at \"$(date -u +%FT%TZ)\"
+
+The JSON has the field groups of a rules file. Rules without alert are passed over. Several
+files, the answer of Prometheus at /api/v1/rules, and a PrometheusRule of Kubernetes:
+
+  yq -o=json eval-all '. as $file ireduce ({}; . *+ $file)' rules/*.yml > rules.json
+  curl -s localhost:9090/api/v1/rules | jq '{groups: [.data.groups[] | {name, rules:
+    [.rules[] | select(.type == \"alerting\") | {alert: .name, labels}]}]}' > rules.json
+  kubectl get prometheusrule NAME -o json | jq .spec > rules.json
+
+If some alerts never occur, say so in a universe file, such as never.json:
+
+  {\"labels\": [], \"impossible\": [\"alertname=PostgresDown,env!=prod\"]}
+
+  amcover where --config alertmanager.json --rules rules.json --universe never.json
+
+With --ascii, only alerts count whose values consist of printable ASCII, from the space to ~.
+So a rule that sets a label to another text has no alert that counts. If a pattern has \\b,
+use --ascii: without it, where refuses the configuration as unproved.
+
+where ignores inhibition and time intervals. A rule whose alerts are all impossible has a line
+that ends in `no alert`.
+
+Exit status: 0 done, 1 refused input, 2 usage, 3 out of memory, 4 the output failed.",
+        takes: &[
+            (CONFIG, Need::Required),
+            (RULES, Need::Required),
+            (RECEIVER, Need::Optional),
+            (SILENCES, Need::Optional),
             (AT, Need::Optional),
             (IMPOSSIBLE, Need::Optional),
             (ASCII, Need::Optional),

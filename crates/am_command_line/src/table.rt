@@ -20,6 +20,12 @@ pub enum Request<'a> {
     Lint {
         ascii: bool,
     },
+    /// To which receivers the alerts of alerting rules go, or which of them go to one of these
+    /// receivers.
+    Where {
+        ascii: bool,
+        receivers: Vec<&'a str>,
+    },
     /// Which alerts end at each route, or at each route that has one of these receivers.
     Routes {
         ascii: bool,
@@ -80,6 +86,10 @@ pub(crate) fn request_of<'a>(
     let question = matches.get_str("question");
     let request = match name {
         "lint" => Request::Lint { ascii },
+        "where" => Request::Where {
+            ascii,
+            receivers: words_of(alloc, matches, "receiver")?,
+        },
         "routes" => Request::Routes {
             ascii,
             receivers: words_of(alloc, matches, "receiver")?,
@@ -113,6 +123,7 @@ Begin with your own alertmanager.yml:
 Examples:
 
   amcover lint --config alertmanager.json
+  amcover where --config alertmanager.json --rules rules.json
   amcover routes --config alertmanager.json --receiver db-pager
   amcover compare --old old.json --new alertmanager.json
   amcover outcomes --config alertmanager.json

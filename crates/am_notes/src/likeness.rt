@@ -14,6 +14,11 @@ pub(crate) enum Likeness {
     Groups,
     /// The answer of an HTTP API, which has the records in a field.
     ApiAnswer,
+    Rules,
+    /// The answer of Prometheus that has the groups of its rules.
+    RulesAnswer,
+    /// A resource of Kubernetes that has the groups of a rules file.
+    RulesResource,
 }
 
 impl Likeness {
@@ -43,6 +48,12 @@ impl Likeness {
             Some(Likeness::Config)
         } else if has_field(value, "labels") {
             Some(Likeness::Universe)
+        } else if has_field(value, "groups") {
+            Some(Likeness::Rules)
+        } else if has_groups_in(value, "data") {
+            Some(Likeness::RulesAnswer)
+        } else if has_groups_in(value, "spec") {
+            Some(Likeness::RulesResource)
         } else if has_field(value, "data") {
             Some(Likeness::ApiAnswer)
         } else {
@@ -57,7 +68,11 @@ impl Likeness {
             Likeness::Config => matches!(place, Place::Config | Place::Old | Place::New),
             Likeness::Silences => place == Place::Silences,
             Likeness::Alerts => place == Place::Alerts,
-            Likeness::Groups | Likeness::ApiAnswer => false,
+            Likeness::Rules => place == Place::Rules,
+            Likeness::Groups
+            | Likeness::ApiAnswer
+            | Likeness::RulesAnswer
+            | Likeness::RulesResource => false,
         }
     }
 
@@ -70,10 +85,25 @@ impl Likeness {
             Likeness::Alerts => "an export of alerts",
             Likeness::Groups => "an export of alerts in groups",
             Likeness::ApiAnswer => "an answer of an HTTP API, not an export of amtool",
+            Likeness::Rules => "a rules file",
+            Likeness::RulesAnswer => {
+                "an answer of /api/v1/rules; jq '{groups: [.data.groups[] | {name, rules: \
+                [.rules[] | select(.type == \"alerting\") | {alert: .name, labels}]}]}' \
+                makes a rules file of it"
+            }
+            Likeness::RulesResource => "a PrometheusRule; jq .spec makes a rules file of it",
         }
     }
 }
 
 fn has_field(value: &Value, name: &str) -> bool {
     value.get(name).is_some()
+}
+
+/// Whether a field of a value has the field `groups`.
+fn has_groups_in(value: &Value, name: &str) -> bool {
+    match value.get(name) {
+        Some(inner) => has_field(inner, "groups"),
+        None => false,
+    }
 }

@@ -54,6 +54,7 @@ fn file_at<'a>(call: &'a Call<'_>, place: Place) -> Option<&'a [u8]> {
         Place::New => call.new.as_deref(),
         Place::Silences => call.silences.as_deref(),
         Place::Alerts => call.alerts.as_deref(),
+        Place::Rules => call.rules.as_deref(),
         _ => None,
     }
 }
@@ -71,6 +72,10 @@ fn not_json_remedy(call: &Call<'_>, place: Place) -> Option<&'static str> {
         ),
         Place::Silences => Some("--silences takes JSON: amtool silence query -o json"),
         Place::Alerts => Some("--alerts takes JSON: amtool alert query -a -s -i -u -o json"),
+        Place::Rules => Some(
+            "--rules takes JSON: yq -o=json . rules.yml (the yq in Go) or \
+            yq . rules.yml (the yq in Python)",
+        ),
         _ => None,
     }
 }
@@ -251,12 +256,14 @@ fn limit_remedy(call: &Call<'_>, fault: &Fault) -> Option<&'static str> {
     }
     match call.request {
         Request::Routes { ascii: true, .. }
+        | Request::Where { ascii: true, .. }
         | Request::Outcomes { ascii: true }
         | Request::Compare { ascii: true } => Some(
             "the routes tell too many alerts apart: \
             a universe file that says what never occurs may help",
         ),
         Request::Routes { ascii: false, .. }
+        | Request::Where { ascii: false, .. }
         | Request::Outcomes { ascii: false }
         | Request::Compare { ascii: false } => Some(
             "the routes tell too many alerts apart: --ascii may help, \
@@ -272,6 +279,7 @@ fn unproved_remedy(request: &Request<'_>) -> &'static str {
     match request {
         Request::Lint { ascii: false }
         | Request::Routes { ascii: false, .. }
+        | Request::Where { ascii: false, .. }
         | Request::Outcomes { ascii: false }
         | Request::Compare { ascii: false } => {
             "with --ascii patterns are read that are not read otherwise; \
@@ -279,6 +287,7 @@ fn unproved_remedy(request: &Request<'_>) -> &'static str {
         }
         Request::Lint { ascii: true }
         | Request::Routes { ascii: true, .. }
+        | Request::Where { ascii: true, .. }
         | Request::Outcomes { ascii: true }
         | Request::Compare { ascii: true } => {
             "amcover universe --ascii --check UNIVERSE --config FILE says more"

@@ -22,6 +22,7 @@ use Rattle.am_reports.specs.Linting.{lint_promise}
 use Rattle.am_reports.specs.Comparing.{compare_promise}
 use Rattle.am_reports.specs.OutcomesReport.{outcomes_promise}
 use Rattle.am_reports.specs.RoutesReport.{routes_promise}
+use Rattle.am_reports.specs.WhereReport.{where_promise}
 
 -- A command line whose files are read; the bytes of an optional file; those of a file that the
 -- request needs; and the files other than those of a universe and of a comparison, with the
@@ -66,12 +67,13 @@ finds promise = record {
 }
 
 -- What is owed for a request, over the bytes of the files of a call. For `lint`, it is the report
--- on a configuration; for `routes`, which alerts end at each route; for `compare`, what changes
--- between two configurations; for `outcomes`, the lists of receivers that alerts go to; for `ask`,
--- the page of the answers to the question, from the token on and under the limit and the budget;
--- for `dead`, the report on routes; for `receivers`, the report on receivers; for `explain`, the
--- explanation of the label set; for `alerts`, the alerts for which the question is true; for
--- `universe`, a universe of the given form, or the report on the universe that is checked.
+-- on a configuration; for `where`, where the alerts of alerting rules go; for `routes`, which
+-- alerts end at each route; for `compare`, what changes between two configurations; for `outcomes`,
+-- the lists of receivers that alerts go to; for `ask`, the page of the answers to the question,
+-- from the token on and under the limit and the budget; for `dead`, the report on routes; for
+-- `receivers`, the report on receivers; for `explain`, the explanation of the label set; for
+-- `alerts`, the alerts for which the question is true; for `universe`, a universe of the given
+-- form, or the report on the universe that is checked.
 -- Source: own choice.
 -- Example: for `dead --universe u.json --config alertmanager.json` it is what `dead` owes for the
 -- bytes of these files.
@@ -83,6 +85,14 @@ owed (requests.Lint ascii) call =
       alphabet = alphabet_of ascii;
       form = form_of call.json;
     })
+owed (requests.Where ascii receivers) call =
+    finds_nothing (where_promise (record {
+      universe = bytes_if_any call.universe;
+      files = files_of call;
+      rules = bytes_of call.rules;
+      alphabet = alphabet_of ascii;
+      form = form_of call.json;
+    }) (map (λ name. name.now) receivers.items))
 owed (requests.Routes ascii receivers) call =
     finds_nothing (routes_promise (record {
       universe = bytes_if_any call.universe;

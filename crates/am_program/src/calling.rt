@@ -14,7 +14,10 @@ use am_command_line::{Call, Request, Steps};
 use am_commands::{ask, dead, explain_words, receivers};
 use am_files::Files;
 use am_report_texts::Form;
-use am_reports::{CompareInputs, LintInputs, ReportInputs, compare, lint, outcomes, routes};
+use am_reports::{
+    CompareInputs, LintInputs, ReportInputs, WhereInputs, compare, lint, outcomes, routes,
+    where_alerts_go,
+};
 use am_search::Page;
 use am_universe::{Fault, Sink};
 use am_universe_command::{UniverseForm, UniverseInputs, check_universe, universe};
@@ -38,6 +41,16 @@ pub fn make_call<W: Sink>(alloc: Global, call: &Call<'_>, out: &mut W) -> Result
                 form,
             };
             lint(alloc, &inputs, out)
+        }
+        Request::Where { ascii, receivers } => {
+            let inputs = WhereInputs {
+                universe: given,
+                files,
+                rules: bytes_of(&call.rules),
+                alphabet: alphabet_of(*ascii),
+                form,
+            };
+            nothing_found(where_alerts_go(alloc, &inputs, receivers.as_slice(), out))
         }
         Request::Routes { ascii, receivers } => {
             let inputs = ReportInputs {

@@ -144,6 +144,7 @@ fn read_files<'a, R: Files + AllocGlobal>(
         new: read_input(rt, line.new, Place::New)?,
         silences: read_input(rt, line.silences, Place::Silences)?,
         alerts: read_input(rt, line.alerts, Place::Alerts)?,
+        rules: read_input(rt, line.rules, Place::Rules)?,
         request: line.request,
         at: line.at,
         json: line.json,

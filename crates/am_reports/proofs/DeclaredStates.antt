@@ -1,5 +1,5 @@
 -- The state of the label at a position of a space, and what follows from it.
-use Rattle.std.proofs.Common.{◌≡◌, ◌≢◌, ◌⊎◌, ℕ, List, [], map, take, Some, slice_get, string_bytes}
+use Rattle.std.proofs.Common.{◌≡◌, ◌⊎◌, ℕ, List, map, take, Some, slice_get, string_bytes}
 use Rattle.std.proofs.Common.{Option, None, option_map, refl, sym, ap, subst, inl, inr, ◌∙◌}
 use Rattle.std.specs.Prelude.{IsTrue}
 use Rattle.std.specs.List.{AllByRecursion}

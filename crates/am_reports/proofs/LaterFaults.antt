@@ -1,5 +1,5 @@
 -- The first fault after those of the inputs.
-use Rattle.std.proofs.Common.{◌≡◌, ℕ, List, Bool, true, false, inl, inr, refl, sym, subst}
+use Rattle.std.proofs.Common.{◌≡◌, ℕ, List, [], ◌∷◌, ◌++◌, append_assoc, Bool, true, false, inl, inr, refl, sym, subst}
 use Rattle.std.specs.Prelude.{if◌then◌else◌}
 use Rattle.am_universe.specs.declared.place.Place.{Place}
 use Rattle.am_universe.specs.declared.place.Place.TheVariants as places
@@ -7,9 +7,12 @@ use Rattle.am_universe.proofs.ListLemmas.{IsIn}
 use Rattle.am_labels.specs.Matcher.{Matcher}
 use Rattle.am_labels.specs.Space.{Space}
 use Rattle.am_json.specs.Pointer.{Refusal}
+use Rattle.am_alerting_rules.specs.RulesFile.{AlertingRule}
 use Rattle.am_config.specs.ConfigFile.{Configuration}
 use Rattle.am_eval.specs.World.{World}
-use Rattle.am_files.specs.Faults.{IsFirstFaultOfCall, later_stages}
+use Rattle.am_files.specs.Faults.{Stage, IsFirstFaultOfCall, later_stages}
+use Rattle.am_files.specs.Files.{config_of}
+use Rattle.am_files.specs.AcceptedWorld.{world_stages}
 use Rattle.am_files.proofs.FirstFaults.{first_behind_world}
 use Rattle.am_classes.specs.declared.alphabet.Alphabet.{Alphabet}
 use Rattle.am_classes.specs.declared.alphabet.Alphabet.TheVariants.{Ascii}
@@ -18,7 +21,7 @@ use Rattle.am_complete.specs.declared.origin.Origin.TheVariants as origin_is
 use Rattle.am_asked.specs.OriginPointer.{matcher_places}
 use Rattle.am_files.proofs.FirstFaults.{refused_later}
 use Rattle.am_asked.proofs.MatcherPlaces.{origin_in}
-use Rattle.am_outcomes.specs.Configurations.{Configurations, One, Pair}
+use Rattle.am_outcomes.specs.Configurations.{Configurations, One, Pair, Silenced}
 use Rattle.am_reports.specs.RoutingLabels.{asks_of, first_place}
 use Rattle.am_reports.specs.ReportInputs.{ReportInputs, AcceptsReportInputs}
 use Rattle.am_reports.specs.CompareInputs.{CompareInputs, AcceptsCompareInputs}
@@ -26,10 +29,13 @@ use Rattle.am_reports.specs.LintInputs.{LintInputs, AcceptsLintInputs}
 use Rattle.am_reports.specs.Made.{IsMadeRefusal, IsDeclaredRefusal}
 use Rattle.am_reports.specs.LaterStages.{IsOutcomesRefusal}
 use Rattle.am_reports.specs.OutcomesReport.{outcomes_promise, RefusesOutcomes}
-use Rattle.am_reports.specs.AskedReceivers.{ArePositions, IsUnknownReceiver}
+use Rattle.am_reports.specs.AskedReceivers.{ArePositions, IsUnknownReceiver, receivers_stage}
 use Rattle.am_reports.specs.RoutesReport.{routes_promise, RefusesRoutes, IsUnmadeRefusal}
 use Rattle.am_reports.specs.Comparing.{compare_promise, RefusesComparison}
 use Rattle.am_reports.specs.Linting.{lint_promise, RefusesLint, IsLintRefusal}
+use Rattle.am_reports.specs.RulesOutcomes.{IsRulesRefusal}
+use Rattle.am_reports.specs.WhereInputs.{WhereInputs, AcceptsWhereInputs, rules_stage, where_input_stages}
+use Rattle.am_reports.specs.WhereReport.{where_promise, RefusesWhere, silenced_by}
 
 -- ---- The places.
 
@@ -47,6 +53,7 @@ first_in (Pair old new) name (origin_is.Question position) =
     origin_in (origin_is.Question position)
 first_in (Pair old new) name (origin_is.Impossible position) =
     origin_in (origin_is.Impossible position)
+first_in (Silenced c silences) name o = origin_in o
 
 made_in : (a : Alphabet) (lists : List (List Matcher)) (k : Configurations) (place : Place)
     (r : Refusal) → IsMadeRefusal a lists k place r → IsIn matcher_places place
@@ -74,6 +81,12 @@ unmade_in : (a : Alphabet) (s : Space) (c : Configuration) (place : Place) (r : 
     → IsUnmadeRefusal a s c place r → IsIn matcher_places place
 unmade_in a s c place r (inl declared) = declared_in a s (One c) place r declared
 unmade_in a s c place r (inr (whole, made)) = made_in a s.impossible (One c) place r made
+
+rules_in : (a : Alphabet) (s : Space) (k : Configurations) (rules : List AlertingRule) (place : Place)
+    (r : Refusal) → IsRulesRefusal a s k rules place r → IsIn matcher_places place
+rules_in a s k rules place r (inl declared) = declared_in a s k place r declared
+rules_in a s k rules place r (inr (whole, inl made)) = made_in a s.impossible k place r made
+rules_in a s k rules place r (inr (whole, inr many)) = inl (sym many.0)
 
 lint_in : (a : Alphabet) (s : Space) (w : World) (place : Place) (r : Refusal)
     → IsLintRefusal a s w place r → IsIn matcher_places place
@@ -155,3 +168,44 @@ lint_refused inputs s w place r accepts refused =
           (refused_later (RefusesLint inputs) place r (s, w, accepts, refused) matcher_places
           (lint_in inputs.alphabet s w place r refused)),
     )
+
+-- ---- The first faults of `where`.
+
+module _ (inputs : WhereInputs) (s : Space) (w : World) (rules : List AlertingRule)
+    (accepts : AcceptsWhereInputs inputs s w rules) (place : Place) (r : Refusal) where
+  -- if the inputs are accepted, a first fault of the later stages is one of all stages
+  behind_rules : (later : List Stage) → IsFirstFaultOfCall later place r
+      → IsFirstFaultOfCall (where_input_stages inputs ++ later) place r
+  behind_rules later behind =
+      inr (
+        (s, accepts.says_universe),
+        subst (λ stages. IsFirstFaultOfCall stages place r)
+            (sym (append_assoc (world_stages inputs.files) (rules_stage inputs.rules ∷ []) later))
+            (first_behind_world inputs.files w (rules_stage inputs.rules ∷ later) place r
+            accepts.accepts_world (inr ((rules, accepts.says_rules), behind))),
+      )
+
+  module _ (names : List (List ℕ)) where
+    abbrev refused_stages : List Stage
+    refused_stages = later_stages matcher_places (RefusesWhere inputs)
+
+    abbrev names_stage : Stage
+    names_stage = receivers_stage (config_of inputs.files.config) names
+
+    -- a name of `where` is that of no receiver
+    pub where_names_refused : place ≡ places.Question → IsUnknownReceiver w.config names r
+        → IsFirstFaultOfCall (where_promise inputs names).stages place r
+    where_names_refused at unknown =
+        behind_rules (names_stage ∷ refused_stages)
+        (inl (at, (w.config, accepts.accepts_world.accepts_files.says_config, unknown)))
+
+    pub where_refused : (positions : List ℕ) → ArePositions w.config names positions
+        → IsRulesRefusal inputs.alphabet s (silenced_by w) rules place r
+        → IsFirstFaultOfCall (where_promise inputs names).stages place r
+    where_refused positions are refused =
+        behind_rules (names_stage ∷ refused_stages)
+        (inr (
+          (w.config, accepts.accepts_world.accepts_files.says_config, positions, are),
+          refused_later (RefusesWhere inputs) place r (s, w, rules, accepts, refused) matcher_places
+              (rules_in inputs.alphabet s (silenced_by w) rules place r refused),
+        ))

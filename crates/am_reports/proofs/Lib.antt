@@ -7,3 +7,7 @@ pub mod OutcomesOver
 pub mod OnlyUnder
 pub mod ChangeLemmas
 pub mod WrittenBeside
+pub mod ActiveSilences
+pub mod RulesOutcomes
+pub mod AskedNames
+pub mod RuleNames

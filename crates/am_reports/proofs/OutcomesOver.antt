@@ -22,7 +22,8 @@ use Rattle.am_outcomes.specs.Outcomes.{outcome_of, same_outcome, with_outcome, o
 use Rattle.am_differences.specs.Options.{differing_options}
 use Rattle.am_outcomes.specs.Handling.{route_pairs}
 use Rattle.am_outcomes.proofs.FirstsLemmas.{Decides, first_is_one, first_of_key, firsts_apart}
-use Rattle.am_outcomes.specs.Configurations.{Configurations, One, Pair}
+use Rattle.am_outcomes.specs.Configurations.{Configurations, One, Pair, Silenced}
+use Rattle.am_rule_outcomes.proofs.RuleLaws.{told_by_matchers}
 use Rattle.am_every_alert.specs.Deciding.{space_of}
 use Rattle.am_reports.specs.RoutingLabels.{matchers_of_routes}
 use Rattle.am_reports.specs.Made.{StandsForAll}
@@ -50,6 +51,7 @@ outcomes_met (Pair old new) set alert met =
     let first = same_ends set alert old (front_met set alert before after met) in
     let second = same_ends set alert new (rest_met set alert before after met) in
     λ i. by_ends old new (first i) (second i)
+outcomes_met (Silenced c silences) set alert met = told_by_matchers set alert c silences met
 
 module _ (a : Alphabet) (s : Space) (k : Configurations) (u : List Label)
     (stands : StandsForAll a s.impossible k u) where

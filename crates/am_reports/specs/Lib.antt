@@ -12,3 +12,7 @@ pub mod OutcomesReport
 pub mod AskedReceivers
 pub mod RoutesReport
 pub mod Comparing
+pub mod WhereInputs
+pub mod ActiveSilences
+pub mod RulesOutcomes
+pub mod WhereReport

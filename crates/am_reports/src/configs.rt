@@ -1,21 +1,26 @@
 //! The labels that the configurations of a call ask about.
 
-ghost use Rattle.std.specs.Prelude.{◌≡◌, ◌≢◌, IfOk};
+ghost use Rattle.std.specs.Prelude.{◌≡◌, ◌≢◌, ◌++◌, fold, IfOk, OnOk};
 ghost use Rattle.std.specs.List.{list_any};
 ghost use Rattle.am_universe.specs.Text.{same_text};
 ghost use Rattle.am_universe.specs.declared.kind.Kind.TheVariants as kinds;
 ghost use Rattle.am_json.specs.Reading.{refusal_of};
 ghost use Rattle.am_config.specs.ConfigView.{config_view};
 ghost use Rattle.am_complete.specs.AskedLabel.{IsAskedOf};
+ghost use Rattle.am_complete.specs.AskedLabel.{with_asked};
+ghost use Rattle.am_complete.specs.Complete.{impossible_matchers};
 ghost use Rattle.am_reports.specs.RoutingLabels.{routing_matchers, labels_of_routes, asks_of};
-ghost use Rattle.am_outcomes.specs.Configurations.{configurations_of};
+ghost use Rattle.am_reports.specs.RoutingLabels.{matchers_of_routes, placed_in_active};
+ghost use Rattle.am_outcomes.specs.Configurations.{Silenced, configurations_of, silences_view};
 ghost use Rattle.am_reports.specs.Made.{IsUnprovedAt};
 
-use am_asked::{asked_by_both, asked_by_routes, unproved_fault};
-use am_complete::{AskedLabel, Origin};
+use am_asked::{
+    asked_by_both, asked_by_routes, unproved_fault, visit_lists, visit_matchers, visit_routes,
+};
+use am_complete::{AskedLabel, Gathering, Origin};
 use am_config::Config;
-use am_labels::Space;
-use am_outcomes::Configs;
+use am_labels::{Matchers, Space};
+use am_outcomes::{ActiveSilence, Configs};
 use am_universe::{Fault, Place};
 use std::alloc::{AllocError, Global};
 
@@ -34,7 +39,49 @@ pub(crate) fn labels_asked<'a>(
     match configs {
         Configs::One(config) => asked_by_routes(alloc, config, &[], space.impossible()),
         Configs::Pair(old, new) => asked_by_both(alloc, old, new, space.impossible()),
+        Configs::Silenced(config, silences) => {
+            asked_with_silences(alloc, config, silences, space.impossible())
+        }
     }
+}
+
+/// The labels that routes ask about, then those that active silences ask about, and then those that
+/// impossible lists ask about. Fails only if memory runs out.
+fn asked_with_silences<'a>(
+    alloc: Global,
+    config: &'a Config,
+    silences: &'a [ActiveSilence<'a>],
+    impossible: &'a [Matchers],
+) -> Result<Vec<AskedLabel<'a>>, AllocError>
+    ensures asked { IfOk result (λ labels. IsAskedOf labels.items
+        (matchers_of_routes (Silenced (config_view config.now) (silences_view silences.now))
+        ++ impossible_matchers impossible.now)) }
+    ensures labels { IfOk result (λ labels. labels.items ≡ labels_of_routes
+        (Silenced (config_view config.now) (silences_view silences.now)) impossible.now) }
+{
+    let mut gathering = Gathering::empty(alloc);
+    visit_routes(alloc, &mut gathering, config)?;
+    add_silences(&mut gathering, silences)?;
+    visit_lists(&mut gathering, impossible)?;
+    Ok(gathering.into_labels())
+}
+
+/// Adds the matchers of active silences.
+fn add_silences<'a>(
+    gathering: &mut Gathering<'a>,
+    silences: &[ActiveSilence<'a>],
+) -> Result<(), AllocError>
+    ensures { OnOk result (gathering.new
+        ≡ fold with_asked gathering.old (placed_in_active (silences_view silences.now))) }
+{
+    for silence in silences {
+        visit_matchers(
+            gathering,
+            &Origin::Silence(silence.position),
+            silence.matchers,
+        )?;
+    }
+    Ok(())
 }
 
 /// The fault of an unproved label that `origin` asks about first. It is `Memory` only if memory

@@ -1,8 +1,9 @@
-//! The commands `lint`, `routes`, `compare` and `outcomes`, which speak of every alert, as
+//! The commands `lint`, `where`, `routes`, `compare` and `outcomes`, which speak of every alert, as
 //! functions over bytes and a [`Sink`](am_universe::Sink).
 //!
 //! [`lint`] says what is wrong with a configuration, with silences, and with the values that
-//! matchers name, and why. [`routes`] says which alerts end at each route, [`outcomes`] lists to
+//! matchers name, and why. [`where_alerts_go`] says to which receivers the alerts of alerting rules
+//! go, [`routes`] which alerts end at each route, [`outcomes`] lists to
 //! which receivers alerts go, and [`compare`] says what changes between two configurations. They
 //! need no universe file: each makes the universes that stand for every alert itself.
 #![tactic(auto)]
@@ -11,18 +12,22 @@
 mod compare_inputs;
 mod lint_inputs;
 mod report_inputs;
+mod where_inputs;
 
 pub use compare_inputs::CompareInputs;
 pub use lint_inputs::LintInputs;
 pub use report_inputs::ReportInputs;
+pub use where_inputs::WhereInputs;
 
 // The universes that stand for the alerts, and the outcomes.
 mod all_outcomes;
 mod configs;
 mod made;
 
-// The receivers that are asked about.
+// The receivers that are asked about, the silences that are active, and the outcomes of rules.
+mod active_silences;
 mod receivers;
+mod rules_outcomes;
 
 // What `lint` finds.
 mod listed_findings;
@@ -33,8 +38,10 @@ mod comparing;
 mod linting;
 mod outcomes_report;
 mod routes_report;
+mod where_report;
 
 pub use comparing::compare;
 pub use linting::lint;
 pub use outcomes_report::outcomes;
 pub use routes_report::routes;
+pub use where_report::where_alerts_go;

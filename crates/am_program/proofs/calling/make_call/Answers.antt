@@ -12,10 +12,18 @@ returns-in-Lint g c = record {
   ) at c.lint.ensures.kept);
 }
 
+pub returns-in-Where : goal.returns-in-Where
+returns-in-Where g c = record {
+  kept = rw c.in-Where.is (nothing_found c.nothing_found.ensures
+      (rw (c.as_slice.ensures.value, c.alphabet_of-in-Where.ensures, c.form_of-form.ensures)
+      at (rw (c.as_deref-given.ensures.value, c.bytes_of.ensures, c.files_of.ensures)
+      at c.where_alerts_go.ensures.kept)));
+}
+
 pub returns-in-Routes : goal.returns-in-Routes
 returns-in-Routes g c = record {
-  kept = rw c.in-Routes.is (nothing_found c.nothing_found.ensures
-      (rw (c.as_slice.ensures.value, c.alphabet_of-in-Routes.ensures, c.form_of-form.ensures)
+  kept = rw c.in-Routes.is (nothing_found c.nothing_found-in-Routes.ensures
+      (rw (c.as_slice-in-Routes.ensures.value, c.alphabet_of-in-Routes.ensures, c.form_of-form.ensures)
       at (rw (c.as_deref-given.ensures.value, c.config.ensures.bytes, c.files_of.ensures)
       at c.routes.ensures.kept)));
 }
@@ -24,7 +32,7 @@ pub returns-in-Compare : goal.returns-in-Compare
 returns-in-Compare g c = record {
   kept = rw c.in-Compare.is (so_many_found c.something_found.ensures
       (rw (c.alphabet_of-in-Compare.ensures, c.form_of-form.ensures)
-      at (rw (c.as_deref-given.ensures.value, c.bytes_of.ensures, c.bytes_of-in-Compare.ensures)
+      at (rw (c.as_deref-given.ensures.value, c.bytes_of-in-Compare.ensures, c.bytes_of-in-Compare-2.ensures)
       at c.compare.ensures.kept)));
 }
 

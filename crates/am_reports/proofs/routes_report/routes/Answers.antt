@@ -1,10 +1,7 @@
 -- The faults of the inputs come first, and the report is what is written.
-use Rattle.std.proofs.Common.{◌≡◌, ◌==◌, ℕ, List, [], ◌∷◌, map, length, true, false, refl, ap, ◌∙◌}
-use Rattle.std.proofs.Common.{Option, Some, None, Bor, string_bytes, arith}
+use Rattle.std.proofs.Common.{◌∷◌, map, Some, refl, ap, ◌∙◌, string_bytes}
 use Rattle.std.specs.Prelude.{option_copied}
-use Rattle.std.proofs.lemmas.Bool.Decides.{nat_tests}
 use Rattle.am_json.specs.Reading.{refusal_of}
-use Rattle.am_config.specs.ConfigFile.{Configuration}
 use Rattle.am_config.specs.ConfigView.{config_view}
 use Rattle.am_files.proofs.FirstFaults.{first_of_more}
 use Rattle.am_files.proofs.Promises.{refused, written, nothing_told}
@@ -14,24 +11,12 @@ use Rattle.am_every_alert.specs.EveryAlert.{IsAlertOf}
 use Rattle.am_route_alerts.specs.FoundView.{route_alerts_view}
 use Rattle.am_route_alerts.proofs.ReceiverLines.{receivers_declared}
 use Rattle.am_reports.specs.ReportInputs.{ReportInputs, report_input_stages}
-use Rattle.am_reports.specs.AskedReceivers.{ArePositions, AreAsked, receivers_stage}
+use Rattle.am_reports.specs.AskedReceivers.{AreAsked, receivers_stage}
 use Rattle.am_reports.specs.RoutesReport.{routes_promise, RefusesRoutes}
+use Rattle.am_reports.proofs.AskedNames.{none_asked, some_asked}
 use Rattle.am_reports.proofs.LaterFaults.{names_refused, routes_refused}
 use Rattle.am_reports.proofs.routes_report.routes.Goals as goal
 use Rattle.am_reports.proofs.routes_report.routes.Goals.{then-is_empty, else-is_empty}
-
--- the receivers that are asked about, if no names are given, and if some are
-none_asked : (c : Configuration) (names : List (Bor (List ℕ))) (asked : Option (List ℕ))
-    → true ≡ (length names == 0) → asked ≡ None → AreAsked c (map (λ name. name.now) names) asked
-none_asked c [] asked none is = is
-none_asked c (name ∷ names) asked none is = absurd (grind (arith, nat_tests))
-
-some_asked : (c : Configuration) (names : List (Bor (List ℕ))) (asked : Option (List ℕ))
-    (positions : List ℕ) → false ≡ (length names == 0)
-    → ArePositions c (map (λ name. name.now) names) positions → asked ≡ Some positions
-    → AreAsked c (map (λ name. name.now) names) asked
-some_asked c [] asked positions some are is = absurd (grind (arith, nat_tests))
-some_asked c (name ∷ names) asked positions some are is = (positions, are, is)
 
 pub returns-in_err-read : goal.returns-in_err-read
 returns-in_err-read g c =
