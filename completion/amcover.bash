@@ -11,7 +11,7 @@ _amcover() {
         before=${COMP_WORDS[COMP_CWORD - 2]}
     fi
     case $before in
-    --alerts | --check | --config | --from | --new | --old | --silences | --universe)
+    --alerts | --check | --config | --from | --new | --old | --rules | --silences | --universe)
         compopt -o filenames -o default 2> /dev/null
         while IFS= read -r it; do
             COMPREPLY+=("$it")
@@ -23,10 +23,11 @@ _amcover() {
         ;;
     esac
     if ((COMP_CWORD == 1)); then
-        options="lint routes compare outcomes ask dead receivers explain alerts universe --help --version"
+        options="lint where routes compare outcomes ask dead receivers explain alerts universe --help --version"
     else
         case ${COMP_WORDS[1]} in
         lint) options="--config --silences --alerts --at --universe --ascii --json --help" ;;
+        where) options="--config --rules --receiver --silences --at --universe --ascii --json --help" ;;
         routes) options="--config --receiver --universe --ascii --json --help" ;;
         compare) options="--old --new --universe --ascii --json --help" ;;
         outcomes) options="--config --universe --ascii --json --help" ;;
