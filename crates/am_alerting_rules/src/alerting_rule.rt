@@ -4,9 +4,11 @@
 ghost use Rattle.std.specs.Prelude.{◌≡◌, ◌≢◌, ◌==◌, [], ◌∷◌, ◌++◌, length, map, IfOk};
 ghost use Rattle.std.specs.List.{AllByRecursion, IsDistinct, list_any};
 ghost use Rattle.am_universe.specs.Text.{same_text};
+ghost use Rattle.am_list_files.specs.AlertsFile.{labels_of};
 ghost use Rattle.am_alerting_rules.specs.RuleAlerts.{fixed_labels, is_template};
 ghost use Rattle.am_alerting_rules.specs.RuleView.{pairs_view};
 
+use am_universe::LabelSet;
 use std::alloc::{AllocError, Global};
 use std::marker::Model;
 
@@ -179,6 +181,22 @@ impl AlertingRule {
             }
         }
         Ok(found)
+    }
+
+    /// Returns the label set of an alert of the rule that has these labels alone. Fails only if
+    /// memory runs out.
+    pub fn fixed_set(&self, alloc: Global) -> Result<LabelSet, AllocError>
+        ensures set { IfOk result (λ set. set ≡ labels_of (fixed_labels self.now)) }
+    {
+        let fixed = self.fixed_labels(alloc)?;
+        let mut set = LabelSet::empty(alloc);
+        for label in &fixed {
+            set.put(
+                String::from_str(alloc, label.0)?,
+                String::from_str(alloc, label.1)?,
+            )?;
+        }
+        Ok(set)
     }
 }
 
