@@ -78,14 +78,14 @@ module _ (old new : Configuration) (s : LabelMap) where
       → (not b || not (length ks == 0)) ≡ false
   no_change_from b ks same none = rw (same, none) refl
 
-  pub alike_from_no_change : (first : List ℕ)
+  pub alike_from_no_change : {C : Type 0} (first : C)
       → is_change old new (outcome_of (Pair old new) s, first) ≡ false → IsHandledAlike old new s
   alike_from_no_change first e =
       let parts = no_change_parts names_are_same (differing_in pairs) e in
       alike_by_routes
       ∙ (λ i. parts.0 i && (sym (in_order parts.0) ∙ same_if_none_differs pairs parts.1) i)
 
-  pub no_change_from_alike : (first : List ℕ) → IsHandledAlike old new s
+  pub no_change_from_alike : {C : Type 0} (first : C) → IsHandledAlike old new s
       → is_change old new (outcome_of (Pair old new) s, first) ≡ false
   no_change_from_alike first alike =
       let parts = and_parts names_are_same
@@ -95,9 +95,6 @@ module _ (old new : Configuration) (s : LabelMap) where
       (none_differs_if_same pairs (in_order parts.0 ∙ parts.1))
 
 -- ---- Receivers that lose or gain alerts.
-
-abbrev Change : Type 0
-Change = List (List ℕ) × List ℕ
 
 -- the first item that passes a test is one of them, and passes
 module _ {X : Type 0} (test : X → Bool) where
@@ -152,25 +149,29 @@ module _ {X Y : Type 0} (f : X → Option Y) where
   given_there (z ∷ xs) x y (inr i) e =
       behind_given (f z) (filter_map f xs) y (given_there xs x y i e)
 
-module _ (names others : List (List ℕ) → List (List ℕ)) where
-  abbrev has_only : List ℕ → Change → Bool
+-- the lists of a change, and what stands beside them
+abbrev pub Change : Type 0 → Type 0
+Change C = List (List ℕ) × C
+
+module _ {C : Type 0} (names others : List (List ℕ) → List (List ℕ)) where
+  abbrev has_only : List ℕ → Change C → Bool
   has_only name change = is_only_among (names change.0) (others change.0) name
 
   -- each receiver that is found stands with the choice of a change that has it on this side only
-  pub only_from : (changes : List Change) (receivers : List (List ℕ)) (found : List ℕ × List ℕ)
+  pub only_from : (changes : List (Change C)) (receivers : List (List ℕ)) (found : List ℕ × C)
       → IsIn (first_on_one_side names others changes receivers) found
-      → IsIn receivers found.0 × (change : Change) × IsIn changes change
+      → IsIn receivers found.0 × (change : Change C) × IsIn changes change
       × (change.1 ≡ found.1)
       × (is_only_among (names change.0) (others change.0) found.0 ≡ true)
   only_from changes receivers found i =
-      let r = given_by (λ name. option_map (λ (change : Change). (name, change.1))
+      let r = given_by (λ name. option_map (λ (change : Change C). (name, change.1))
       (find (has_only name) changes)) receivers found i in
       by r.0 r.1 (find (has_only r.0) changes) refl r.2
     where
-      by : (name : List ℕ) → IsIn receivers name → (o : Option Change)
+      by : (name : List ℕ) → IsIn receivers name → (o : Option (Change C))
           → find (has_only name) changes ≡ o
-          → option_map (λ (change : Change). (name, change.1)) o ≡ Some found
-          → IsIn receivers found.0 × (change : Change) × IsIn changes change
+          → option_map (λ (change : Change C). (name, change.1)) o ≡ Some found
+          → IsIn receivers found.0 × (change : Change C) × IsIn changes change
           × (change.1 ≡ found.1)
           × (is_only_among (names change.0) (others change.0) found.0 ≡ true)
       by name there None e is = absurd cc
@@ -180,14 +181,14 @@ module _ (names others : List (List ℕ) → List (List ℕ)) where
           rw (← same) (there, change, at.0, refl, at.1)
 
   -- each receiver that some change has on this side only is found
-  pub only_there : (changes : List Change) (receivers : List (List ℕ)) (name : List ℕ)
-      (change : Change) → IsIn receivers name → IsIn changes change
+  pub only_there : (changes : List (Change C)) (receivers : List (List ℕ)) (name : List ℕ)
+      (change : Change C) → IsIn receivers name → IsIn changes change
       → is_only_among (names change.0) (others change.0) name ≡ true
-      → IsIn (map (λ (f : List ℕ × List ℕ). f.0) (first_on_one_side names others changes receivers)) name
+      → IsIn (map (λ (f : List ℕ × C). f.0) (first_on_one_side names others changes receivers)) name
   only_there changes receivers name change there i only =
       let first = in_find (has_only name) changes change i only in
-      IsIn-map (λ (f : List ℕ × List ℕ). f.0) (first_on_one_side names others changes receivers)
+      IsIn-map (λ (f : List ℕ × C). f.0) (first_on_one_side names others changes receivers)
       (name, first.0.1)
-      (given_there (λ name. option_map (λ (change : Change). (name, change.1))
+      (given_there (λ name. option_map (λ (change : Change C). (name, change.1))
       (find (has_only name) changes)) receivers name (name, first.0.1) there
-      (ap (option_map (λ (change : Change). (name, change.1))) first.1))
+      (ap (option_map (λ (change : Change C). (name, change.1))) first.1))

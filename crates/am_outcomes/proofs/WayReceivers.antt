@@ -11,10 +11,10 @@ use Rattle.am_config.specs.Path.{route_at}
 use Rattle.am_eval.specs.Routing.{Child, ends_at, children_seen, ends_tried, tried, or_own_path}
 use Rattle.am_eval.specs.Routing.{is_last, receiver_at, ends}
 use Rattle.am_differences.specs.Options.{differing_options}
-use Rattle.am_outcomes.specs.Configurations.{Configurations, One, Pair, Silenced, tried_of}
-use Rattle.am_outcomes.specs.Configurations.{matchers_of_each}
+use Rattle.am_outcomes.specs.Configurations.{Configurations, One, Pair, Silenced, Ends, Matched}
+use Rattle.am_outcomes.specs.Configurations.{matchers_of_each, tried_of}
 use Rattle.am_outcomes.specs.Handling.{route_pairs}
-use Rattle.am_outcomes.specs.Outcomes.{is_silenced_by, outcome_of}
+use Rattle.am_outcomes.specs.Outcomes.{is_silenced_by, one_if, outcome_of}
 use Rattle.am_outcomes.specs.Ways.{way_at, child_way, routes_way, list_way, way}
 
 -- the ends at the children behind one, which may be the last that is tried
@@ -36,7 +36,10 @@ two_outcomes old new before after =
 
 abbrev silenced_outcome : Configuration → List (List ℕ) → Bool → List (List ℕ)
 silenced_outcome c paths silenced =
-    filter_map (receiver_at c) paths ∷ cond silenced (0 ∷ []) [] ∷ []
+    filter_map (receiver_at c) paths ∷ one_if silenced ∷ []
+
+abbrev ends_outcome : Configuration → List (List ℕ) → List (List ℕ)
+ends_outcome c paths = filter_map (receiver_at c) paths ∷ paths
 
 module _ (s z : LabelMap) where
   -- the route is matched by both or by neither, what follows its way is the same, and so are its
@@ -108,6 +111,10 @@ module _ (s z : LabelMap) where
       ∙ append_assoc (way_at z c.root) (routes_way z cs) y) in
       let later = same_ends cs x y one.1 in ((one.2, later.0), later.1)
 
+  -- the first list matches both, or neither
+  one_first : (a b : Bool) (x y : List Bool) → a ∷ x ≡ b ∷ y → a ≡ b
+  one_first a b x y e = cc
+
   -- some silence matches both, or none matches either
   one_list : (a b c d : Bool) (x y : List Bool) → (x ≡ y → c ≡ d)
       → a ∷ cond a [] x ≡ b ∷ cond b [] y → (a || c) ≡ (b || d)
@@ -136,3 +143,8 @@ module _ (s z : LabelMap) where
       (list_way z (matchers_of_each silences)) e in
       let silenced = same_silenced silences same.1 in
       λ j. silenced_outcome c (same.0.0 j) (silenced j)
+  same_on_way (Ends c) e = ap (ends_outcome c) (same_ends (c ∷ []) [] [] e).0.0
+  same_on_way (Matched ms) e =
+      ap (λ matched. one_if matched ∷ [])
+      (one_first (all_hold s ms) (all_hold z ms) (cond (all_hold s ms) [] [])
+      (cond (all_hold z ms) [] []) e)

@@ -12,10 +12,9 @@ use Rattle.am_report_texts.specs.declared.lines.Level.TheVariants as level_is
 abbrev pub list_at : ℕ → List (List ℕ) → List ℕ
 list_at i lists = unwrap_or (slice_get lists i) []
 
--- The label set of the first choice, which ends a line.
-abbrev pub first_pieces : List Label → List ℕ → List Piece
-first_pieces u first =
-    Words (codes " ") ∷ Value field_is.Labels (Labels (label_pairs u first)) ∷ []
+-- A label set, behind other pieces of a line.
+abbrev pub labels_pieces : List (List ℕ × List ℕ) → List Piece
+labels_pieces labels = Words (codes " ") ∷ Value field_is.Labels (Labels labels) ∷ []
 
 -- The line of an outcome under one configuration: the names of its receivers, and the label set of
 -- its first choice. The report has all lines, and then `# end`.
@@ -25,7 +24,7 @@ abbrev pub outcome_line : List Label → Configuration → List (List ℕ) × Li
 outcome_line u c outcome = record {
   level = level_is.Plain;
   pieces = Value field_is.Receivers (Texts (receiver_names c (list_at 0 outcome.0)))
-      ∷ first_pieces u outcome.1;
+      ∷ labels_pieces (label_pairs u outcome.1);
 }
 
 abbrev pub outcomes_report : List Label → Configuration → List (List (List ℕ) × List ℕ) → Report

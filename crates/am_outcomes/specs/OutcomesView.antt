@@ -10,7 +10,6 @@ use Rattle.am_config.specs.declared.route.Route.{Route}
 use Rattle.am_report_texts.specs.ReceiverNames.{receiver_names}
 use Rattle.am_outcomes.specs.Configurations.{Tried, matchers_of_each, silences_view}
 use Rattle.am_outcomes.specs.declared.configs.ActiveSilence.{ActiveSilence}
-use Rattle.am_outcomes.specs.declared.changes.Change.{Change}
 use Rattle.am_outcomes.specs.declared.changes.FoundReceiver.{FoundReceiver}
 use Rattle.am_outcomes.specs.declared.changes.Side.{Side}
 use Rattle.am_outcomes.specs.OutcomeLines.{list_at}
@@ -33,15 +32,16 @@ lists_view lists = map (λ list. list.items) lists
 abbrev pub entry_view : Vec (Vec ℕ) × List ℕ → List (List ℕ) × List ℕ
 entry_view entry = (lists_view entry.0.items, entry.1)
 
--- Changes, and receivers that lose or gain alerts.
-abbrev pub change_view : Change → List (List ℕ) × List ℕ
-change_view change = (lists_view change.lists.now, change.first.now)
+-- Labels, each with its text; and receivers that lose or gain alerts, each with the labels of one
+-- of these alerts.
+abbrev pub labels_view : List (Bor (List ℕ) × Bor (List ℕ)) → List (List ℕ × List ℕ)
+labels_view labels = map (λ l. (l.0.now, l.1.now)) labels
 
-abbrev pub changes_view : List Change → List (List (List ℕ) × List ℕ)
-changes_view changes = map change_view changes
+abbrev pub found_view : FoundReceiver → List ℕ × List (List ℕ × List ℕ)
+found_view found = (found.name.now, found.change.now.labels)
 
-abbrev pub founds_view : List FoundReceiver → List (List ℕ × List ℕ)
-founds_view found = map (λ f. (f.name.now, f.first.now)) found
+abbrev pub founds_view : List FoundReceiver → List (List ℕ × List (List ℕ × List ℕ))
+founds_view found = map found_view found
 
 -- The names of the receivers of an outcome on one side.
 abbrev pub names_on : Side → List (List ℕ) → List (List ℕ)

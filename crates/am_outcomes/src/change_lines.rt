@@ -1,28 +1,21 @@
 //! The report of a comparison.
 
-ghost use Rattle.std.specs.Prelude.{◌≡◌, map, IfOk};
-ghost use Rattle.am_labels.specs.Space.{Space};
+ghost use Rattle.std.specs.Prelude.{◌≡◌, map, option_map, IfOk};
 ghost use Rattle.am_config.specs.ConfigView.{config_view};
 ghost use Rattle.am_report_texts.specs.LineView.{line_view, pieces_view, report_view};
-ghost use Rattle.am_outcomes.specs.Configurations.{Pair};
-ghost use Rattle.am_outcomes.specs.Outcomes.{outcomes_of};
 ghost use Rattle.am_differences.specs.Options.{option_name};
-ghost use Rattle.am_outcomes.specs.OutcomesView.{changes_view, founds_view, lists_view};
-ghost use Rattle.am_outcomes.specs.ChangeLines.{AreWhole, change_line, changed_pieces};
+ghost use Rattle.am_outcomes.specs.OutcomesView.{found_view, founds_view, labels_view, lists_view};
+ghost use Rattle.am_outcomes.specs.ChangeLines.{change_line, change_pieces, changed_pieces};
 ghost use Rattle.am_outcomes.specs.ChangeLines.{options_pieces};
 ghost use Rattle.am_outcomes.specs.ChangeLines.{changes_report, count_changes, count_pieces};
 ghost use Rattle.am_outcomes.specs.ChangeLines.{receiver_counts, receiver_line};
 
-use crate::changes::{Change, FoundReceiver, Side, changes_of, first_on_one_side};
-use crate::found::Outcomes;
+use crate::changes::{FoundReceiver, ShownChange, Side, first_on_one_side};
 use crate::handling::have_same_names;
 use crate::outcome_lines::list_at;
 use am_config::Config;
 use am_differences::{option_name, part_lines};
-use am_report_texts::{
-    Field, Level, Line, Name, Piece, Report, Shown, label_set, plural, receiver_names,
-};
-use am_universe::Universe;
+use am_report_texts::{Field, Level, Line, Name, Piece, Report, Shown, plural, receiver_names};
 use std::alloc::{AllocError, Global};
 
 /// What differs between two configurations.
@@ -33,23 +26,19 @@ pub struct Comparison<'a> {
     pub changes: usize,
 }
 
-/// Compares two configurations. The report has a line for each receiver that loses alerts, then for
-/// each that gains some, for each outcome that is a change, and for each part of the files that
-/// differs; and then the counts. The outcomes must be those of a space with the labels of the
-/// universe. Fails only if memory runs out.
-pub fn compare_outcomes<'a>(
+/// Compares two configurations, given the changes. The report has a line for each receiver that
+/// loses alerts, then for each that gains some, for each change, and for each part of the files
+/// that differs; and then the counts. Fails only if memory runs out.
+pub fn compare_changes<'a>(
     alloc: Global,
-    universe: &'a Universe,
     old: &'a Config,
     new: &'a Config,
-    outcomes: &'a Outcomes,
+    changes: &[ShownChange<'a>],
 ) -> Result<Comparison<'a>, AllocError>
-    requires { (s : Space) × (s.labels ≡ universe.now) × (outcomes.now
-        ≡ outcomes_of s (Pair (config_view old.now) (config_view new.now))) }
     ensures report { IfOk result (λ compared. report_view compared.report
-        ≡ changes_report universe.now (config_view old.now) (config_view new.now) outcomes.now) }
+        ≡ changes_report (config_view old.now) (config_view new.now) changes.now) }
     ensures changes { IfOk result (λ compared. compared.changes
-        ≡ count_changes (config_view old.now) (config_view new.now) outcomes.now) }
+        ≡ count_changes (config_view old.now) (config_view new.now) changes.now) }
 {
     let (before, after) = (
         Side {
@@ -61,12 +50,11 @@ pub fn compare_outcomes<'a>(
             list: 1,
         },
     );
-    let changes = changes_of(alloc, old, new, outcomes)?;
-    let lost = first_on_one_side(alloc, before, after, changes.as_slice())?;
-    let gained = first_on_one_side(alloc, after, before, changes.as_slice())?;
-    let mut lines = receiver_lines(alloc, universe, "loses", lost.as_slice())?;
-    lines.append(&mut receiver_lines(alloc, universe, "gains", gained.as_slice())?)?;
-    let mut changed = change_lines(alloc, universe, old, new, changes.as_slice())?;
+    let lost = first_on_one_side(alloc, before, after, changes)?;
+    let gained = first_on_one_side(alloc, after, before, changes)?;
+    let mut lines = receiver_lines(alloc, "loses", lost.as_slice())?;
+    lines.append(&mut receiver_lines(alloc, "gains", gained.as_slice())?)?;
+    let mut changed = change_lines(alloc, old, new, changes)?;
     changed.append(&mut part_lines(alloc, old, new)?)?;
     let count = changed.len();
     lines.append(&mut changed)?;
@@ -80,57 +68,100 @@ pub fn compare_outcomes<'a>(
 /// Returns a line for each receiver that loses or gains alerts, as the word says.
 fn receiver_lines<'a>(
     alloc: Global,
-    universe: &'a Universe,
     word: &'static str,
-    found: &[FoundReceiver<'a>],
+    found: &[FoundReceiver<'a, '_>],
 ) -> Result<Vec<Line<'a>>, AllocError>
-    requires { AreWhole universe.now (founds_view found.now) }
     ensures { IfOk result (λ lines. map line_view lines.items
-        ≡ map (receiver_line universe.now word.now) (founds_view found.now)) }
+        ≡ map (receiver_line word.now) (founds_view found.now)) }
 {
     let mut lines = Vec::with_capacity(alloc, found.len())?;
     for receiver in found {
-        let first = label_set(alloc, universe, receiver.first)?;
-        lines.push(Line {
-            level: Level::Plain,
-            pieces: vec![in alloc;
-                Piece::Value(Field::Receiver, Shown::Text(receiver.name)),
-                Piece::Words(" "),
-                Piece::Value(Field::Kind, Shown::Word(word)),
-                Piece::Words(" alerts such as"),
-                Piece::Words(" "),
-                Piece::Value(Field::Labels, first),
-            ]?,
-        })?;
+        lines.push(receiver_line(alloc, word, receiver)?)?;
     }
     Ok(lines)
+}
+
+fn receiver_line<'a>(
+    alloc: Global,
+    word: &'static str,
+    found: &FoundReceiver<'a, '_>,
+) -> Result<Line<'a>, AllocError>
+    ensures { IfOk result (λ line. line_view line
+        ≡ receiver_line word.now (found_view found.now)) }
+{
+    let change = found.change;
+    let labels = change.labels.as_slice().to_vec(alloc)?;
+    Ok(Line {
+        level: Level::Plain,
+        pieces: vec![in alloc;
+            Piece::Value(Field::Receiver, Shown::Text(found.name)),
+            Piece::Words(" "),
+            Piece::Value(Field::Kind, Shown::Word(word)),
+            Piece::Words(" alerts such as"),
+            Piece::Words(" "),
+            Piece::Value(Field::Labels, Shown::Labels(labels)),
+        ]?,
+    })
 }
 
 /// Returns a line for each change.
 fn change_lines<'a>(
     alloc: Global,
-    universe: &'a Universe,
     old: &'a Config,
     new: &'a Config,
-    changes: &[Change<'a>],
+    changes: &[ShownChange<'a>],
 ) -> Result<Vec<Line<'a>>, AllocError>
-    requires { AreWhole universe.now (changes_view changes.now) }
     ensures { IfOk result (λ lines. map line_view lines.items
-        ≡ map (change_line universe.now (config_view old.now) (config_view new.now))
-        (changes_view changes.now)) }
+        ≡ map (change_line (config_view old.now) (config_view new.now)) changes.now) }
 {
     let mut lines = Vec::with_capacity(alloc, changes.len())?;
     for change in changes {
-        let mut pieces = changed_pieces(alloc, old, new, change.lists)?;
-        let first = label_set(alloc, universe, change.first)?;
-        pieces.push(Piece::Words(" "))?;
-        pieces.push(Piece::Value(Field::Labels, first))?;
-        lines.push(Line {
-            level: Level::Plain,
-            pieces,
-        })?;
+        lines.push(change_line(alloc, old, new, change)?)?;
     }
     Ok(lines)
+}
+
+fn change_line<'a>(
+    alloc: Global,
+    old: &'a Config,
+    new: &'a Config,
+    change: &ShownChange<'a>,
+) -> Result<Line<'a>, AllocError>
+    ensures { IfOk result (λ line. line_view line
+        ≡ change_line (config_view old.now) (config_view new.now) change.now) }
+{
+    let changed = changed_pieces(alloc, old, new, change.lists)?;
+    let labels = change.labels.as_slice().to_vec(alloc)?;
+    Ok(Line {
+        level: Level::Plain,
+        pieces: change_pieces(alloc, change.group, labels, changed)?,
+    })
+}
+
+/// Returns the pieces of the line of a change, given those that say what changes.
+fn change_pieces<'a>(
+    alloc: Global,
+    group: Option<&'a str>,
+    labels: Vec<(&'a str, &'a str)>,
+    changed: Vec<Piece<'a>>,
+) -> Result<Vec<Piece<'a>>, AllocError>
+    ensures { IfOk result (λ pieces. pieces_view pieces.items ≡ change_pieces
+        (option_map (λ g. g.now) group.entry) (labels_view labels.entry.items)
+        (pieces_view changed.entry.items)) }
+{
+    let (mut changed, labels) = (changed, Piece::Value(Field::Labels, Shown::Labels(labels)));
+    let Some(group) = group else {
+        changed.append(&mut vec![in alloc; Piece::Words(" "), labels]?)?;
+        return Ok(changed);
+    };
+    let mut pieces = vec![in alloc;
+        Piece::Value(Field::Group, Shown::Text(group)),
+        Piece::Words(" "),
+        labels,
+        Piece::Words(": "),
+    ]?;
+    pieces.append(&mut changed)?;
+    Ok(pieces)
 }
 
 /// Returns the pieces that say what changes.

@@ -13,7 +13,7 @@ ghost use Rattle.am_outcomes.specs.FirstsOfWays.{AreFirstsOfWays};
 ghost use Rattle.am_outcomes.specs.Outcomes.{outcomes_of};
 ghost use Rattle.am_outcomes.specs.Ways.{HaveManyWays};
 
-use crate::configs::Configs;
+use crate::configs::{ActiveSilence, Configs};
 use crate::handling::outcome_of;
 use crate::ways::firsts_of_ways;
 use am_labels::Space;
@@ -67,7 +67,9 @@ impl Outcomes {
 /// set goes, by their positions. Under two, it is this list under each, and the positions of the
 /// options that differ at ends with receivers of the same name. With silences, it is the list of
 /// the receivers, and a second list that has one item if a silence matches the label set, and none
-/// if not.
+/// if not. Where the ends are looked for, it is the list of the receivers, and then the path of
+/// each end. For a list of matchers, it is one list that has one item if they match the label set,
+/// and none if not.
 pub fn find_outcomes(
     alloc: Global,
     space: &Space,
@@ -99,9 +101,18 @@ fn firsts_of_each(
         (HaveManyWays space.now (tried_of (configurations_of configs.entry)))) }
 {
     match configs {
-        Configs::One(config) => firsts_of_ways(alloc, space, &[config], &[]),
+        Configs::One(config) | Configs::Ends(config) => {
+            firsts_of_ways(alloc, space, &[config], &[])
+        }
         Configs::Pair(old, new) => firsts_of_ways(alloc, space, &[old, new], &[]),
         Configs::Silenced(config, silences) => firsts_of_ways(alloc, space, &[config], silences),
+        Configs::Matched(matchers) => {
+            let list = ActiveSilence {
+                position: 0,
+                matchers,
+            };
+            firsts_of_ways(alloc, space, &[], &[list])
+        }
     }
 }
 

@@ -1,19 +1,20 @@
 //! The outcomes of alerts: at which routes they end, what these do with them, and whether a silence
-//! hides them.
+//! or a list of matchers matches them.
 
-ghost use Rattle.std.specs.Prelude.{◌≡◌, [], ◌∷◌, find, map, option_map, if◌then◌else◌, IfOk};
+ghost use Rattle.std.specs.Prelude.{◌≡◌, ◌∷◌, find, map, option_map, IfOk};
 ghost use Rattle.am_config.specs.ConfigFile.{receiver_of};
 ghost use Rattle.am_config.specs.ConfigView.{config_view};
 ghost use Rattle.am_config.specs.RouteView.{route_view};
+ghost use Rattle.am_eval.specs.Routing.{ends, receivers};
 ghost use Rattle.am_report_texts.specs.ReceiverNames.{receiver_names};
 ghost use Rattle.am_outcomes.specs.Configurations.{configurations_of, silences_view};
 ghost use Rattle.am_outcomes.specs.Handling.{handling_routes, has_receiver, route_pairs};
 ghost use Rattle.am_outcomes.specs.Handling.{same_names, without_first};
-ghost use Rattle.am_outcomes.specs.Outcomes.{is_silenced_by, outcome_of};
+ghost use Rattle.am_outcomes.specs.Outcomes.{is_silenced_by, one_if, outcome_of};
 ghost use Rattle.am_outcomes.specs.OutcomesView.{lists_view, pairs_view, routes_view};
 
 use crate::configs::{ActiveSilence, Configs};
-use am_config::{Config, Route};
+use am_config::{Config, Path, Route};
 use am_differences::differing_options;
 use am_eval::{ends, receivers_of};
 use am_report_texts::receiver_name;
@@ -43,25 +44,54 @@ pub(crate) fn outcome_of(
         }
         Configs::Silenced(config, silences) => {
             let receivers = receivers_of(alloc, config, set)?;
-            Ok(vec![in alloc; receivers, silenced_list(alloc, silences, set)?]?)
+            let silenced = is_silenced_by(alloc, silences, set)?;
+            Ok(vec![in alloc; receivers, one_if(alloc, silenced)?]?)
+        }
+        Configs::Ends(config) => receivers_and_ends(alloc, config, set),
+        Configs::Matched(matchers) => {
+            let matched = matchers.matches(alloc, set)?;
+            Ok(vec![in alloc; one_if(alloc, matched)?]?)
         }
     }
 }
 
-/// Returns one item if some silence matches an alert, and none if not.
-fn silenced_list(
-    alloc: Global,
-    silences: &[ActiveSilence<'_>],
-    set: &LabelSet,
-) -> Result<Vec<usize>, AllocError>
-    ensures { IfOk result (λ list. list.items
-        ≡ (if is_silenced_by set.now (silences_view silences.now) then 0 ∷ [] else [])) }
+/// Returns one item if something is so, and none if not.
+fn one_if(alloc: Global, is_so: bool) -> Result<Vec<usize>, AllocError>
+    ensures { IfOk result (λ list. list.items ≡ one_if is_so) }
 {
-    if is_silenced_by(alloc, silences, set)? {
+    if is_so {
         Ok(vec![in alloc; 0]?)
     } else {
         Ok(Vec::new(alloc))
     }
+}
+
+/// Returns the list of the receivers of an alert, and then the path of each of its ends.
+fn receivers_and_ends(
+    alloc: Global,
+    config: &Config,
+    set: &LabelSet,
+) -> Result<Vec<Vec<usize>>, AllocError>
+    ensures { IfOk result (λ lists. lists_view lists.items
+        ≡ receivers set.now (config_view config.now) ∷ ends set.now (config_view config.now)) }
+{
+    let paths = ends(alloc, config, set)?;
+    let mut lists = vec![in alloc; receivers_of(alloc, config, set)?]?;
+    for path in paths.as_slice() {
+        lists.push(positions_of(alloc, path)?)?;
+    }
+    Ok(lists)
+}
+
+/// Returns the positions of a path, from the top down.
+fn positions_of(alloc: Global, path: &Path) -> Result<Vec<usize>, AllocError>
+    ensures { IfOk result (λ positions. positions.items ≡ path.now) }
+{
+    let mut positions = Vec::with_capacity(alloc, path.len())?;
+    for position in path.steps() {
+        positions.push(usize::from(*position))?;
+    }
+    Ok(positions)
 }
 
 fn is_silenced_by(

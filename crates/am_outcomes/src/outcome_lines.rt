@@ -1,6 +1,6 @@
 //! The lines of outcomes under one configuration.
 
-ghost use Rattle.std.specs.Prelude.{◌≡◌, map, IfOk};
+ghost use Rattle.std.specs.Prelude.{◌≡◌, IfOk};
 ghost use Rattle.am_universe.specs.Universe.{sizes};
 ghost use Rattle.am_universe.specs.Choice.{IsWhole};
 ghost use Rattle.am_labels.specs.Space.{Space};
@@ -65,8 +65,8 @@ fn outcome_line<'a>(
 }
 
 /// The list of an outcome at a position, or no items if it has no such list.
-pub(crate) fn list_at(lists: &[Vec<usize>], i: usize) -> &[usize]
-    ensures { result.now ≡ list_at i (lists_view lists.now) }
+pub fn list_at(lists: &[Vec<usize>], i: usize) -> &[usize]
+    ensures list { result.now ≡ list_at i (lists_view lists.now) }
 {
     match lists.get(i) {
         Some(list) => list.as_slice(),

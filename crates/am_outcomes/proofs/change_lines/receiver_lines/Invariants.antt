@@ -8,4 +8,4 @@ use Rattle.am_outcomes.proofs.change_lines.receiver_lines.Given as goal
 abbrev pub invariant-loop-receiver : goal.invariant-loop-receiver
 invariant-loop-receiver l =
     map line_view l.lines.items
-    ≡ map (receiver_line l.universe l.word) (founds_view (take l.receiver-index l.found))
+    ≡ map (receiver_line l.word) (founds_view (take l.receiver-index l.found))

@@ -10,4 +10,4 @@ abbrev pub invariant-loop-receiver : goal.invariant-loop-receiver
 invariant-loop-receiver l =
     is_among (receiver_names (config_view l.side.config.now) (drop l.receiver-index l.receiver-items))
     l.name
-    ≡ is_among (names_on l.side (lists_view l.change.lists.now)) l.name
+    ≡ is_among (names_on l.side (lists_view l.lists)) l.name
