@@ -3,11 +3,13 @@ pub mod LabelTexts
 pub mod NarrowingLemmas
 pub mod ReceiverOutcomes
 pub mod SharedOutcomes
-pub mod ShownLabels
 pub mod ShownSets
 pub mod NarrowedLabels
 pub mod RuleAlerts
+pub mod ChoiceOutcomes
 pub mod OutcomesOfRules
+pub mod SilencedOutcomes
 pub mod RuleTexts
 pub mod RuleLaws
+pub mod RulesFound
 pub mod WhereLines

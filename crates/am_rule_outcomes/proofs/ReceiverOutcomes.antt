@@ -1,13 +1,14 @@
 -- The receivers of outcomes: those of one outcome more.
-use Rattle.std.proofs.Common.{◌≡◌, ℕ, ◌+◌, Bool, true, false, not, cond, ◌&&◌, ◌||◌, List, [], ◌∷◌, ◌++◌}
+use Rattle.std.proofs.Common.{◌≡◌, ℕ, ◌+◌, Bool, true, false, cond, ◌&&◌, ◌||◌, List, [], ◌∷◌, ◌++◌}
 use Rattle.std.proofs.Common.{map, fold, take, Some, Bor, refl, ap, sym, ◌∙◌, arith}
-use Rattle.std.specs.Prelude.{slice_get, if◌then◌else◌}
+use Rattle.std.specs.Prelude.{slice_get}
 use Rattle.std.specs.List.{list_any}
 use mathlib.Core.Bool.{beq}
 use Rattle.std.proofs.lemmas.Bool.{cases_Bool}
 use Rattle.std.proofs.lemmas.List.{map-append}
 use Rattle.std.proofs.lemmas.List.Sums.{fold-append}
 use Rattle.std.proofs.lemmas.List.Folds.{list_any-append}
+use Rattle.std.proofs.lemmas.Simd.{map-map}
 use Rattle.std.proofs.lemmas.Grind.{common_steps}
 use Rattle.std.specs.Cmp.Lexicographic.{bytes_decides, nat_list_eq_equiv}
 use Rattle.indexmap.specs.IndexSet.{insert_key}
@@ -15,51 +16,23 @@ use Rattle.am_universe.specs.Text.{same_text}
 use Rattle.am_universe.proofs.UniverseLemmas.{list_any-map}
 use Rattle.am_complete.proofs.Pushed.{one_longer}
 use Rattle.am_outcomes.specs.Outcomes.{firsts, with_first}
-use Rattle.am_rule_outcomes.specs.ReceiverOutcomes.{receivers_of, is_silenced_outcome, some_silenced, some_firing}
+use Rattle.am_rule_outcomes.specs.ReceiverOutcomes.{is_silenced_outcome, receiver_outcome}
+use Rattle.am_rule_outcomes.specs.ReceiverOutcomes.{receiver_outcomes, receivers_of, silenced_of}
+use Rattle.am_rule_outcomes.specs.ReceiverOutcomes.{some_with, with_shown}
 
 abbrev pub Outcome : Type 0
 Outcome = List (List ℕ) × List ℕ
 
 -- ---- Which receivers have an outcome that is silenced, or one that is not.
 
-abbrev pub some_where : Bool → List Outcome → List ℕ → Bool
-some_where b os rs = if b then some_silenced os rs else some_firing os rs
-
-abbrev pub is_wanted : Bool → Outcome → Bool
-is_wanted b o = if b then is_silenced_outcome o else not (is_silenced_outcome o)
-
-pub wanted : (b s : Bool) → beq s b ≡ cond b s (not s)
-wanted true true = refl
-wanted true false = refl
-wanted false true = refl
-wanted false false = refl
-
-and_true : (b : Bool) → b && true ≡ b
-and_true true = refl
-and_true false = refl
-
-and_false : (b : Bool) → b && false ≡ false
-and_false true = refl
-and_false false = refl
-
-or_false : (b : Bool) → b || false ≡ b
-or_false true = refl
-or_false false = refl
-
-any_more : {X : Type 0} (p : X → Bool) (xs : List X) (i : ℕ) (x : X) → slice_get xs i ≡ Some x
-    → list_any p (take (i + 1) xs) ≡ list_any p (take i xs) || p x
-any_more p xs i x at =
-    ap (list_any p) (sym (one_longer xs i x at))
-    ∙ grind (arith, common_steps, list_any-append p (take i xs) (x ∷ []))
-
-where_more : (b : Bool) (os : List Outcome) (i : ℕ) (o : Outcome) (rs : List ℕ)
+some_next : (b : Bool) (os : List Outcome) (i : ℕ) (o : Outcome) (rs : List ℕ)
     → slice_get os i ≡ Some o
-    → some_where b (take (i + 1) os) rs
-    ≡ some_where b (take i os) rs || (same_text (receivers_of o) rs && is_wanted b o)
-where_more true os i o rs at =
-    any_more (λ o. same_text (receivers_of o) rs && is_silenced_outcome o) os i o at
-where_more false os i o rs at =
-    any_more (λ o. same_text (receivers_of o) rs && not (is_silenced_outcome o)) os i o at
+    → some_with b (take (i + 1) os) rs
+    ≡ some_with b (take i os) rs || (same_text (receivers_of o) rs && beq (is_silenced_outcome o) b)
+some_next b os i o rs at =
+    let test : Outcome → Bool = λ o. same_text (receivers_of o) rs && beq (is_silenced_outcome o) b in
+    ap (list_any test) (sym (one_longer os i o at))
+    ∙ grind (arith, common_steps, list_any-append test (take i os) (o ∷ []))
 
 -- ---- Lists of receivers in a set.
 
@@ -96,27 +69,19 @@ module _ (eq : Key → Key → Bool) (compares : (x y : Key) → eq x y ≡ same
       → has_receivers (insert_key eq ks r) rs ≡ has_receivers ks rs || same_text rs r.now
   put_more ks r rs = put_if (list_any (eq r) ks) ks r rs (sym (alike_keys ks r))
 
--- one outcome more, whose receivers are in the set if it is wanted
+-- one outcome more, whose receivers are in the set if it is as the flag says
 pub where_put : (b : Bool) (os : List Outcome) (i : ℕ) (o : Outcome) (rs : List ℕ) (now : Bool)
-    → slice_get os i ≡ Some o → is_wanted b o ≡ true → now ≡ some_where b (take i os) rs
-    → now || same_text rs (receivers_of o) ≡ some_where b (take (i + 1) os) rs
+    → slice_get os i ≡ Some o → beq (is_silenced_outcome o) b ≡ true
+    → now ≡ some_with b (take i os) rs
+    → now || same_text rs (receivers_of o) ≡ some_with b (take (i + 1) os) rs
 where_put b os i o rs now at is so_far =
-    let r = receivers_of o in
-    (λ j. so_far j || nat_list_eq_equiv.symm rs r j)
-    ∙ ap (λ t. some_where b (take i os) rs || t)
-    (sym (ap (λ w. same_text r rs && w) is ∙ and_true (same_text r rs)))
-    ∙ sym (where_more b os i o rs at)
+    grind (arith, common_steps, cases_Bool, some_next b os i o rs at, nat_list_eq_equiv.symm rs (receivers_of o))
 
 pub where_same : (b : Bool) (os : List Outcome) (i : ℕ) (o : Outcome) (rs : List ℕ) (now : Bool)
-    → slice_get os i ≡ Some o → is_wanted b o ≡ false → now ≡ some_where b (take i os) rs
-    → now ≡ some_where b (take (i + 1) os) rs
+    → slice_get os i ≡ Some o → beq (is_silenced_outcome o) b ≡ false
+    → now ≡ some_with b (take i os) rs → now ≡ some_with b (take (i + 1) os) rs
 where_same b os i o rs now at is so_far =
-    let r = receivers_of o in
-    so_far
-    ∙ sym (ap (λ t. some_where b (take i os) rs || t)
-    (ap (λ w. same_text r rs && w) is ∙ and_false (same_text r rs))
-    ∙ or_false (some_where b (take i os) rs))
-    ∙ sym (where_more b os i o rs at)
+    grind (arith, common_steps, cases_Bool, some_next b os i o rs at)
 
 -- ---- The first outcomes with each list.
 
@@ -175,3 +140,52 @@ module _ (eq : Key → Key → Bool) (compares : (x y : Key) → eq x y ≡ same
       ∙ ap (λ rs. first_keys (firsts_with (list_any (eq r) ks) fs (rs, o.1))) is
       ∙ ap first_keys (sym (first_by (list_any (eq r) ks) os i o ks r at is are
       (sym (alike_keys eq compares ks r))))
+
+-- ---- Something else may stand for the alerts.
+
+module _ {C D : Type 0} (show : C → D) where
+  abbrev pub shown : {K : Type 0} → K × C → K × D
+  shown one = (one.0, show one.1)
+
+  keys_shown : (b : Bool) (found : List (List ℕ × C)) (one : List ℕ × C)
+      → cond b (map shown found) (map shown found ++ shown one ∷ [])
+      ≡ map shown (cond b found (found ++ one ∷ []))
+  keys_shown true found one = refl
+  keys_shown false found one = sym (map-append shown found (one ∷ []))
+
+  firsts_shown : (all found : List (List ℕ × C))
+      → fold (with_first same_text) (map shown found) (map shown all)
+      ≡ map shown (fold (with_first same_text) found all)
+  firsts_shown [] found = refl
+  firsts_shown (one ∷ all) found =
+      let there : Bool = list_any (λ (e : List ℕ × C). same_text one.0 e.0) found in
+      ap (λ b. fold (with_first same_text) (cond b (map shown found) (map shown found ++ shown one ∷ []))
+      (map shown all))
+      (list_any-map (λ (e : List ℕ × D). same_text one.0 e.0) shown found)
+      ∙ ap (λ fs. fold (with_first same_text) fs (map shown all)) (keys_shown there found one)
+      ∙ firsts_shown all (with_first same_text found one)
+
+  pub receivers_shown : (os : List (List (List ℕ) × C))
+      → receiver_outcomes (map shown os) ≡ map (with_shown show) (receiver_outcomes os)
+  receivers_shown os =
+      ap (λ keyed. map (receiver_outcome (map shown os)) (firsts same_text keyed))
+      (map-map (λ (o : List (List ℕ) × D). (receivers_of o, o.1)) shown os
+      ∙ sym (map-map shown keyed os))
+      ∙ ap (map (receiver_outcome (map shown os))) (firsts_shown (map keyed os) [])
+      ∙ each_shown (firsts same_text (map keyed os))
+    where
+      keyed : List (List ℕ) × C → List ℕ × C
+      keyed o = (receivers_of o, o.1)
+
+      each_shown : (fs : List (List ℕ × C))
+          → map (receiver_outcome (map shown os)) (map shown fs)
+          ≡ map (with_shown show) (map (receiver_outcome os) fs)
+      each_shown [] = refl
+      each_shown (f ∷ fs) =
+          let same = λ (b : Bool). list_any-map (λ (o : List (List ℕ) × D).
+          same_text (receivers_of o) f.0 && beq (is_silenced_outcome o) b) shown os in
+          λ i. (record {
+            receivers = f.0;
+            first = show f.1;
+            silenced = silenced_of (same true i) (same false i);
+          }) ∷ each_shown fs i

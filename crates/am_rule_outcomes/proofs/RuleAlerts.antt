@@ -3,14 +3,14 @@
 -- an alert, which meets the same matchers.
 use Rattle.std.proofs.Common.{◌≡◌, ◌≢◌, ◌<◌, ℕ, zero, suc, true, false, ◌++◌, length, List, [], ◌∷◌}
 use Rattle.std.proofs.Common.{map, Option, Some, None, refl, sym, ap, ◌∙◌, subst, inl, inr, arith, slice_get, IsUtf8, nat_lt}
-use Rattle.std.specs.Prelude.{unwrap_or, option_and_then, IfSome, Contains}
+use Rattle.std.specs.Prelude.{unwrap_or, option_and_then, Contains}
 use Rattle.std.specs.FinMap.{get}
 use Rattle.std.specs.List.{AllByRecursion, find, list_all}
 use Rattle.std.specs.Cmp.Lexicographic.{bytes_decides}
 use Rattle.std.proofs.lemmas.Bool.{both_ways, cases_Bool, and_parts}
 use Rattle.std.proofs.lemmas.Bool.Decides.{nat_tests}
 use Rattle.am_universe.specs.Text.{same_text}
-use Rattle.am_universe.specs.Universe.{Label, Values, IsLabel, IsUniverse, names, sizes}
+use Rattle.am_universe.specs.Universe.{Label, Values, IsUniverse, names, sizes}
 use Rattle.am_universe.specs.Choice.{admits, IsWhole}
 use Rattle.am_universe.specs.LabelSet.{LabelMap, value_of, label_set_of}
 use Rattle.am_universe.proofs.LabelSetLemmas.{value_of_declared, value_of_undeclared}
@@ -41,11 +41,12 @@ use Rattle.am_every_alert.specs.Deciding.{StandsFor, space_of}
 use Rattle.am_every_alert.proofs.SpaceAlerts.{space_choice}
 use Rattle.am_every_alert.proofs.StandingChoice.{standing_choice}
 use Rattle.am_every_alert.proofs.TreatedAlike.{front_met, rest_met, same_possible}
+use Rattle.am_every_alert.proofs.UniverseAlerts.{universe_alert}
 use Rattle.am_rule_outcomes.specs.Narrowing.{matchers_on, fixed_text, narrowing, absence_stands}
 use Rattle.am_rule_outcomes.specs.Narrowing.{are_over, narrowed}
 use Rattle.am_rule_outcomes.specs.ShownLabels.{shown_labels}
 use Rattle.am_rule_outcomes.specs.ShownLabels as shown
-use Rattle.am_rule_outcomes.proofs.ShownSets.{Texts, HaveOwnNames, HasAll, shown_all, value_fixed, value_other}
+use Rattle.am_rule_outcomes.proofs.ShownSets.{Texts, HaveOwnNames, shown_alone, value_fixed, value_other}
 use Rattle.am_rule_outcomes.proofs.NarrowedLabels.{each_narrowed, fixed_there, there_fixed}
 use Rattle.am_rule_outcomes.proofs.NarrowedLabels.{not_narrowed, over_narrowed, texts_fixed, texts_free}
 use Rattle.am_rule_outcomes.proofs.NarrowedUniverses.{narrowed_is_universe}
@@ -130,6 +131,11 @@ text_over a alert name is = by (get alert name) refl
     by : (o : Option (List ℕ)) → get alert name ≡ o → IsOver a (unwrap_or o [])
     by None e = nil_over a
     by (Some text) e = (is name text e).1
+
+-- a text that is not empty is there
+some_got : (o : Option (List ℕ)) (text : List ℕ) → unwrap_or o [] ≡ text → text ≢ [] → o ≡ Some text
+some_got None text e some = absurd (some (sym e))
+some_got (Some t) text e some = ap Some e
 
 -- ---- Alerts that have the fixed labels.
 
@@ -268,7 +274,7 @@ module _ (a : Alphabet) (s : Space) (u : List Label) (ms : List Matcher)
     shown_of c = labels_of (shown_labels fixed left c)
 
     fixed_value : (c : List ℕ) (l : List ℕ × List ℕ) → IsIn fixed l → value_of (shown_of c) l.0 ≡ l.1
-    fixed_value c l i = value_fixed fixed left c own left_universe.distinct l i
+    fixed_value c l i = value_fixed fixed left c l own i
 
     shown_alike : (c : List ℕ) → IsWhole (sizes left) c → (m : Matcher) → IsIn deciding m
         → condition_holds (set_of c) m ≡ condition_holds (shown_of c) m
@@ -290,7 +296,7 @@ module _ (a : Alphabet) (s : Space) (u : List Label) (ms : List Matcher)
           ∙ ap (holds m.op m.value) (sym (fixed_value c l.0 l.1)))
       | inr none ↦
           ap (holds m.op m.value)
-          (sym (value_other fixed left c own left_universe.distinct m.name none))
+          (sym (value_other fixed left c m.name left_universe.distinct none))
     ]
 
     shown_met : (c : List ℕ) → IsWhole (sizes left) c → MeetsTheSame deciding (set_of c) (shown_of c)
@@ -304,30 +310,25 @@ module _ (a : Alphabet) (s : Space) (u : List Label) (ms : List Matcher)
         front_met (set_of c) (shown_of c) ms (impossible_matchers s.impossible) (shown_met c is_choice.0)
 
     module _ (over : are_over a fixed ≡ true) (utf8 : AllByRecursion (λ l. IsUtf8 l.1) fixed) where
-      abbrev MayBe : List ℕ × List ℕ → Type 0
-      MayBe l = (l.0 ≢ []) × IsOver a l.1
-
       shown_is_alert : (c : List ℕ) → IsAlert a (shown_of c)
-      shown_is_alert c name text e =
-          let left_over = over_narrowed a u ks stands.over in
-          shown_all MayBe fixed left c name text
-          (AllByRecursion-each MayBe fixed (λ l i. (
-            AllByRecursion-at (λ k. k.0 ≢ []) fixed l named i,
-            over_from a l.1 (AllByRecursion-at (λ k. IsUtf8 k.1) fixed l utf8 i)
-                (each_passes (λ k. is_over a k.1) fixed over l i),
-          )))
-          (AllByRecursion-each (HasAll MayBe) left (λ l i.
-          AllByRecursion-each (λ v. IfSome v (λ t. MayBe (l.name, t))) l.values (λ v j.
-          value_may_be l.name v (AllByRecursion-at IsLabel left l left_universe.labels i).name
-          (AllByRecursion-at (λ w. IfSome w (IsOver a)) l.values v
-          (AllByRecursion-at (λ k. AllByRecursion (λ w. IfSome w (IsOver a)) k.values) left l left_over i)
-          j))))
-          e
-        where
-          value_may_be : (key : List ℕ) (v : Option (List ℕ)) → key ≢ [] → IfSome v (IsOver a)
-              → IfSome v (λ t. MayBe (key, t))
-          value_may_be key None some over_it = tt
-          value_may_be key (Some t) some over_it = (some, over_it)
+      shown_is_alert c name text e = elim (cases_Bool (shown.has_name fixed name)) [
+        | inl some ↦
+            let l = any_in (λ k. same_text k.0 name) fixed some in
+            let is : l.0.0 ≡ name = (bytes_decides l.0.0 name).0 l.2 in
+            let value : l.0.1 ≡ text =
+            sym (fixed_value c l.0 l.1) ∙ ap (value_of (shown_of c)) is ∙ ap (λ o. unwrap_or o []) e in (
+              subst (λ n. n ≢ []) is (AllByRecursion-at (λ k. k.0 ≢ []) fixed l.0 named l.1),
+              subst (IsOver a) value
+                  (over_from a l.0.1 (AllByRecursion-at (λ k. IsUtf8 k.1) fixed l.0 utf8 l.1)
+                  (each_passes (λ k. is_over a k.1) fixed over l.0 l.1)),
+            )
+        | inr none ↦
+            universe_alert a left c left_universe (over_narrowed a u ks stands.over) name text
+            (some_got (get (set_of c) name) text
+            (sym (value_other fixed left c name left_universe.distinct none)
+            ∙ ap (λ o. unwrap_or o []) e)
+            (λ empty. shown_alone fixed left c name (e ∙ ap Some empty)))
+      ]
 
       pub shown_has_fixed : (c : List ℕ) → IsChoiceOf (space_of s.impossible left) c
           → HasFixed (shown_of c)

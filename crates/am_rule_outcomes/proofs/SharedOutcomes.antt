@@ -23,7 +23,7 @@ use Rattle.am_outcomes.proofs.LineSteps.{whole_at}
 use Rattle.am_rule_outcomes.specs.Narrowing.{narrowed}
 use Rattle.am_rule_outcomes.specs.Narrowed.{Narrowed, HaveWholeChoices, narrowed_outcomes}
 use Rattle.am_rule_outcomes.specs.NarrowingView.{narrowed_of, narrowing_view}
-use Rattle.am_rule_outcomes.proofs.WhereLines.{shown_more}
+use Rattle.am_rule_outcomes.proofs.RulesFound.{shown_more}
 
 abbrev pub Key : Type 0
 Key = Bor (List (Option ℕ))

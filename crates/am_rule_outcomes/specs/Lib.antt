@@ -1,6 +1,7 @@
 pub mod Narrowing
 pub mod Narrowed
 pub mod RuleOutcomes
+pub mod RuleChanges
 pub mod ReceiverOutcomes
 pub mod ShownLabels
 pub mod WhereLines

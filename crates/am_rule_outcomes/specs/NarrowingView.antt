@@ -1,5 +1,5 @@
 -- Narrowings and outcomes of rules, as they are kept in memory.
-use Rattle.std.specs.Prelude.{◌≡◌, ℕ, List, [], ◌∷◌, map, Option, Some, None, option_map}
+use Rattle.std.specs.Prelude.{◌≡◌, ℕ, List, [], map, Option, Some, None, option_map}
 use Rattle.std.specs.Prelude.{option_and_then, slice_get, string_bytes}
 use Rattle.std.specs.List.{AllByRecursion, AllZip}
 use Rattle.std.specs.Global.{Vec}
@@ -21,8 +21,8 @@ use Rattle.am_rule_outcomes.specs.Narrowing.{alike_position, matchers_on}
 use Rattle.am_rule_outcomes.specs.declared.rule_outcomes.Shared.{Shared}
 use Rattle.am_rule_outcomes.specs.Narrowed.{Narrowed, narrowed_outcomes}
 use Rattle.am_rule_outcomes.specs.ReceiverOutcomes as spec
-use Rattle.am_rule_outcomes.specs.ReceiverOutcomes.{receiver_outcomes}
-use Rattle.am_rule_outcomes.specs.RuleOutcomes as outcome
+use Rattle.am_rule_outcomes.specs.ReceiverOutcomes.{with_shown}
+use Rattle.am_rule_outcomes.specs.RuleOutcomes.{RuleOutcome}
 use Rattle.am_rule_outcomes.specs.ShownLabels.{shown_labels}
 
 -- A narrowing, if there is one.
@@ -45,7 +45,7 @@ AreLabelTexts asked u labels =
     AllZip (λ label texts. IsLabelTexts (matchers_on asked label.name) label texts) u labels
 
 -- The receivers of an outcome, which borrow from it.
-abbrev pub receiver_outcome_view : ReceiverOutcome → spec.ReceiverOutcome
+abbrev pub receiver_outcome_view : ReceiverOutcome → spec.ReceiverOutcome (List ℕ)
 receiver_outcome_view o = record {
   receivers = o.receivers.now;
   first = o.first.now;
@@ -53,10 +53,11 @@ receiver_outcome_view o = record {
 }
 
 -- The same of a narrowed universe, with its labels; and the first choices are whole ones of it.
-abbrev pub narrowed_receivers_view : NarrowedReceivers → List Label × List spec.ReceiverOutcome
+abbrev pub narrowed_receivers_view :
+    NarrowedReceivers → List Label × List (spec.ReceiverOutcome (List ℕ))
 narrowed_receivers_view n = (n.universe.now, map receiver_outcome_view n.outcomes.items)
 
-abbrev pub HaveWholeFirsts : List Label × List spec.ReceiverOutcome → Type 0
+abbrev pub HaveWholeFirsts : List Label × List (spec.ReceiverOutcome (List ℕ)) → Type 0
 HaveWholeFirsts n = AllByRecursion (λ o. IsWhole (sizes n.0) o.first) n.1
 
 -- For each rule, the narrowed universe and its outcomes, if the rule has alerts.
@@ -71,26 +72,8 @@ abbrev pub AreShared : Space → Configurations → Shared → Type 0
 AreShared s k shared =
     shared.each.items ≡ map (λ kept. narrowed_outcomes s k kept.now) shared.seen.keys
 
--- The outcomes of a rule as its lines show them.
-abbrev pub shown_outcome : AlertingRule → List Label → spec.ReceiverOutcome → outcome.RuleOutcome
-shown_outcome r u o = record {
-  receivers = o.receivers;
-  labels = shown_labels (fixed_labels r) u o.first;
-  silenced = o.silenced;
-}
-
-abbrev pub outcomes_shown :
-    AlertingRule → Option (List Label × List spec.ReceiverOutcome) → List outcome.RuleOutcome
+-- The outcomes of a rule as its lines show them, with labels in place of choices.
+abbrev pub outcomes_shown : AlertingRule
+    → Option (List Label × List (spec.ReceiverOutcome (List ℕ))) → List RuleOutcome
 outcomes_shown r None = []
-outcomes_shown r (Some n) = map (shown_outcome r n.0) n.1
-
-abbrev pub shown_outcomes : AlertingRule → Option Narrowed → List outcome.RuleOutcome
-shown_outcomes r None = []
-shown_outcomes r (Some n) = map (shown_outcome r n.labels) (receiver_outcomes n.outcomes)
-
--- Each rule with its outcomes.
-abbrev pub with_outcomes :
-    List AlertingRule → List (Option Narrowed) → List (AlertingRule × List outcome.RuleOutcome)
-with_outcomes [] found = []
-with_outcomes (r ∷ rules) [] = []
-with_outcomes (r ∷ rules) (n ∷ found) = (r, shown_outcomes r n) ∷ with_outcomes rules found
+outcomes_shown r (Some n) = map (with_shown (shown_labels (fixed_labels r) n.0)) n.1

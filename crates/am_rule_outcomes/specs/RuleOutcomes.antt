@@ -1,6 +1,7 @@
--- To which receivers the alerts of a rule go, and how many of them are silenced. (This project's
--- own.)
-use Rattle.std.specs.Prelude.{◌≡◌, ℕ, List, map, Bool, true, false, Contains}
+-- The outcomes of the alerts of a rule; and to which receivers these go, and how many of them are
+-- silenced. (This project's own.)
+use Rattle.std.specs.Prelude.{◌≡◌, ℕ, List, [], ◌∷◌, map, Bool, true, false, Contains, Option, Some}
+use Rattle.std.specs.Prelude.{None}
 use Rattle.std.specs.List.{AllByRecursion, IsDistinct}
 use Rattle.am_universe.specs.LabelSet.{LabelMap}
 use Rattle.am_universe.specs.Text.{same_text}
@@ -11,20 +12,45 @@ use Rattle.am_eval.specs.Routing.{receivers}
 use Rattle.am_classes.specs.declared.alphabet.Alphabet.{Alphabet}
 use Rattle.am_every_alert.specs.EveryAlert.{IsAlertOf}
 use Rattle.am_alerting_rules.specs.RulesFile.{AlertingRule}
-use Rattle.am_alerting_rules.specs.RuleAlerts.{IsAlertOfRule}
+use Rattle.am_alerting_rules.specs.RuleAlerts.{IsAlertOfRule, fixed_labels}
 use Rattle.am_rule_outcomes.specs.declared.receiver_outcomes.Silenced.{Silenced}
 use Rattle.am_rule_outcomes.specs.declared.receiver_outcomes.Silenced.TheVariants as silenced_is
+use Rattle.am_rule_outcomes.specs.Narrowed.{Narrowed}
+use Rattle.am_rule_outcomes.specs.ReceiverOutcomes.{ReceiverOutcome, receiver_outcomes}
+use Rattle.am_rule_outcomes.specs.ShownLabels.{shown_labels}
 
 -- An alert of a rule that counts: it is over an alphabet, and no impossible list matches it.
 abbrev pub IsRuleAlert : Alphabet → Space → AlertingRule → LabelMap → Type 0
 IsRuleAlert a s r alert = IsAlertOf a s alert × IsAlertOfRule r alert
 
--- A list of receivers, by their positions, the labels of an alert that goes to exactly these, and
--- how many of the alerts that go to exactly these are silenced.
-pub record RuleOutcome : Type 0 where
-  pub receivers : List ℕ
-  pub labels : List (List ℕ × List ℕ)
-  pub silenced : Silenced
+-- The outcomes of a rule: those of its narrowed universe, each with the labels that are shown for
+-- its first choice. A rule without alerts that count has none.
+-- Source: own choice.
+-- Example: if the outcome 1 of the universe has a first choice without labels, the outcome of a
+-- rule `DiskFull` that sets no label is 1 with `{alertname="DiskFull"}`.
+abbrev pub rule_outcomes_shown :
+    AlertingRule → Option Narrowed → List (List (List ℕ) × List (List ℕ × List ℕ))
+rule_outcomes_shown r None = []
+rule_outcomes_shown r (Some n) =
+    map (λ o. (o.0, shown_labels (fixed_labels r) n.labels o.1)) n.outcomes
+
+-- Each rule with its outcomes.
+abbrev pub with_rule_outcomes : List AlertingRule → List (Option Narrowed)
+    → List (AlertingRule × List (List (List ℕ) × List (List ℕ × List ℕ)))
+with_rule_outcomes [] found = []
+with_rule_outcomes (r ∷ rules) [] = []
+with_rule_outcomes (r ∷ rules) (n ∷ found) =
+    (r, rule_outcomes_shown r n) ∷ with_rule_outcomes rules found
+
+-- A list of receivers, with the labels of an alert that goes to exactly these. Each rule with those
+-- of its outcomes.
+abbrev pub RuleOutcome : Type 0
+RuleOutcome = ReceiverOutcome (List (List ℕ × List ℕ))
+
+abbrev pub with_outcomes :
+    List AlertingRule → List (Option Narrowed) → List (AlertingRule × List RuleOutcome)
+with_outcomes rules found =
+    map (λ rule. (rule.0, receiver_outcomes rule.1)) (with_rule_outcomes rules found)
 
 -- Some of these alerts are silenced, and some are not.
 pub record ArePartlySilenced (is_silenced : LabelMap → Bool) (Are : LabelMap → Type 0)
@@ -56,8 +82,8 @@ AreSilenced is_silenced Are silenced_is.All =
 -- 0, a rule that does not set `team` has two outcomes, and one that sets it to `db` has one.
 pub record AreRuleOutcomes (Are : LabelMap → Type 0) (c : Configuration)
     (is_silenced : LabelMap → Bool) (outcomes : List RuleOutcome) : Type 0 where
-  pub each : AllByRecursion (λ o. Are (labels_of o.labels)
-      × (receivers (labels_of o.labels) c ≡ o.receivers)) outcomes
+  pub each : AllByRecursion (λ o. Are (labels_of o.first)
+      × (receivers (labels_of o.first) c ≡ o.receivers)) outcomes
   pub all : (alert : LabelMap) → Are alert
       → Contains (map (λ o. o.receivers) outcomes) (receivers alert c)
   pub once : IsDistinct same_text (map (λ o. o.receivers) outcomes)

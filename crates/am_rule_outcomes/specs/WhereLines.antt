@@ -36,7 +36,7 @@ rule_pieces r labels = Value field_is.Group (Text r.group) ∷ Words (codes " ")
 abbrev pub where_line : Configuration → AlertingRule → RuleOutcome → Line
 where_line c r o = record {
   level = level_is.Plain;
-  pieces = rule_pieces r o.labels ++ (Words (codes " -> ")
+  pieces = rule_pieces r o.first ++ (Words (codes " -> ")
       ∷ Value field_is.Receivers (Texts (receiver_names c o.receivers))
       ∷ silenced_pieces o.silenced);
 }
@@ -59,14 +59,10 @@ is_asked (Some asked) o = list_any (λ r. list_any (λ other. other == r) asked)
 -- The lines of a rule: one for each of its outcomes that is shown. If the rule has no outcome at
 -- all, and no receiver is named, one line says so.
 abbrev pub rule_lines :
-    Configuration → Option (List ℕ) → AlertingRule → List RuleOutcome → List Line
-rule_lines c asked r outcomes =
-    if is_none asked && length outcomes == 0 then no_alert_line r ∷ []
-    else map (where_line c r) (filter (is_asked asked) outcomes)
-
-abbrev pub rules_lines :
-    Configuration → Option (List ℕ) → List (AlertingRule × List RuleOutcome) → List (List Line)
-rules_lines c asked rules = map (λ rule. rule_lines c asked rule.0 rule.1) rules
+    Configuration → Option (List ℕ) → AlertingRule × List RuleOutcome → List Line
+rule_lines c asked rule =
+    if is_none asked && length rule.1 == 0 then no_alert_line rule.0 ∷ []
+    else map (where_line c rule.0) (filter (is_asked asked) rule.1)
 
 -- The last line: how many alerting rules there are and, if receivers are named, how many of them
 -- have a line.
@@ -89,6 +85,7 @@ last_pieces asked shown count =
 abbrev pub where_report :
     Configuration → Option (List ℕ) → List (AlertingRule × List RuleOutcome) → Report
 where_report c asked rules = record {
-  lines = flat_map (λ lines. lines) (rules_lines c asked rules);
-  last = last_pieces asked (count_by has_lines (rules_lines c asked rules)) (length rules);
+  lines = flat_map (rule_lines c asked) rules;
+  last = last_pieces asked (count_by (λ rule. has_lines (rule_lines c asked rule)) rules)
+      (length rules);
 }

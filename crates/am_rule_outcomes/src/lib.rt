@@ -4,7 +4,8 @@
 //! that these alerts have with one text alone keeps one value, which the matchers cannot tell from
 //! that text. [`narrowings`] says which, for each rule, and [`outcomes_of_rules`] finds the
 //! outcomes of each narrowed universe. Rules that narrow the universe alike share them.
-//! [`where_report`] has a line for each list of receivers to which the alerts of a rule go.
+//! [`where_report`] has a line for each list of receivers to which the alerts of a rule go, and
+//! [`changes_of_rules`] says what changes for the alerts of each rule between two configurations.
 #![tactic(auto)]
 
 // A universe narrowed to the alerts of a rule.
@@ -27,6 +28,11 @@ mod shown_labels;
 mod where_lines;
 
 pub use where_lines::where_report;
+
+// What changes for the alerts of rules.
+mod rule_changes;
+
+pub use rule_changes::changes_of_rules;
 
 // Facts about the definitions alone.
 pub mod laws;

@@ -1,15 +1,13 @@
 //! To which receivers the label sets of a narrowed universe go, and whether they are silenced.
 
-ghost use Rattle.std.specs.Prelude.{◌≡◌, ℕ, List, map, if◌then◌else◌, IfOk};
+ghost use Rattle.std.specs.Prelude.{◌≡◌, ℕ, List, map, IfOk};
 ghost use Rattle.std.specs.List.{list_any};
 ghost use Rattle.am_universe.specs.Text.{same_text};
-ghost use Rattle.am_outcomes.specs.OutcomeLines.{list_at};
-ghost use Rattle.am_outcomes.specs.OutcomesView.{lists_view};
 ghost use Rattle.am_rule_outcomes.specs.ReceiverOutcomes.{receiver_outcomes, silenced_of};
-ghost use Rattle.am_rule_outcomes.specs.ReceiverOutcomes.{some_firing, some_silenced};
+ghost use Rattle.am_rule_outcomes.specs.ReceiverOutcomes.{some_with};
 ghost use Rattle.am_rule_outcomes.specs.NarrowingView.{receiver_outcome_view};
 
-use am_outcomes::Outcomes;
+use am_outcomes::{Outcomes, list_at};
 use am_universe::Choice;
 use indexmap::IndexSet;
 use std::alloc::{AllocError, Global};
@@ -66,7 +64,7 @@ fn receivers_where<'a>(
 ) -> Result<IndexSet<&'a [usize]>, AllocError>
     ensures { IfOk result (λ found. (rs : List ℕ)
         → list_any (λ k. same_text rs k.now) found.keys
-        ≡ (if are_silenced then some_silenced outcomes.now rs else some_firing outcomes.now rs)) }
+        ≡ some_with are_silenced outcomes.now rs) }
 {
     let mut found = IndexSet::new(alloc);
     for i in 0..outcomes.len() {
@@ -86,15 +84,5 @@ fn silenced_of(some_are: bool, some_are_not: bool) -> Silenced
         (true, true) => Silenced::Partly,
         (true, false) => Silenced::All,
         (false, _) => Silenced::No,
-    }
-}
-
-/// The list of an outcome at a position, or no items if it has no such list.
-fn list_at(lists: &[Vec<usize>], i: usize) -> &[usize]
-    ensures { result.now ≡ list_at i (lists_view lists.now) }
-{
-    match lists.get(i) {
-        Some(list) => list.as_slice(),
-        None => &[],
     }
 }

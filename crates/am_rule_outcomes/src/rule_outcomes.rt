@@ -1,7 +1,7 @@
 //! The outcomes of the alerts of rules.
 
 ghost use Rattle.std.specs.Prelude.{◌≡◌, ◌<◌, ℕ, length, map, IfOk, OnOk, IfSome, IfNone, Some};
-ghost use Rattle.std.specs.Prelude.{option_map, slice_get};
+ghost use Rattle.std.specs.Prelude.{option_and_then, option_copied, option_map, slice_get};
 ghost use Rattle.std.specs.List.{AllByRecursion};
 ghost use Rattle.am_every_alert.specs.Deciding.{space_of};
 ghost use Rattle.am_outcomes.specs.Configurations.{configurations_of, tried_of};
@@ -44,9 +44,23 @@ pub struct RuleOutcomes {
     pub of_rules: Vec<Option<usize>>,
 }
 
+impl RuleOutcomes {
+    /// The outcomes of the rule at a position, or `None` if it has no alert that counts, or if
+    /// there is no such rule.
+    pub fn of_rule(&self, i: usize) -> Option<&NarrowedOutcomes>
+        ensures outcomes { option_copied result
+            ≡ option_and_then (λ n. n) (slice_get (rule_outcomes_view self.now) i) }
+    {
+        match self.of_rules.get(i) {
+            Some(position) => item_at(self.each.as_slice(), *position),
+            None => None,
+        }
+    }
+}
+
 /// Finds the outcomes of the alerts of each rule, whose narrowings of the universe of the space are
 /// known. Returns `None` if for some rule there are more ways through the routes than there is room
-/// for. At the end the space has no labels. Fails only if memory runs out.
+/// for. The space loses its labels, and keeps its impossible lists. Fails only if memory runs out.
 pub fn outcomes_of_rules(
     alloc: Global,
     space: &mut Space,
@@ -63,6 +77,7 @@ pub fn outcomes_of_rules(
         AllByRecursion HaveWholeChoices outcomes.each.items)) }
     ensures count { IfOk result (λ found. IfSome found (λ outcomes.
         length outcomes.of_rules.items ≡ length narrowings.items)) }
+    ensures impossible { space.new.impossible ≡ space.old.impossible }
 {
     let universe = space.undeclare(alloc);
     let mut shared = Shared {
@@ -83,6 +98,16 @@ pub fn outcomes_of_rules(
     }
     let Shared { each, .. } = shared;
     Ok(Some(RuleOutcomes { each, of_rules }))
+}
+
+/// The item at a position, if there is one.
+pub(crate) fn item_at<T>(items: &[T], position: Option<usize>) -> Option<&T>
+    ensures { option_copied result ≡ option_and_then (slice_get items.now) position }
+{
+    match position {
+        Some(position) => items.get(position),
+        None => None,
+    }
 }
 
 /// Narrowings, each once, and the outcomes of each.
@@ -118,7 +143,7 @@ impl<'n> Shared<'n> {
             (configurations_of configs.entry) self.new)) }
         ensures kept { OnOk result ((i : ℕ) → i < length self.old.each.items
             → slice_get self.new.each.items i ≡ slice_get self.old.each.items i) }
-        ensures impossible { OnOk result (space.new.impossible ≡ space.old.impossible) }
+        ensures impossible { space.new.impossible ≡ space.old.impossible }
     {
         if let Some(position) = self.seen.get_index_of(narrowing) {
             return Ok(Some(position));
@@ -149,7 +174,7 @@ fn outcomes_within(
     ensures none { IfOk result (λ found. IfNone found
         (HaveManyWays (space_of space.old.impossible (narrowed universe.now narrowing.now))
         (tried_of (configurations_of configs.entry)))) }
-    ensures impossible { OnOk result (space.new.impossible ≡ space.old.impossible) }
+    ensures impossible { space.new.impossible ≡ space.old.impossible }
 {
     space.declare(narrowed_universe(alloc, universe, narrowing)?);
     match find_outcomes(alloc, space, configs)? {

@@ -1,12 +1,13 @@
 //! The label set that is shown for some alerts of a rule.
 
-ghost use Rattle.std.specs.Prelude.{◌≡◌, map, not, IfOk, OnOk};
+ghost use Rattle.std.specs.Prelude.{◌≡◌, IfOk};
 ghost use Rattle.am_universe.specs.Universe.{sizes};
 ghost use Rattle.am_universe.specs.Choice.{IsWhole};
 ghost use Rattle.am_universe.specs.LabelSet.{label_pairs};
 ghost use Rattle.am_alerting_rules.specs.RuleView.{pairs_view};
 ghost use Rattle.am_rule_outcomes.specs.ShownLabels.{fixed_shown, shown_labels, has_name};
 
+use am_report_texts::{Shown, label_set};
 use am_universe::{Choice, Universe};
 use std::alloc::{AllocError, Global};
 
@@ -23,16 +24,29 @@ pub(crate) fn shown_labels<'a>(
         ≡ shown_labels (pairs_view fixed.now) universe.now choice.now) }
 {
     let mut labels = fixed_shown(alloc, fixed)?;
-    for i in 0..universe.len() {
-        let name = universe.name(i);
-        if has_name(fixed, name) {
-            continue;
-        }
-        if let Some(value) = universe.value(i, usize::from(choice.get(i))) {
-            labels.push((name, value))?;
+    let picked = picked_labels(alloc, universe, choice)?;
+    for label in &picked {
+        if !has_name(fixed, label.0) {
+            labels.push(*label)?;
         }
     }
     Ok(labels)
+}
+
+/// Returns the labels for which a choice picks a text. Fails only if memory runs out.
+fn picked_labels<'a>(
+    alloc: Global,
+    universe: &'a Universe,
+    choice: &Choice,
+) -> Result<Vec<(&'a str, &'a str)>, AllocError>
+    requires { IsWhole (sizes universe.now) choice.now }
+    ensures { IfOk result (λ labels.
+        pairs_view labels.items ≡ label_pairs universe.now choice.now) }
+{
+    match label_set(alloc, universe, choice)? {
+        Shown::Labels(labels) => Ok(labels),
+        _ => unreachable!(),
+    }
 }
 
 /// Returns the labels that an alert of a rule has for certain. The empty text means that the alert

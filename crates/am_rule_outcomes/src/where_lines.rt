@@ -1,8 +1,7 @@
 //! The lines that say to which receivers the alerts of rules go.
 
 ghost use Rattle.std.specs.Prelude.{◌≡◌, ◌∷◌, ◌++◌, [], Some, length, map, IfOk, OnOk, IfSome};
-ghost use Rattle.std.specs.Prelude.{if◌then◌else◌, is_none, option_and_then, option_copied};
-ghost use Rattle.std.specs.Prelude.{option_map, slice_get};
+ghost use Rattle.std.specs.Prelude.{if◌then◌else◌, is_none, option_copied, option_map};
 ghost use Rattle.std.specs.List.{AllByRecursion, filter};
 ghost use Rattle.am_config.specs.ConfigView.{config_view};
 ghost use Rattle.am_report_texts.specs.LineView.{line_view, pieces_view, report_view};
@@ -10,15 +9,14 @@ ghost use Rattle.am_alerting_rules.specs.RuleView.{pairs_view};
 ghost use Rattle.am_rule_outcomes.specs.Narrowed.{HaveWholeChoices};
 ghost use Rattle.am_rule_outcomes.specs.NarrowingView.{HaveWholeFirsts, narrowed_receivers_view};
 ghost use Rattle.am_rule_outcomes.specs.NarrowingView.{outcomes_shown, rule_outcomes_view};
-ghost use Rattle.am_rule_outcomes.specs.NarrowingView.{with_outcomes};
 ghost use Rattle.am_rule_outcomes.specs.ReceiverOutcomes.{receiver_outcomes};
-ghost use Rattle.am_rule_outcomes.specs.RuleOutcomes.{RuleOutcome};
+ghost use Rattle.am_rule_outcomes.specs.RuleOutcomes.{RuleOutcome, with_outcomes};
 ghost use Rattle.am_rule_outcomes.specs.WhereLines.{is_asked, last_pieces, no_alert_line};
 ghost use Rattle.am_rule_outcomes.specs.WhereLines.{rule_lines, rule_pieces, silenced_pieces};
 ghost use Rattle.am_rule_outcomes.specs.WhereLines.{where_line, where_report};
 
 use crate::receiver_outcomes::{ReceiverOutcome, Silenced, receiver_outcomes};
-use crate::rule_outcomes::{NarrowedOutcomes, RuleOutcomes};
+use crate::rule_outcomes::{NarrowedOutcomes, RuleOutcomes, item_at};
 use crate::shown_labels::{fixed_shown, shown_labels};
 use am_alerting_rules::AlertingRule;
 use am_config::Config;
@@ -54,7 +52,7 @@ pub fn where_report<'a>(
     let mut shown = 0;
     for i in 0..rules.len() {
         let before = lines.len();
-        let narrowed = narrowed_at(each.as_slice(), found.of_rules[i]);
+        let narrowed = item_at(each.as_slice(), found.of_rules[i]);
         push_rule_lines(alloc, &mut lines, config, &rules[i], narrowed, asked)?;
         if lines.len() > before {
             shown += 1;
@@ -82,19 +80,6 @@ fn narrowed_receivers<'a>(
     Ok(found)
 }
 
-/// The item at a position, if there is one.
-fn narrowed_at<'b, 'a>(
-    each: &'b [NarrowedReceivers<'a>],
-    position: Option<usize>,
-) -> Option<&'b NarrowedReceivers<'a>>
-    ensures { option_copied result ≡ option_and_then (slice_get each.now) position }
-{
-    match position {
-        Some(position) => each.get(position),
-        None => None,
-    }
-}
-
 /// Adds the lines of a rule that narrows a universe to one that has these receivers.
 fn push_rule_lines<'a>(
     alloc: Global,
@@ -106,9 +91,11 @@ fn push_rule_lines<'a>(
 ) -> Result<(), AllocError>
     requires { IfSome (option_copied narrowed) (λ n. HaveWholeFirsts (narrowed_receivers_view n)) }
     ensures { OnOk result (map line_view lines.new.items ≡ map line_view lines.old.items
-        ++ rule_lines (config_view config.now) (option_copied asked.entry) rule.now
-        (outcomes_shown rule.now
-        (option_map narrowed_receivers_view (option_copied narrowed.entry)))) }
+        ++ rule_lines (config_view config.now) (option_copied asked.entry) (
+          rule.now,
+          outcomes_shown rule.now
+              (option_map narrowed_receivers_view (option_copied narrowed.entry)),
+        )) }
 {
     match narrowed {
         Some(narrowed) if !narrowed.outcomes.is_empty() => {
@@ -190,7 +177,7 @@ fn where_line<'a>(
     ensures { IfOk result (λ line. line_view line ≡ where_line (config_view config.now) rule.now
         (record {
           receivers = outcome.now.receivers.now;
-          labels = pairs_view labels.entry.items;
+          first = pairs_view labels.entry.items;
           silenced = outcome.now.silenced;
         })) }
 {

@@ -1,10 +1,10 @@
-use Rattle.std.proofs.Common.{◌≡◌, ◌∷◌, ◌++◌, [], true, false, map, take, sym, ap, ◌∙◌, refl}
+use Rattle.std.proofs.Common.{◌≡◌, ◌∷◌, ◌++◌, [], true, false, map, take, sym, ap, ◌∙◌, refl, arith}
 use Rattle.std.proofs.lemmas.Bool.{not-true, not-false}
-use Rattle.std.proofs.lemmas.List.{map-append}
+use Rattle.std.proofs.lemmas.List.{map-append, take_all}
 use Rattle.am_outcomes.specs.OutcomesView.{lists_view}
 use Rattle.am_rule_outcomes.specs.NarrowingView.{receiver_outcome_view}
 use Rattle.am_rule_outcomes.specs.ReceiverOutcomes.{receiver_outcome, receivers_of, silenced_of}
-use Rattle.am_rule_outcomes.specs.ReceiverOutcomes.{some_silenced, some_firing}
+use Rattle.am_rule_outcomes.specs.ReceiverOutcomes.{some_with}
 use Rattle.am_rule_outcomes.proofs.ReceiverOutcomes.{Outcome, Key, texts, has_receivers, alike_keys}
 use Rattle.am_rule_outcomes.proofs.ReceiverOutcomes.{firsts_of, seen_more, first_by}
 use Rattle.am_rule_outcomes.proofs.receiver_outcomes.receiver_outcomes.Goals as goal
@@ -17,7 +17,7 @@ loop-i-preserved c =
     let o : Outcome = (lists_view c.get.result.0.now, c.get.result.1.now) in
     let at = c.get.ensures.outcome in
     let r : Key = c.list_at-receivers.result in
-    let is : r.now ≡ receivers_of o = c.list_at-receivers.ensures in
+    let is : r.now ≡ receivers_of o = c.list_at-receivers.ensures.list in
     let ks = c.loop-i.seen.keys in
     let so_far = c.loop-i.invariant in
     let same = alike_keys _ (λ x y. refl) ks r in
@@ -29,10 +29,10 @@ loop-i-preserved c =
         | then-branch+in_ok-push w ↦
             let has : has_receivers ks r.now ≡ false =
             sym same ∙ not-true _ (sym added ∙ w.if-branch.true) in
-            let some : w.contains.result ≡ some_silenced os (receivers_of o) =
-            w.contains.ensures ∙ c.in_ok-silenced.ensures r.now ∙ ap (some_silenced os) is in
-            let others : w.contains-then-branch.result ≡ some_firing os (receivers_of o) =
-            w.contains-then-branch.ensures ∙ c.in_ok-others.ensures r.now ∙ ap (some_firing os) is in
+            let some : w.contains.result ≡ some_with true os (receivers_of o) =
+            w.contains.ensures ∙ c.in_ok-silenced.ensures r.now ∙ ap (some_with true os) is in
+            let others : w.contains-then-branch.result ≡ some_with false os (receivers_of o) =
+            w.contains-then-branch.ensures ∙ c.in_ok-others.ensures r.now ∙ ap (some_with false os) is in
             ap (λ found. map receiver_outcome_view found.items) w.found-is
             ∙ ap (map receiver_outcome_view) w.in_ok-push.ensures.items
             ∙ map-append receiver_outcome_view c.loop-i.found.items _
@@ -50,3 +50,9 @@ loop-i-preserved c =
             ∙ ap (map (receiver_outcome os)) (sym (first_by true os i o ks r at is so_far.seen has))
       ];
     }
+
+pub returns : goal.returns
+returns c =
+    let os = c.args.outcomes.now in
+    c.loop-i.invariant.found
+    ∙ ap (λ taken. map (receiver_outcome os) (firsts_of taken)) (take_all c.loop-i.i os (omega arith))

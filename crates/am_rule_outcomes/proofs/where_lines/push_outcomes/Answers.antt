@@ -1,6 +1,7 @@
-use Rattle.std.proofs.Common.{◌≡◌, ◌∷◌, ◌++◌, [], map, take, Some, true, false, option_map, option_copied}
+use Rattle.std.proofs.Common.{◌≡◌, ℕ, List, ◌∷◌, ◌++◌, [], map, take, Some, true, false, option_map, option_copied}
 use Rattle.std.proofs.Common.{append-nil, refl, sym, ap, ◌∙◌}
 use Rattle.std.specs.Prelude.{slice_get}
+use Rattle.std.specs.List.{filter}
 use Rattle.std.proofs.lemmas.List.{map-append}
 use Rattle.std.proofs.lemmas.Option.{slice_get-map}
 use Rattle.am_universe.specs.Universe.{sizes}
@@ -11,12 +12,12 @@ use Rattle.am_config.specs.ConfigView.{config_view}
 use Rattle.am_report_texts.specs.LineView.{line_view}
 use Rattle.am_alerting_rules.specs.RuleAlerts.{fixed_labels}
 use Rattle.am_alerting_rules.specs.RuleView.{pairs_view}
-use Rattle.am_rule_outcomes.specs.NarrowingView.{receiver_outcome_view, shown_outcome}
-use Rattle.am_rule_outcomes.specs.ReceiverOutcomes.{ReceiverOutcome}
+use Rattle.am_rule_outcomes.specs.NarrowingView.{receiver_outcome_view}
+use Rattle.am_rule_outcomes.specs.ReceiverOutcomes.{ReceiverOutcome, with_shown}
 use Rattle.am_rule_outcomes.specs.RuleOutcomes.{RuleOutcome}
 use Rattle.am_rule_outcomes.specs.ShownLabels.{shown_labels}
 use Rattle.am_rule_outcomes.specs.WhereLines.{is_asked, where_line}
-use Rattle.am_rule_outcomes.proofs.WhereLines.{asked_lines, lines_with, shown_more}
+use Rattle.am_rule_outcomes.proofs.RulesFound.{kept_with, shown_more}
 use Rattle.am_rule_outcomes.proofs.where_lines.push_outcomes.Goals as goal
 use Rattle.am_rule_outcomes.proofs.where_lines.push_outcomes.Goals.{After-is_asked}
 use Rattle.am_rule_outcomes.proofs.where_lines.push_outcomes.Goals.{then-is_asked+in_ok-labels+in_ok-where_line+in_ok-push}
@@ -33,7 +34,7 @@ there c =
 pub shown_labels-requires : goal.shown_labels-requires
 shown_labels-requires c =
     let items = c.args.narrowed.now.outcomes.items in
-    at_place (λ (o : ReceiverOutcome). IsWhole (sizes c.args.narrowed.now.universe.now) o.first)
+    at_place (λ (o : ReceiverOutcome (List ℕ)). IsWhole (sizes c.args.narrowed.now.universe.now) o.first)
     (map receiver_outcome_view items) c.loop-outcome.outcome-index
     (receiver_outcome_view c.outcome-item.result) c.requires
     (slice_get-map receiver_outcome_view items c.loop-outcome.outcome-index
@@ -49,8 +50,9 @@ loop-outcome-preserved c =
     let i = c.loop-outcome.outcome-index in
     let item = c.outcome-item.result in
     let start = map line_view c.args.lines.now.items in
-    let os = map (shown_outcome r u) (map receiver_outcome_view (take i items)) in
-    let o : RuleOutcome = shown_outcome r u (receiver_outcome_view item) in
+    let shown_as : ReceiverOutcome (List ℕ) → RuleOutcome = with_shown (shown_labels (fixed_labels r) u) in
+    let os = map shown_as (map receiver_outcome_view (take i items)) in
+    let o : RuleOutcome = shown_as (receiver_outcome_view item) in
     let tested : is_asked asked o ≡ c.is_asked.result = sym (c.is_asked.ensures o refl) in
     elim c.if-is_asked.branch [
       | then-is_asked+in_ok-labels+in_ok-where_line+in_ok-push w ↦
@@ -58,7 +60,7 @@ loop-outcome-preserved c =
           w.in_ok-labels.ensures
           ∙ ap (λ fixed. shown_labels fixed u item.first.now)
           (ap pairs_view w.as_slice.ensures.value ∙ c.in_ok-fixed.ensures.labels) in
-          lines_with config asked r start (map line_view c.loop-outcome.lines.items) _ os o true
+          kept_with (is_asked asked) (where_line config r) start (map line_view c.loop-outcome.lines.items) _ os o true
           (tested ∙ w.if-is_asked.true) c.loop-outcome.invariant
           (ap (λ lines. map line_view lines.items) w.lines-is
           ∙ ap (map line_view) w.in_ok-push.ensures.items
@@ -67,17 +69,17 @@ loop-outcome-preserved c =
           (w.in_ok-where_line.ensures
           ∙ ap (λ labels. where_line config r (record {
             receivers = item.receivers.now;
-            labels = labels;
+            first = labels;
             silenced = item.silenced;
           })) labels))
-          ∙ ap (λ os. start ++ asked_lines config asked r os)
-          (sym (shown_more (shown_outcome r u) receiver_outcome_view items i item
+          ∙ ap (λ os. start ++ map (where_line config r) (filter (is_asked asked) os))
+          (sym (shown_more shown_as receiver_outcome_view items i item
           (there (goal.at.loop-outcome-preserved c).After-is_asked)))
       | else-is_asked w ↦
-          lines_with config asked r start (map line_view c.loop-outcome.lines.items) _ os o false
+          kept_with (is_asked asked) (where_line config r) start (map line_view c.loop-outcome.lines.items) _ os o false
           (tested ∙ w.if-is_asked.false) c.loop-outcome.invariant
           (ap (λ lines. map line_view lines.items) w.lines-is ∙ sym (append-nil _))
-          ∙ ap (λ os. start ++ asked_lines config asked r os)
-          (sym (shown_more (shown_outcome r u) receiver_outcome_view items i item
+          ∙ ap (λ os. start ++ map (where_line config r) (filter (is_asked asked) os))
+          (sym (shown_more shown_as receiver_outcome_view items i item
           (there (goal.at.loop-outcome-preserved c).After-is_asked)))
     ]

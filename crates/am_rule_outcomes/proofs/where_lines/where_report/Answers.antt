@@ -1,4 +1,4 @@
-use Rattle.std.proofs.Common.{◌≡◌, ◌<◌, ◌≤◌, ◌+◌, ◌++◌, List, Option, map, length, cond, option_map, Some, option_copied}
+use Rattle.std.proofs.Common.{ℕ, Bool, take, ◌≡◌, ◌<◌, ◌≤◌, ◌+◌, ◌++◌, List, Option, map, length, cond, option_map, Some, option_copied}
 use Rattle.std.proofs.Common.{sym, ap, ◌∙◌, subst, arith}
 use Rattle.std.specs.Prelude.{slice_get, IfSome}
 use Rattle.std.specs.List.{flat_map, count_by}
@@ -11,24 +11,35 @@ use Rattle.am_report_texts.specs.LineView.{line_view}
 use Rattle.am_alerting_rules.specs.RulesFile.{AlertingRule}
 use Rattle.am_rule_outcomes.specs.declared.where_lines.NarrowedReceivers.{NarrowedReceivers}
 use Rattle.am_rule_outcomes.specs.NarrowingView.{HaveWholeFirsts, narrowed_of, narrowed_receivers_view}
-use Rattle.am_rule_outcomes.specs.NarrowingView.{outcomes_shown, rule_outcomes_view, shown_outcomes, with_outcomes}
-use Rattle.am_rule_outcomes.specs.RuleOutcomes.{RuleOutcome}
-use Rattle.am_rule_outcomes.specs.WhereLines.{has_lines, last_pieces, rule_lines, rules_lines}
+use Rattle.am_rule_outcomes.specs.NarrowingView.{outcomes_shown, rule_outcomes_view}
+use Rattle.am_rule_outcomes.specs.ReceiverOutcomes.{receiver_outcomes}
+use Rattle.am_rule_outcomes.specs.RuleOutcomes.{RuleOutcome, rule_outcomes_shown, with_outcomes}
+use Rattle.am_rule_outcomes.specs.RuleOutcomes.{with_rule_outcomes}
+use Rattle.am_rule_outcomes.specs.WhereLines.{has_lines, last_pieces, rule_lines}
 use Rattle.am_rule_outcomes.proofs.WhereLines.{with_receivers, whole_at_position, shown_at_position}
-use Rattle.am_rule_outcomes.proofs.WhereLines.{with_outcomes-at, with_outcomes-length, lines_more, count_to}
-use Rattle.am_rule_outcomes.proofs.WhereLines.{count_more, some_there, none_there}
+use Rattle.am_rule_outcomes.proofs.RulesFound.{counted_more, found_at, found_length, joined_more}
+use Rattle.am_rule_outcomes.proofs.WhereLines.{some_there, none_there}
 use Rattle.am_rule_outcomes.proofs.where_lines.where_report.Goals as goal
-use Rattle.am_rule_outcomes.proofs.where_lines.where_report.Goals.{then-len-before, else-len-before}
+use Rattle.am_rule_outcomes.proofs.where_lines.where_report.Goals.{After-index-rules-i, then-len-before, else-len-before}
+
+-- a rule with the receivers of its outcomes
+abbrev with_receivers_of :
+    AlertingRule × List (List (List ℕ) × List (List ℕ × List ℕ)) → AlertingRule × List RuleOutcome
+with_receivers_of rule = (rule.0, receiver_outcomes rule.1)
+
+-- the receivers of each narrowed universe
+all_receivers : (c : After-index-rules-i) → map narrowed_receivers_view c.as_slice-in-loop-i.result.now
+    ≡ map with_receivers c.args.found.now.each.items
+all_receivers c =
+    ap (map narrowed_receivers_view) c.as_slice-in-loop-i.ensures.value ∙ c.in_ok-each.ensures
+    ∙ ap (map with_receivers) c.as_slice.ensures.value
 
 pub push_rule_lines-requires : goal.push_rule_lines-requires
 push_rule_lines-requires c =
-    let are : map narrowed_receivers_view c.as_slice-in-loop-i.result.now ≡ map with_receivers c.args.found.now.each.items =
-    ap (map narrowed_receivers_view) c.as_slice-in-loop-i.ensures.value ∙ c.in_ok-each.ensures
-    ∙ ap (map with_receivers) c.as_slice.ensures.value in
     subst (λ (n : Option NarrowedReceivers). IfSome n (λ n. HaveWholeFirsts (narrowed_receivers_view n)))
-    (sym c.narrowed_at-narrowed.ensures)
-    (whole_at_position c.as_slice-in-loop-i.result.now c.args.found.now.each.items are c.requires.whole
-    c.index.result.now)
+    (sym c.item_at-narrowed.ensures)
+    (whole_at_position c.as_slice-in-loop-i.result.now c.args.found.now.each.items (all_receivers c)
+    c.requires.whole c.index.result.now)
 
 pub loop-i-preserved : goal.loop-i-preserved
 loop-i-preserved c =
@@ -39,44 +50,45 @@ loop-i-preserved c =
     let w = with_outcomes rules (rule_outcomes_view found) in
     let i = c.loop-i.i in
     let rule : AlertingRule = c.index-rules-i.result in
-    let n = narrowed_of found.each.items c.index.result.now in
-    let one : AlertingRule × List RuleOutcome = (rule, shown_outcomes rule n) in
-    let lines : List Line = rule_lines config asked rule (shown_outcomes rule n) in
+    let one : AlertingRule × List RuleOutcome = (
+      rule,
+      receiver_outcomes
+          (rule_outcomes_shown rule (narrowed_of found.each.items c.index.result.now)),
+    ) in
+    let lines : List Line = rule_lines config asked one in
     let within : i < length found.of_rules.items = omega (arith, c.requires.each) in
     let at : slice_get w i ≡ Some one =
-    with_outcomes-at rules (rule_outcomes_view found) i rule n
+    slice_get-map with_receivers_of (with_rule_outcomes rules (rule_outcomes_view found)) i
+    ∙ ap (option_map with_receivers_of) (found_at rules found i rule c.index.result.now
     (stands_at rules i rule c.loop-i-test.true c.index-rules-i.is)
-    (slice_get-map (narrowed_of found.each.items) found.of_rules.items i
-    ∙ ap (option_map (narrowed_of found.each.items))
     (stands_at found.of_rules.items i c.index.result.now within c.index.ensures)) in
-    let are : map narrowed_receivers_view c.as_slice-in-loop-i.result.now ≡ map with_receivers found.each.items =
-    ap (map narrowed_receivers_view) c.as_slice-in-loop-i.ensures.value ∙ c.in_ok-each.ensures
-    ∙ ap (map with_receivers) c.as_slice.ensures.value in
     let more : map line_view c.push_rule_lines.new.lines.items ≡ map line_view c.loop-i.lines.items ++ lines =
     c.in_ok-push_rule_lines.ensures
-    ∙ ap (λ os. map line_view c.loop-i.lines.items ++ rule_lines config asked rule os)
-    (ap (λ o. outcomes_shown rule (option_map narrowed_receivers_view o)) c.narrowed_at-narrowed.ensures
-    ∙ shown_at_position c.as_slice-in-loop-i.result.now found.each.items are rule c.index.result.now) in
+    ∙ ap (λ os. map line_view c.loop-i.lines.items ++ rule_lines config asked (rule, os))
+    (ap (λ o. outcomes_shown rule (option_map narrowed_receivers_view o)) c.item_at-narrowed.ensures
+    ∙ shown_at_position c.as_slice-in-loop-i.result.now found.each.items
+    (all_receivers (goal.at.loop-i-preserved c).After-index-rules-i) rule c.index.result.now) in
     let count : length c.push_rule_lines.new.lines.items ≡ length c.loop-i.lines.items + length lines =
     sym (length-map c.push_rule_lines.new.lines.items line_view) ∙ ap length more
     ∙ length-append (map line_view c.loop-i.lines.items) lines
     ∙ ap (λ m. m + length lines) (length-map c.loop-i.lines.items line_view) in
-    let counted = count_more config asked w i one at in
-    let shown : (c.if-len-before.shown ≡ count_to config asked w (i + 1)) × (c.if-len-before.shown ≤ i + 1) =
+    let has : AlertingRule × List RuleOutcome → Bool = λ rule. has_lines (rule_lines config asked rule) in
+    let counted : count_by has (take (i + 1) w) ≡ count_by has (take i w) + cond (has_lines lines) 1 0 =
+    counted_more has w i one at in
+    let shown : (c.if-len-before.shown ≡ count_by has (take (i + 1) w)) × (c.if-len-before.shown ≤ i + 1) =
     elim c.if-len-before.branch [
       | then-len-before w' ↦
-          let some = some_there lines (omega (arith, count)) in
-          let e : count_to config asked w (i + 1) ≡ count_to config asked w i + 1 =
-          counted ∙ ap (λ b. count_to config asked w i + cond b 1 0) some in
+          let e : count_by has (take (i + 1) w) ≡ count_by has (take i w) + 1 =
+          counted ∙ ap (λ b. count_by has (take i w) + cond b 1 0) (some_there lines (omega (arith, count))) in
           (omega arith, omega arith)
       | else-len-before w' ↦
-          let none = none_there lines (omega (arith, count)) in
-          let e : count_to config asked w (i + 1) ≡ count_to config asked w i + 0 =
-          counted ∙ ap (λ b. count_to config asked w i + cond b 1 0) none in
+          let e : count_by has (take (i + 1) w) ≡ count_by has (take i w) + 0 =
+          counted ∙ ap (λ b. count_by has (take i w) + cond b 1 0) (none_there lines (omega (arith, count))) in
           (omega arith, omega arith)
     ] in
     record {
-      lines = more ∙ ap (λ ls. ls ++ lines) c.loop-i.invariant.lines ∙ lines_more config asked w i one at;
+      lines = more ∙ ap (λ ls. ls ++ lines) c.loop-i.invariant.lines
+          ∙ joined_more (rule_lines config asked) w i one at;
       shown = shown.0;
       few = shown.1;
     }
@@ -89,11 +101,11 @@ returns c =
     let rules : List AlertingRule = c.args.rules.now in
     let w = with_outcomes rules (rule_outcomes_view found) in
     let long : length w ≡ length rules =
-    with_outcomes-length rules (rule_outcomes_view found)
-    (length-map found.of_rules.items (narrowed_of found.each.items) ∙ c.requires.each) in
+    length-map (with_rule_outcomes rules (rule_outcomes_view found)) with_receivers_of
+    ∙ found_length rules found c.requires.each in
     let all = take_all c.loop-i.i w (omega (arith, long)) in
-    let lines = c.loop-i.invariant.lines
-    ∙ ap (λ w. flat_map (λ (lines : List Line). lines) (rules_lines config asked w)) all in
-    let shown = c.loop-i.invariant.shown ∙ ap (λ w. count_by has_lines (rules_lines config asked w)) all in
+    let lines = c.loop-i.invariant.lines ∙ ap (flat_map (rule_lines config asked)) all in
+    let shown = c.loop-i.invariant.shown
+    ∙ ap (count_by (λ rule. has_lines (rule_lines config asked rule))) all in
     let last = c.in_ok-last.ensures ∙ (λ i. last_pieces asked (shown i) (sym long i)) in
     record { report = λ i. record { lines = lines i; last = last i } }
