@@ -1,5 +1,5 @@
 -- The receivers of an alert are declared.
-use Rattle.std.proofs.Common.{◌≡◌, ◌<◌, ℕ, length, subst}
+use Rattle.std.proofs.Common.{◌<◌, ℕ, length, subst}
 use Rattle.std.specs.List.{AllByRecursion}
 use Rattle.am_universe.specs.LabelSet.{LabelMap}
 use Rattle.am_universe.proofs.ListLemmas.{AllByRecursion-each, Contains-from_IsIn}

@@ -6,7 +6,6 @@ pub mod Inhibiting
 pub mod Declared
 pub mod MarkedRows
 pub mod Lacked
-pub mod SomeFire
 pub mod Hiding
 pub mod Kept
 pub mod ReachLaws

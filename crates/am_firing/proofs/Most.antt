@@ -4,7 +4,6 @@ use Rattle.std.proofs.Common.{length, Bool, true, false, refl, ap, ◌∙◌, in
 use Rattle.std.specs.List.{find, enumerate_from}
 use Rattle.std.proofs.lemmas.Bool.{cases_Bool, and_parts, and_from, leb-true}
 use Rattle.std.proofs.lemmas.Bool.Decides.{nat_tests}
-use Rattle.std.proofs.lemmas.Grind.{common_steps}
 use Rattle.std.proofs.lemmas.List.Folds.{find-append}
 use Rattle.std.proofs.lemmas.Option.{same_Some}
 use Rattle.am_universe.proofs.ListLemmas.{IsIn}

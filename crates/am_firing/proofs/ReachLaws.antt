@@ -1,6 +1,6 @@
 -- What alerts reach is what they are defined to reach, and no alert enters a route below one that
 -- none enters.
-use Rattle.std.proofs.Common.{◌≡◌, ◌↔◌, ℕ, List, Contains}
+use Rattle.std.proofs.Common.{◌↔◌, ℕ, List, Contains}
 use Rattle.std.specs.Prelude.{IsTrue, IsFalse}
 use Rattle.std.proofs.lemmas.Bool.{false_from_ne_true, both_ways}
 use Rattle.am_universe.specs.LabelSet.{LabelMap}

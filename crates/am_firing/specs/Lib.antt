@@ -1,5 +1,5 @@
 pub mod Unreached
-pub mod Ends
+pub mod Reach
 pub mod Wide
 pub mod Deciding
 pub mod HidesAll

@@ -1,4 +1,4 @@
--- What no alert of a file reaches: routes, receivers, and sides of inhibition rules.
+-- What some alerts do not reach: routes, receivers, and sides of inhibition rules.
 use Rattle.std.specs.Prelude.{ℕ, List, [], ◌∷◌, length, take, Bool, true, false, not, ◌&&◌, ◌==◌}
 use Rattle.std.specs.Prelude.{Option, Some, None}
 use Rattle.std.specs.List.{list_any}
@@ -37,8 +37,8 @@ gets_some w receiver = list_any (goes_to w.config receiver) w.alerts
 abbrev pub is_matched : List LabelMap → List Matcher → Bool
 is_matched alerts matchers = list_any (λ alert. all_hold alert matchers) alerts
 
--- Some firing alert enters the parent of a route, or the route is the top-level one. `entered` says
--- which routes an alert enters.
+-- An alert enters the parent of a route, or the route is the top-level one. `entered` says which
+-- routes an alert enters.
 -- Source: own choice.
 -- Example: for `/2/0` it is so if an alert ends at `/2/1`.
 abbrev pub has_entered_parent : (List ℕ → Bool) → List ℕ → Bool
@@ -53,9 +53,9 @@ is_barred (Some (Dead cause routes)) = true
 is_barred (Some (Unusual cause routes entry)) = true
 is_barred (Some (HandsOn children)) = false
 
--- A route is told to be unreached: no firing alert enters it, though one enters its parent. It is
--- not told if over every alert worse is said of the route. Nor is it told below an unreached route,
--- since no alert enters a route below one that none enters.
+-- A route is told to be unreached: none of some alerts enters it, though one enters its parent. It
+-- is not told if over every alert worse is said of the route. Nor is it told below an unreached
+-- route, since no alert enters a route below one that none enters.
 -- Source: own choice.
 -- Example: if no firing alert has the team `db`, a route with `team="db"` is unreached, and its
 -- children are not told. If no alert fires at all, the top-level route alone is told.

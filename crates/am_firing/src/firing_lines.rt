@@ -7,7 +7,8 @@ ghost use Rattle.am_firing.specs.FiringLines.{firing_lines};
 
 use crate::going::alerts_of_receivers;
 use crate::hiding_lines::push_hiding_lines;
-use crate::unreached_lines::{push_receiver_lines, push_route_lines, push_rule_lines};
+use crate::reached::{Whose, reached_by_alerts};
+use crate::unreached_lines::push_unreached;
 use crate::wide_lines::push_wide_lines;
 use am_eval::World;
 use am_idle::{RuleFinding, SilenceFinding};
@@ -39,9 +40,18 @@ pub fn push_firing_lines<'a>(
         silences.now) }
 {
     let going = alerts_of_receivers(alloc, world)?;
-    push_route_lines(alloc, lines, world, routes)?;
-    push_receiver_lines(alloc, lines, world, going.as_slice(), receivers)?;
-    push_rule_lines(alloc, lines, world, rules)?;
+    let reached = reached_by_alerts(alloc, world, going.as_slice())?;
+    let config = world.config();
+    push_unreached(
+        alloc,
+        lines,
+        config,
+        Whose::File,
+        &reached,
+        routes,
+        receivers,
+        rules,
+    )?;
     push_wide_lines(alloc, lines, world)?;
     push_hiding_lines(alloc, lines, world, going.as_slice(), silences)
 }

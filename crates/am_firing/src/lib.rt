@@ -1,9 +1,10 @@
-//! What the firing alerts of a file show of a configuration and of silences.
+//! What some alerts show of a configuration and of silences.
 //!
 //! [`push_firing_lines`] adds a note for each route, receiver and side of an inhibition rule that
-//! no alert of the file reaches, for each rule by which one alert inhibits most of the others, and
-//! for each silence that hides all alerts of a receiver. What is said of routes, receivers and
-//! rules over every possible alert is known before, and is not told again.
+//! no alert of a file reaches, for each rule by which one alert inhibits most of the others, and
+//! for each silence that hides all alerts of a receiver. [`push_unreached`] adds a finding for each
+//! route, receiver and side that no alert of alerting rules reaches. What is said of routes,
+//! receivers and rules over every possible alert is known before, and is not told again.
 #![tactic(auto)]
 
 // When an alert inhibits many others.
@@ -13,6 +14,7 @@ pub mod limits;
 mod entered;
 mod going;
 mod matching;
+mod reached;
 
 // How many alerts each alert inhibits by a rule.
 mod wide;
@@ -24,6 +26,8 @@ mod unreached_lines;
 mod wide_lines;
 
 pub use firing_lines::push_firing_lines;
+pub use reached::{Reached, Whose};
+pub use unreached_lines::push_unreached;
 
 // What follows from the definitions alone.
 pub mod laws;

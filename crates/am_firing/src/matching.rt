@@ -2,6 +2,7 @@
 
 ghost use Rattle.std.specs.Prelude.{◌≡◌, map, IfOk};
 ghost use Rattle.am_labels.specs.Matcher.{all_hold};
+ghost use Rattle.am_firing.specs.Unreached.{is_matched};
 
 use am_labels::Matchers;
 use am_list_files::Alerts;
@@ -23,4 +24,16 @@ pub(crate) fn matches_of(
         found.push(prepared.matches(alloc, alerts.get(i))?)?;
     }
     Ok(found)
+}
+
+/// Whether a list of matchers matches one of some alerts. Fails only if memory runs out.
+pub(crate) fn is_matched(
+    alloc: Global,
+    matchers: &Matchers,
+    alerts: &Alerts,
+) -> Result<bool, AllocError>
+    ensures { IfOk result (λ found. found ≡ is_matched alerts.now matchers.now) }
+{
+    let matches = matches_of(alloc, matchers, alerts)?;
+    Ok(matches.iter().any(|is_match| *is_match))
 }

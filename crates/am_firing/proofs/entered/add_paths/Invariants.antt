@@ -1,5 +1,5 @@
 use Rattle.std.proofs.Common.{◌≡◌, ◌||◌, ℕ, List, take}
-use Rattle.am_firing.specs.Ends.{leads_to, paths_of}
+use Rattle.am_firing.specs.Reach.{leads_to, paths_of}
 use Rattle.am_firing.proofs.entered.add_paths.Given as goal
 
 -- what the paths so far add

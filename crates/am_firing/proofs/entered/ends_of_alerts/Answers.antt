@@ -1,11 +1,11 @@
 -- The ends of one more alert.
 use Rattle.std.proofs.Common.{◌≡◌, ◌||◌, Some, ap, sym, ◌∙◌}
 use Rattle.std.specs.Prelude.{slice_get}
+use Rattle.std.proofs.Math.Bool.{or_assoc}
 use Rattle.am_universe.proofs.Members.{left_at}
 use Rattle.am_eval.specs.Routing.{ends}
-use Rattle.am_firing.specs.Ends.{leads_to, paths_of}
+use Rattle.am_firing.specs.Reach.{leads_to, paths_of}
 use Rattle.am_firing.specs.Unreached.{enters}
-use Rattle.am_firing.proofs.SomeEnd.{or_assoc}
 use Rattle.am_firing.proofs.entered.ends_of_alerts.Goals as goal
 
 pub loop-i-preserved : goal.loop-i-preserved

@@ -1,6 +1,6 @@
 use Rattle.std.proofs.Common.{◌≡◌, ◌||◌, ℕ, List, drop}
 use Rattle.std.specs.List.{list_any}
-use Rattle.am_firing.specs.Ends.{leads_to, paths_of}
+use Rattle.am_firing.specs.Reach.{leads_to, paths_of}
 use Rattle.am_firing.specs.Unreached.{enters, is_entered}
 use Rattle.am_firing.proofs.entered.ends_of_alerts.Given as goal
 

@@ -1,12 +1,10 @@
 -- The positions for one more receiver.
-use Rattle.std.proofs.Common.{◌≡◌, ◌<◌, ◌++◌, ◌∷◌, [], List, ℕ, length, map, false, get_or, refl, ap, sym, subst, ◌∙◌, arith}
-use Rattle.std.specs.List.{All, range_with_len}
+use Rattle.std.proofs.Common.{◌≡◌, length, map, refl, ap, ◌∙◌, arith}
 use Rattle.std.proofs.lemmas.List.{map-append}
 use Rattle.std.proofs.lemmas.List.FromFn.{map-range_with_len_more}
 use Rattle.std.proofs.lemmas.List.Elements.{All-from_recursion}
 use Rattle.am_config.specs.ConfigFile.{Configuration}
-use Rattle.am_eval.specs.Silencing.{positions_where}
-use Rattle.am_firing.specs.Going.{marks_of, positions_of}
+use Rattle.am_firing.specs.Going.{positions_of}
 use Rattle.am_firing.proofs.MarkedRows.{rows_wide, marked_rows}
 use Rattle.am_firing.proofs.going.alerts_of_receivers.Goals as goal
 

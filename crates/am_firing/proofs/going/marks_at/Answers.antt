@@ -1,5 +1,5 @@
 -- All positions are marked.
-use Rattle.std.proofs.Common.{◌≡◌, ◌==◌, false, get_or, ap, ◌∙◌, arith}
+use Rattle.std.proofs.Common.{◌==◌, false, ap, ◌∙◌, arith}
 use Rattle.std.specs.List.{list_any}
 use Rattle.std.proofs.lemmas.List.{take_all}
 use Rattle.std.proofs.lemmas.List.FromFn.{fill_by_all}

@@ -1,8 +1,6 @@
 -- One more receiver, all of whose alerts are hidden, or not.
-use Rattle.std.proofs.Common.{◌≡◌, ◌<◌, ◌++◌, [], ◌∷◌, ℕ, Some, length, map, refl, ap, subst, sym, ◌∙◌, arith}
-use Rattle.std.specs.Prelude.{slice_get}
-use Rattle.std.specs.List.{All, filter, flat_map, range_with_len}
-use Rattle.std.proofs.lemmas.Grind.{common_steps}
+use Rattle.std.proofs.Common.{◌≡◌, ◌<◌, length, map, refl, ap, subst, sym, ◌∙◌, arith}
+use Rattle.std.specs.List.{All}
 use Rattle.std.proofs.lemmas.List.{flat_map_more, length-map, map-append, append-nil}
 use Rattle.std.proofs.lemmas.List.Elements.{All-from_recursion}
 use Rattle.am_universe.specs.LabelSet.{LabelMap}
@@ -12,7 +10,7 @@ use Rattle.am_report_texts.proofs.PieceSteps.{item_here}
 use Rattle.am_firing.specs.Unreached.{goes_to}
 use Rattle.am_firing.specs.HidesAll.{alerts_of, hides_each}
 use Rattle.am_firing.specs.Going.{positions_of, are_all_marked}
-use Rattle.am_firing.specs.FiringLines.{hiding_line, hiding_lines}
+use Rattle.am_firing.specs.FiringLines.{hiding_line}
 use Rattle.am_firing.proofs.Numbered.{row_at, rows_long}
 use Rattle.am_firing.proofs.Positions.{where_within, where_count, all_marked}
 use Rattle.am_firing.proofs.Hiding.{hides_as_marks, range_more}

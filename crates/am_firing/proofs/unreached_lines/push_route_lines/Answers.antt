@@ -1,23 +1,38 @@
--- The routes that the ends enter are those that the alerts enter.
-use Rattle.std.proofs.Common.{◌≡◌, ◌++◌, ℕ, List, Bool, map, subst}
-use Rattle.std.specs.Prelude.{OnOk}
-use Rattle.am_config.specs.ConfigFile.{Configuration}
+-- One more route, which is unreached or not.
+use Rattle.std.proofs.Common.{◌≡◌, ◌+◌, ◌++◌, [], ◌∷◌, take, map, ap, sym, ◌∙◌}
+use Rattle.std.proofs.lemmas.List.{map-append}
 use Rattle.am_config.specs.ConfigView.{config_view}
-use Rattle.am_lint.specs.FoundView.{said_of}
 use Rattle.am_report_texts.specs.LineView.{line_view}
-use Rattle.am_firing.specs.Ends.{leads_to, paths_of}
-use Rattle.am_firing.specs.Unreached.{is_entered}
-use Rattle.am_firing.specs.FiringLines.{unreached_lines}
+use Rattle.am_report_texts.proofs.PieceSteps.{item_here}
+use Rattle.am_lint.specs.FoundView.{said_of}
+use Rattle.am_firing.specs.Reach.{leads_to, paths_of}
+use Rattle.am_firing.specs.Unreached.{is_unreached}
+use Rattle.am_firing.specs.FiringLines.{route_line}
+use Rattle.am_firing.proofs.Inhibiting.{one_longer}
+use Rattle.am_firing.proofs.Kept.{one_kept, none_kept}
 use Rattle.am_firing.proofs.unreached_lines.push_route_lines.Goals as goal
+use Rattle.am_firing.proofs.unreached_lines.push_route_lines.Goals.{then-branch+in_ok-route_line+in_ok-push, else-branch}
 
-pub returns : goal.returns
-returns c =
-    let w = c.args.world.now in
-    let said = map said_of c.args.routes.now in
-    let before = map line_view c.args.lines.now.items in
-    let after = map line_view c.push_unreached.new.lines.items in
-    let same : leads_to (paths_of c.in_ok-ends.ends) ≡ is_entered w = (λ i path. c.in_ok-ends.ensures path i) in
-    subst (λ (k : Configuration). OnOk c.push_unreached.result (after ≡ before ++ unreached_lines (is_entered w) k said))
-    c.config.ensures.config
-    (subst (λ (entered : List ℕ → Bool). OnOk c.push_unreached.result
-    (after ≡ before ++ unreached_lines entered (config_view c.config.result.now) said)) same c.push_unreached.ensures)
+pub loop-route-preserved : goal.loop-route-preserved
+loop-route-preserved c =
+    let routes = c.args.routes.now in
+    let i = c.loop-route.route-index in
+    let route = c.route-item.result in
+    let line = route_line c.args.whose (config_view c.args.config.now) (map said_of routes) in
+    let test = is_unreached (leads_to (paths_of c.args.ends.now)) in
+    let before = map said_of (take i routes) in
+    let more : map said_of (take (i + 1) routes) ≡ before ++ said_of route ∷ [] =
+    ap (map said_of) (one_longer routes i route (item_here routes i route c.loop-route-test.true c.route-item.is))
+    ∙ map-append said_of (take i routes) (route ∷ []) in
+    rw more (elim c.if-branch.branch [
+      | then-branch+in_ok-route_line+in_ok-push v ↦
+          one_kept line test before (said_of route) _ _ _ c.loop-route.invariant
+          (sym c.in_ok-is_unreached.ensures ∙ v.if-branch.true)
+          (ap (λ ls. map line_view ls.items) v.lines-is ∙ ap (map line_view) v.in_ok-push.ensures.items
+          ∙ map-append line_view c.loop-route.lines.items (v.in_ok-route_line.field-0 ∷ [])
+          ∙ ap (λ l. map line_view c.loop-route.lines.items ++ l ∷ []) v.in_ok-route_line.ensures)
+      | else-branch v ↦
+          none_kept line test before (said_of route) _ _ _ c.loop-route.invariant
+          (sym c.in_ok-is_unreached.ensures ∙ v.if-branch.false)
+          (ap (λ ls. map line_view ls.items) v.lines-is)
+    ])

@@ -1,39 +1,33 @@
--- One more route, which is unreached or not.
-use Rattle.std.proofs.Common.{◌≡◌, ◌+◌, ◌++◌, [], ◌∷◌, take, map, ap, subst, sym, ◌∙◌}
-use Rattle.std.specs.List.{filter}
-use Rattle.std.proofs.lemmas.List.{map-append}
+-- The lines of routes, receivers and rules stand one behind the other.
+use Rattle.std.proofs.Common.{◌≡◌, ◌++◌, List, map, subst, append_assoc}
+use Rattle.std.specs.Prelude.{OnOk}
+use Rattle.std.specs.List.{flat_map, enumerate_from, zip}
 use Rattle.am_config.specs.ConfigView.{config_view}
-use Rattle.am_report_texts.specs.LineView.{line_view}
-use Rattle.am_report_texts.proofs.PieceSteps.{item_here}
 use Rattle.am_lint.specs.FoundView.{said_of}
-use Rattle.am_firing.specs.Ends.{leads_to, paths_of}
-use Rattle.am_firing.specs.Unreached.{is_unreached}
-use Rattle.am_firing.specs.FiringLines.{route_line}
-use Rattle.am_firing.proofs.Inhibiting.{one_longer}
-use Rattle.am_firing.proofs.Kept.{one_kept, none_kept}
+use Rattle.am_report_texts.specs.Line.{Line}
+use Rattle.am_report_texts.specs.LineView.{line_view}
+use Rattle.am_firing.specs.Reach.{reached_view}
+use Rattle.am_firing.specs.FiringLines.{rule_lines, unreached_lines}
 use Rattle.am_firing.proofs.unreached_lines.push_unreached.Goals as goal
-use Rattle.am_firing.proofs.unreached_lines.push_unreached.Goals.{then-is_unreached+in_ok-route_line+in_ok-push, else-is_unreached}
 
-pub loop-route-preserved : goal.loop-route-preserved
-loop-route-preserved c =
-    let routes = c.args.routes.now in
-    let i = c.loop-route.route-index in
-    let route = c.route-item.result in
-    let line = route_line (config_view c.args.config.now) (map said_of routes) in
-    let test = is_unreached (leads_to (paths_of c.args.ends.now)) in
-    let before = map said_of (take i routes) in
-    let more : map said_of (take (i + 1) routes) ≡ before ++ said_of route ∷ [] =
-    ap (map said_of) (one_longer routes i route (item_here routes i route c.loop-route-test.true c.route-item.is))
-    ∙ map-append said_of (take i routes) (route ∷ []) in
-    rw more (elim c.if-is_unreached.branch [
-      | then-is_unreached+in_ok-route_line+in_ok-push v ↦
-          one_kept line test before (said_of route) _ _ _ c.loop-route.invariant
-          (sym c.is_unreached.ensures ∙ v.if-is_unreached.true)
-          (ap (λ ls. map line_view ls.items) v.lines-is ∙ ap (map line_view) v.in_ok-push.ensures.items
-          ∙ map-append line_view c.loop-route.lines.items (v.in_ok-route_line.field-0 ∷ [])
-          ∙ ap (λ l. map line_view c.loop-route.lines.items ++ l ∷ []) v.in_ok-route_line.ensures)
-      | else-is_unreached v ↦
-          none_kept line test before (said_of route) _ _ _ c.loop-route.invariant
-          (sym c.is_unreached.ensures ∙ v.if-is_unreached.false)
-          (ap (λ ls. map line_view ls.items) v.lines-is)
-    ])
+pub returns : goal.returns
+returns c =
+    let config = config_view c.args.config.now in
+    let whose = c.args.whose in
+    let before = map line_view c.args.lines.now.items in
+    let after = map line_view c.push_rule_lines.new.lines.items in
+    let put : map line_view c.push_receiver_lines.new.lines.items
+    ++ flat_map (rule_lines whose) (enumerate_from 0 (zip config.rules (zip c.as_slice-2.result.now c.args.rules.now)))
+    ≡ before ++ unreached_lines whose config (reached_view c.args.reached.now) (map said_of c.args.routes.now)
+    c.args.receivers.now c.args.rules.now =
+    rw (
+      c.in_ok-push_receiver_lines.ensures,
+      c.in_ok-push_route_lines.ensures,
+      c.as_slice.ensures.value,
+      c.as_slice-2.ensures.value,
+      c.if-not-reached.false,
+    ) (simp append_assoc) in
+    record {
+      lines = subst (λ (ls : List Line). OnOk c.push_rule_lines.result (after ≡ ls)) put
+          c.push_rule_lines.ensures;
+    }

@@ -1,6 +1,5 @@
 -- The number for one more alert.
-use Rattle.std.proofs.Common.{◌≡◌, ◌<◌, [], ◌∷◌, length, Some, count_by, map, ap, sym, ◌∙◌, append_assoc, arith}
-use Rattle.std.specs.Prelude.{slice_get}
+use Rattle.std.proofs.Common.{◌≡◌, ◌<◌, [], ◌∷◌, length, count_by, map, ap, ◌∙◌, append_assoc, arith}
 use Rattle.am_universe.proofs.Members.{left_at}
 use Rattle.am_universe.proofs.LabelPairLemmas.{found_at}
 use Rattle.am_labels.specs.Matcher.{all_hold}

@@ -1,6 +1,5 @@
 -- The tests of a rule, by what is kept of the two alerts.
-use Rattle.std.proofs.Common.{◌≡◌, List, ℕ, Bor, Some, map, ap, sym, ◌∙◌, arith}
-use Rattle.std.specs.Prelude.{slice_get}
+use Rattle.std.proofs.Common.{◌≡◌, List, ℕ, Bor, sym, ◌∙◌, arith}
 use Rattle.std.proofs.lemmas.Bool.{cases_Bool}
 use Rattle.std.proofs.lemmas.Grind.{common_steps}
 use Rattle.am_universe.specs.LabelSet.{LabelMap, value_of}

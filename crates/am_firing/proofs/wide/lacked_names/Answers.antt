@@ -1,7 +1,6 @@
 -- One more label in `equal`, which the alert lacks or has.
-use Rattle.std.proofs.Common.{◌≡◌, ◌==◌, String, Some, true, false, length, map, ap, subst, sym, ◌∙◌}
+use Rattle.std.proofs.Common.{◌≡◌, ◌==◌, Some, length, ap, sym, ◌∙◌}
 use Rattle.std.specs.Prelude.{slice_get, string_bytes}
-use Rattle.std.specs.Global.{Global}
 use Rattle.am_universe.specs.LabelSet.{value_of}
 use Rattle.am_report_texts.specs.EachOnce.{with_text}
 use Rattle.am_report_texts.proofs.PieceSteps.{item_here}

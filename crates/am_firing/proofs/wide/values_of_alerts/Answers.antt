@@ -1,5 +1,5 @@
 -- The values of one more alert.
-use Rattle.std.proofs.Common.{◌≡◌, [], ◌∷◌, ◌++◌, map, ap, ◌∙◌, append_assoc}
+use Rattle.std.proofs.Common.{[], ◌∷◌, map, ◌∙◌, append_assoc}
 use Rattle.std.proofs.lemmas.List.{map-append}
 use Rattle.am_universe.proofs.Members.{left_at}
 use Rattle.am_config.specs.RouteView.{names_of}

@@ -1,11 +1,11 @@
 -- The first that is the largest, and whether it is many.
-use Rattle.std.proofs.Common.{◌≡◌, ℕ, ◌<◌, ◌≤◌, ◌+◌, ◌++◌, ◌∷◌, [], length, take, get_or, Some, true, false, ap, subst, sym, ◌∙◌, arith}
+use Rattle.std.proofs.Common.{◌≡◌, ℕ, ◌++◌, ◌∷◌, [], length, take, get_or, true, false, subst, sym, arith}
 use Rattle.std.proofs.lemmas.Bool.Decides.{nat_tests}
 use Rattle.std.proofs.lemmas.Bool.{and_from}
 use Rattle.std.proofs.lemmas.Grind.{common_steps}
 use Rattle.std.proofs.lemmas.List.{take_more, take_all, length-take-le}
 use Rattle.am_firing.specs.Wide.{is_many}
-use Rattle.am_firing.proofs.Most.{IsMostSoFar, most_of_none, most_takes, most_keeps, widest_is, widest_none, widest_within}
+use Rattle.am_firing.proofs.Most.{IsMostSoFar, most_takes, most_keeps, widest_is, widest_none, widest_within}
 use Rattle.am_firing.proofs.wide.widest.Goals as goal
 use Rattle.am_firing.proofs.wide.widest.Goals.{then-count-most, else-count-most}
 use Rattle.am_firing.proofs.wide.widest.Goals.{else-most-ge-FEWEST_INHIBITED-via-then-most-ge-FEWEST_INHIBITED+else-div_ceil-most}

@@ -5,7 +5,7 @@ use Rattle.std.proofs.lemmas.Iterator.Search.{any_from_yields_List}
 use Rattle.am_universe.specs.LabelSet.{LabelMap}
 use Rattle.am_universe.proofs.UniverseLemmas.{list_any-map}
 use Rattle.am_labels.specs.Matcher.{all_hold}
-use Rattle.am_firing.proofs.unreached_lines.is_matched.Goals as goal
+use Rattle.am_firing.proofs.matching.is_matched.Goals as goal
 
 pub returns : goal.returns
 returns c =
