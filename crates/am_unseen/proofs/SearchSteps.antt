@@ -9,14 +9,14 @@ use Rattle.am_unseen.specs.Unseen.{UnseenMatcher, unseen_by}
 use Rattle.am_unseen.specs.Search.{Search, after_matcher}
 
 abbrev state : List LabelMap → List UnseenMatcher → Search
-state alerts found = record { alerts = alerts; found = found }
+state known found = record { known = known; found = found }
 
-pub found_after : (alerts : List LabelMap) (found : List UnseenMatcher)
+pub found_after : (known : List LabelMap) (found : List UnseenMatcher)
     (placed : List (Origin × Matcher))
-    → fold after_matcher (record { alerts = alerts; found = found }) placed
-    ≡ record { alerts = alerts; found = found ++ flat_map (unseen_by alerts) placed }
-found_after alerts found [] = ap (state alerts) (sym (append-nil found))
-found_after alerts found (p ∷ ps) =
-    let more = unseen_by alerts p in
-    found_after alerts (found ++ more) ps
-    ∙ ap (state alerts) (append_assoc found more (flat_map (unseen_by alerts) ps))
+    → fold after_matcher (record { known = known; found = found }) placed
+    ≡ record { known = known; found = found ++ flat_map (unseen_by known) placed }
+found_after known found [] = ap (state known) (sym (append-nil found))
+found_after known found (p ∷ ps) =
+    let more = unseen_by known p in
+    found_after known (found ++ more) ps
+    ∙ ap (state known) (append_assoc found more (flat_map (unseen_by known) ps))

@@ -1,7 +1,7 @@
--- The values that alerts have for a label and the names that they have, alert by alert, and what the
+-- The values that label sets have for a label and the names that they have, set by set, and what the
 -- code asks of a set of them.
-use Rattle.std.proofs.Common.{◌≡◌, ℕ, ◌+◌, List, [], ◌∷◌, ◌++◌, refl, sym, ap, ◌∙◌, Bool, true, false}
-use Rattle.std.proofs.Common.{Some, take, map, fold, length, Bor, arith, ◌≢◌, append-nil}
+use Rattle.std.proofs.Common.{◌≡◌, ℕ, ◌+◌, List, [], ◌∷◌, ◌++◌, refl, sym, ap, ◌∙◌, Bool}
+use Rattle.std.proofs.Common.{Some, take, map, fold, length, Bor, arith, ◌≢◌, append-nil, append_assoc}
 use Rattle.std.specs.Prelude.{slice_get}
 use Rattle.std.specs.FinMap.{keys}
 use Rattle.std.specs.List.{filter, flat_map, list_any}
@@ -16,51 +16,41 @@ use Rattle.am_universe.specs.LabelSet.{LabelMap, value_of}
 use Rattle.am_universe.specs.Text.{same_text}
 use Rattle.am_complete.specs.FoundState.{begins}
 use Rattle.am_complete.proofs.Pushed.{one_longer}
-use Rattle.am_report_texts.specs.EachOnce.{with_text, each_once}
-use Rattle.am_unseen.specs.Unseen.{seen_values}
-use Rattle.am_unseen.specs.UnseenNames.{seen_names}
+use Rattle.am_report_texts.specs.EachOnce.{with_text}
+use Rattle.am_unseen.specs.Unseen.{all_values}
 
--- ---- The values with those of one more alert.
+-- ---- One more label set.
 
-seen_more : (alerts : List LabelMap) (name : List ℕ) (i : ℕ) (a : LabelMap)
-    → slice_get alerts i ≡ Some a
-    → seen_values (take (i + 1) alerts) name
-    ≡ fold with_text (seen_values (take i alerts) name) (filter begins (value_of a name ∷ []))
-seen_more alerts name i a at =
-    let values = λ (as' : List LabelMap). map (λ b. value_of b name) as' in
-    ap (λ as'. seen_values as' name) (sym (one_longer alerts i a at))
-    ∙ ap (λ vs. each_once (filter begins vs)) (map_push (λ b. value_of b name) (take i alerts) a)
-    ∙ ap each_once (filter-append begins (values (take i alerts)) (value_of a name ∷ []))
-    ∙ fold-append with_text [] (filter begins (values (take i alerts)))
-    (filter begins (value_of a name ∷ []))
+-- its values of a label
+pub value_more : (start texts more : List (List ℕ)) (sets : List LabelMap) (a : LabelMap)
+    (name : List ℕ) → more ≡ fold with_text texts (all_values (a ∷ []) name)
+    → texts ≡ fold with_text start (all_values sets name)
+    → more ≡ fold with_text start (all_values (sets ++ a ∷ []) name)
+value_more start texts more sets a name put so_far =
+    let one = all_values (a ∷ []) name in
+    put ∙ ap (λ ts. fold with_text ts one) so_far
+    ∙ sym (ap (λ vs. fold with_text start (filter begins vs))
+    (map_push (λ b. value_of b name) sets a)
+    ∙ ap (fold with_text start)
+    (filter-append begins (map (λ b. value_of b name) sets) (value_of a name ∷ []))
+    ∙ fold-append with_text start (all_values sets name) one)
 
--- an alert without the label
-pub none_more : (alerts : List LabelMap) (name : List ℕ) (i : ℕ) (a : LabelMap)
-    (texts : List (List ℕ)) → slice_get alerts i ≡ Some a → begins (value_of a name) ≡ false
-    → texts ≡ seen_values (take i alerts) name → texts ≡ seen_values (take (i + 1) alerts) name
-none_more alerts name i a texts at none so_far =
-    so_far ∙ sym (seen_more alerts name i a at ∙ rw none refl)
-
--- and one with it
-pub value_more : (alerts : List LabelMap) (name : List ℕ) (i : ℕ) (a : LabelMap)
-    (texts more : List (List ℕ)) → slice_get alerts i ≡ Some a
-    → begins (value_of a name) ≡ true → more ≡ with_text texts (value_of a name)
-    → texts ≡ seen_values (take i alerts) name → more ≡ seen_values (take (i + 1) alerts) name
-value_more alerts name i a texts more at some put so_far =
-    put ∙ ap (λ ts. with_text ts (value_of a name)) so_far
-    ∙ sym (seen_more alerts name i a at ∙ rw some refl)
-
--- ---- The names with those of one more alert.
-
-pub names_more : (alerts : List LabelMap) (i : ℕ) (a : LabelMap) (texts more : List (List ℕ))
-    → slice_get alerts i ≡ Some a → more ≡ fold with_text texts (keys a)
-    → texts ≡ seen_names (take i alerts) → more ≡ seen_names (take (i + 1) alerts)
-names_more alerts i a texts more at put so_far =
+-- its names
+pub names_more : (start texts more : List (List ℕ)) (sets : List LabelMap) (a : LabelMap)
+    → more ≡ fold with_text texts (keys a) → texts ≡ fold with_text start (flat_map keys sets)
+    → more ≡ fold with_text start (flat_map keys (sets ++ a ∷ []))
+names_more start texts more sets a put so_far =
     put ∙ ap (λ ts. fold with_text ts (keys a)) so_far
-    ∙ sym (ap seen_names (sym (one_longer alerts i a at))
-    ∙ ap each_once (flat_map-append keys (take i alerts) (a ∷ []))
-    ∙ fold-append with_text [] (flat_map keys (take i alerts)) (keys a ++ [])
-    ∙ ap (fold with_text (seen_names (take i alerts))) (append-nil (keys a)))
+    ∙ sym (ap (fold with_text start)
+    (flat_map-append keys sets (a ∷ []) ∙ ap (λ ks. flat_map keys sets ++ ks) (append-nil (keys a)))
+    ∙ fold-append with_text start (flat_map keys sets) (keys a))
+
+-- one more of the second of two lists
+pub second_longer : (alerts rules : List LabelMap) (i : ℕ) (a : LabelMap)
+    → slice_get rules i ≡ Some a
+    → (alerts ++ take i rules) ++ a ∷ [] ≡ alerts ++ take (i + 1) rules
+second_longer alerts rules i a at =
+    append_assoc alerts (take i rules) (a ∷ []) ∙ ap (λ rs. alerts ++ rs) (one_longer rules i a at)
 
 -- ---- A set.
 

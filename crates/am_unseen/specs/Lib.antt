@@ -1,4 +1,5 @@
 pub mod Similar
+pub mod Known
 pub mod Unseen
 pub mod UnseenNames
 pub mod Search

@@ -13,14 +13,14 @@ use Rattle.am_unseen.specs.Unseen.{UnseenMatcher, seen_values, unseen_by}
 use Rattle.am_unseen.specs.UnseenNames.{Mention, mention_of}
 use denote.Ref.{Bor}
 
--- The alerts, and what was found so far that matchers ask for and no alert has.
+-- The known label sets, and what was found so far that matchers ask for and none of them has.
 pub record Search : Type 0 where
-  pub alerts : List LabelMap
+  pub known : List LabelMap
   pub found : List UnseenMatcher
 
 -- The search after it has looked at one more matcher, which comes with its origin.
 abbrev pub after_matcher : Search → Origin × Matcher → Search
-after_matcher s placed = record s { found = s.found ++ unseen_by s.alerts placed }
+after_matcher s placed = record s { found = s.found ++ unseen_by s.known placed }
 
 -- The names that were mentioned so far, and the first mention of each.
 pub record Mentions : Type 0 where
@@ -44,8 +44,8 @@ after_mention s placed = mentioned s (mention_of placed)
 abbrev pub texts_of : {S : Type 0} → IndexSet (Bor (List ℕ)) S → List (List ℕ)
 texts_of texts = map (λ t. t.now) texts.keys
 
--- The set that a map has for a label name. The sets of a map are the values that alerts have for
--- these labels, each once.
+-- The set that a map has for a label name. The sets of a map are the known values of these labels,
+-- each once.
 abbrev pub set_at : {S : Type 0} → BTreeMap (Bor (List ℕ)) S → List ℕ → Option S
 set_at sets name = get_by (λ k. slice_cmp nat_cmp name k.now) sets
 

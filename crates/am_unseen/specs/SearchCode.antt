@@ -25,4 +25,4 @@ abbrev pub coded_search : Coded Search
 coded_search =
     code_by (List LabelMap × List UnseenMatcher)
     (coded× alerts.the_row.coded (coded_list coded_unseen_matcher))
-    (λ s. (s.alerts, s.found)) (λ p. record { alerts = p.0; found = p.1 }) (λ _. refl)
+    (λ s. (s.known, s.found)) (λ p. record { known = p.0; found = p.1 }) (λ _. refl)

@@ -1,4 +1,5 @@
--- Label names that a configuration or a silence mentions and no firing alert has.
+-- Label names that a configuration or a silence mentions and no known label set has. Known are
+-- those of firing alerts, and those that alerting rules fix. Here each of them is called an alert.
 use Rattle.std.specs.Prelude.{ℕ, List, [], ◌∷◌, ◌++◌, map, fold, Option, Bool}
 use Rattle.std.specs.Prelude.{if◌then◌else◌}
 use Rattle.std.specs.List.{list_any, filter, flat_map, enumerate_from}
@@ -103,8 +104,10 @@ abbrev pub missing_among : List (List ℕ) → List Mention → List UnseenName
 missing_among names mentioned =
     map (unseen_name names) (filter (λ mention. is_missing names mention.1) mentioned)
 
--- The names that a world mentions and none of its alerts has, each once.
+-- The names that a world mentions, each once, that none of its alerts has and no alerting rule
+-- fixes. `rules` has the label sets that rules fix.
 -- Source: own choice.
--- Example: without alerts there are none.
-abbrev pub unseen_names : World → List UnseenName
-unseen_names w = missing_among (seen_names w.alerts) (first_mentions (mentions w))
+-- Example: without alerts and rules there are none.
+abbrev pub unseen_names : World → List LabelMap → List UnseenName
+unseen_names w rules =
+    missing_among (seen_names (w.alerts ++ rules)) (first_mentions (mentions w))

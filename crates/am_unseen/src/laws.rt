@@ -1,4 +1,5 @@
-//! Facts about the definitions alone: each is the contract of a function with an empty body.
+//! Facts about the definitions alone: each is the contract of a function with an empty body. Each
+//! known label set is called an alert, also one that an alerting rule fixes.
 ghost use Rattle.std.specs.Prelude.{◌≡◌, ◌<◌, ◌≤◌, ℕ, List, [], Some, None, Contains, IsTrue};
 ghost use Rattle.std.specs.Prelude.{false, map};
 ghost use Rattle.std.specs.List.{AllByRecursion, list_any};

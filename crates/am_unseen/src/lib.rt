@@ -1,22 +1,24 @@
-//! Which label names and which values no firing alert has.
+//! Which label names and which values no firing alert has, and no alerting rule fixes.
 //!
 //! [`push_unseen`] adds a line for each label name that a configuration or a silence mentions and
-//! that no alert of a world has, and then one for each matcher that asks for a value that none has,
-//! though some alert has the label. Most often such a name or value is misspelled. Each line has
-//! the most similar name or value that an alert has.
+//! that no known label set has, and then one for each matcher that asks for a value that none has,
+//! though some of them has the label. Known are the label sets of the alerts of a world, and those
+//! that alerting rules fix. Most often such a name or value is misspelled. Each line has the most
+//! similar name or value that is known.
 #![tactic(auto)]
 
 // How similar a name or a value has to be to be shown.
 pub mod limits;
 
-// Names and values that alerts have, and the most similar one.
+// Whose label sets are known, the names and values in them, and the most similar one.
+mod known;
 mod seen;
 mod similar;
 
 // The matchers of the silences that are not over.
 mod silences_left;
 
-// Unseen names: what is mentioned, and what of that no alert has.
+// Unseen names: what is mentioned, and what of that is not known.
 mod mentions;
 mod unseen_name;
 

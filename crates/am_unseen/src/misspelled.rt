@@ -1,6 +1,6 @@
 //! Alternatives of a pattern that may be misspelled.
 //!
-//! A pattern often names values that just do not fire now. So an alternative that no alert has is
+//! A pattern often names values that just do not fire now. So an alternative that is not known is
 //! told only if it is similar to a value that the pattern does not name.
 
 ghost use Rattle.std.specs.Prelude.{◌≡◌, true, false, IfOk, map};

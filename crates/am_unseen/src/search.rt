@@ -1,9 +1,9 @@
-//! The search for matchers that ask for what no alert has, matcher by matcher.
+//! The search for matchers that ask for what no known label set has, matcher by matcher.
 //!
-//! Labels that no alert has are ignored: their names are told, and nothing can be said of their
+//! Labels that none of them has are ignored: their names are told, and nothing can be said of their
 //! values.
 
-ghost use Rattle.std.specs.Prelude.{◌≡◌, [], IfOk, option_map};
+ghost use Rattle.std.specs.Prelude.{◌≡◌, [], ◌++◌, IfOk, option_map};
 ghost use Rattle.am_unseen.specs.Unseen.{is_true_of_one, similar_value};
 ghost use Rattle.am_unseen.specs.Unseen.{unseen_beside, unseen_by, unseen_matchers};
 ghost use Rattle.am_unseen.specs.Search.{after_matcher, texts_of};
@@ -18,38 +18,43 @@ use am_complete::Origin;
 use am_eval::World;
 use am_labels::{Matcher, Op};
 use am_list_files::Alerts;
+use am_universe::LabelSet;
 use indexmap::IndexSet;
 use std::alloc::{AllocError, Global};
 use std::collections::BTreeMap;
 use std::marker::Model;
 
-/// Finds the matchers of a world that ask for a value that none of its alerts has, though some
-/// alert has the label. The matchers are those of the routes in preorder, then those of both sides
-/// of the rules, and then those of the silences that are not over. Fails only if memory runs out.
+/// Finds the matchers of a world that ask for a value that none of its alerts has and no alerting
+/// rule fixes, though some alert or rule has the label. `rules` has the label sets that rules fix.
+/// The matchers are those of the routes in preorder, then those of both sides of the inhibition
+/// rules, and then those of the silences that are not over. Fails only if memory runs out.
 pub(crate) fn unseen_matchers<'w>(
     alloc: Global,
     world: &'w World,
+    rules: &'w [LabelSet],
 ) -> Result<Vec<UnseenMatcher<'w>>, AllocError>
-    ensures { IfOk result (λ found. found.items ≡ unseen_matchers world.now) }
+    ensures { IfOk result (λ found. found.items ≡ unseen_matchers world.now rules.now) }
 {
-    let mut search = Search::among(alloc, world.alerts());
+    let mut search = Search::among(alloc, world.alerts(), rules);
     visit_routes(alloc, &mut search, world.config())?;
     visit_rules(&mut search, world.config().rules())?;
     visit_silences_left(&mut search, world)?;
     Ok(search.into_found())
 }
 
-/// What was found in the matchers that were visited so far. The values that alerts have for a label
-/// are gathered once, when a matcher first asks about it.
+/// What was found in the matchers that were visited so far. The known values of a label are
+/// gathered once, when a matcher first asks about it.
 #[derive(Drop)]
 struct Search<'w> {
     alloc: Global,
     alerts: &'w Alerts,
+    rules: &'w [LabelSet],
     seen: BTreeMap<&'w str, IndexSet<&'w str>>,
     found: Vec<UnseenMatcher<'w>>,
 }
 
 impl<'w> Model for Search<'w> {
+    ghost use Rattle.std.specs.Prelude.{◌++◌};
     ghost use Rattle.am_unseen.specs.Search as spec;
     ghost use Rattle.am_unseen.specs.SearchCode.{coded_search};
 
@@ -57,25 +62,26 @@ impl<'w> Model for Search<'w> {
 
     ghost coded = { coded_search };
 
-    ghost view = { λ s. record { alerts = s.alerts.now; found = s.found.items } };
+    ghost view = { λ s. record { known = s.alerts.now ++ s.rules.now; found = s.found.items } };
 
-    ghost invariant = { λ s. spec.AreSeen s.alerts.now s.seen };
+    ghost invariant = { λ s. spec.AreSeen (s.alerts.now ++ s.rules.now) s.seen };
 }
 
 impl<'w> Search<'w> {
-    /// Returns a search among these alerts that has visited no matcher yet.
-    fn among(alloc: Global, alerts: &'w Alerts) -> Search<'w>
-        ensures { result ≡ record { alerts = alerts.now; found = [] } }
+    /// Returns a search among these alerts and rules that has visited no matcher yet.
+    fn among(alloc: Global, alerts: &'w Alerts, rules: &'w [LabelSet]) -> Search<'w>
+        ensures { result ≡ record { known = alerts.now ++ rules.now; found = [] } }
     {
         Search {
             alloc,
             alerts,
+            rules,
             seen: BTreeMap::new(alloc),
             found: Vec::new(alloc),
         }
     }
 
-    /// Returns what a matcher asks for and no alert has.
+    /// Returns what a matcher asks for and is not known.
     fn unseen_by(
         &mut self,
         origin: &Origin,
@@ -83,12 +89,12 @@ impl<'w> Search<'w> {
     ) -> Result<Vec<UnseenMatcher<'w>>, AllocError>
         ensures same { self.new ≡ self.old }
         ensures unseen { IfOk result (λ found.
-            found.items ≡ unseen_by self.old.alerts (origin.now, matcher.now)) }
+            found.items ≡ unseen_by self.old.known (origin.now, matcher.now)) }
     {
         match self.seen.get(matcher.name()) {
             Some(values) => unseen_beside(self.alloc, values, origin, matcher),
             None => {
-                let values = values_of(self.alloc, self.alerts, matcher.name())?;
+                let values = values_of(self.alloc, self.alerts, self.rules, matcher.name())?;
                 let unseen = unseen_beside(self.alloc, &values, origin, matcher)?;
                 self.seen.insert(matcher.name(), values)?;
                 Ok(unseen)

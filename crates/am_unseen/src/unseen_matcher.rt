@@ -6,8 +6,8 @@ use am_complete::Origin;
 use am_labels::Op;
 use std::marker::Model;
 
-/// A matcher with `=` or `=~` that asks for a value that no firing alert has, though some alert has
-/// the label.
+/// A matcher with `=` or `=~` that asks for a value that is not known, though some value of the
+/// label is.
 #[derive(Drop)]
 pub(crate) struct UnseenMatcher<'w> {
     /// Where it stands: at a route, in a rule or in a silence.
@@ -16,8 +16,8 @@ pub(crate) struct UnseenMatcher<'w> {
     pub(crate) op: Op,
     /// The value that it compares with, or the pattern.
     pub(crate) value: &'w str,
-    /// The most similar value that an alert has for the label, if one is at most `MOST_EDITS` edits
-    /// away. A pattern has none.
+    /// The most similar known value of the label, if one is at most `MOST_EDITS` edits away. A
+    /// pattern has none.
     pub(crate) similar: Option<&'w str>,
 }
 

@@ -1,4 +1,4 @@
-//! The label names that a world mentions and that none of its alerts has.
+//! The label names that a world mentions and that are not known.
 
 ghost use Rattle.std.specs.Prelude.{◌≡◌, IfOk};
 ghost use Rattle.am_unseen.specs.UnseenNames.{is_missing, missing_among, unseen_names};
@@ -9,17 +9,18 @@ use crate::seen::names_of;
 use crate::similar::most_similar;
 use am_complete::Origin;
 use am_eval::World;
+use am_universe::LabelSet;
 use indexmap::IndexSet;
 use std::alloc::{AllocError, Global};
 use std::marker::Model;
 
-/// A label name that no alert has.
+/// A label name that is not known.
 #[derive(Drop)]
 pub(crate) struct UnseenName<'w> {
     /// Where it is mentioned first: at a route, in a rule or in a silence.
     pub(crate) origin: Origin,
     pub(crate) name: &'w str,
-    /// The most similar name that an alert has, if one is at most `MOST_EDITS` edits away.
+    /// The most similar known name, if one is at most `MOST_EDITS` edits away.
     pub(crate) similar: Option<&'w str>,
 }
 
@@ -36,15 +37,17 @@ impl<'w> Model for UnseenName<'w> {
     } };
 }
 
-/// Finds the label names that a world mentions and that none of its alerts has, if some alert has a
-/// label. Each comes once, with the origin of its first mention. Fails only if memory runs out.
+/// Finds the label names that a world mentions and that none of its alerts has and no alerting rule
+/// fixes, if some alert or rule has a label. `rules` has the label sets that rules fix. Each name
+/// comes once, with the origin of its first mention. Fails only if memory runs out.
 pub(crate) fn unseen_names<'w>(
     alloc: Global,
     world: &'w World,
+    rules: &'w [LabelSet],
 ) -> Result<Vec<UnseenName<'w>>, AllocError>
-    ensures { IfOk result (λ found. found.items ≡ unseen_names world.now) }
+    ensures { IfOk result (λ found. found.items ≡ unseen_names world.now rules.now) }
 {
-    let names = names_of(alloc, world.alerts())?;
+    let names = names_of(alloc, world.alerts(), rules)?;
     let mentioned = first_mentions(alloc, world)?;
     missing_among(alloc, &names, mentioned.as_slice())
 }

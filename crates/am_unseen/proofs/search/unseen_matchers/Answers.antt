@@ -14,10 +14,11 @@ returns c =
     let routes = placed_in_routes w.config in
     let rules = placed_in_rules w.config.rules in
     let left = placed_in_silences_left w in
-    let first : Search = record { alerts = w.alerts; found = [] } in
+    let known = w.alerts ++ c.args.rules.now in
+    let first : Search = record { known = known; found = [] } in
     let start : c.among-search.result ≡ first =
     c.among-search.ensures
-    ∙ (λ i. record { alerts = c.alerts.ensures.alerts i; found = [] }) in
+    ∙ (λ i. record { known = c.alerts.ensures.alerts i ++ c.args.rules.now; found = [] }) in
     let sides : c.rules.result.now ≡ w.config.rules =
     c.rules.ensures.rules ∙ ap (λ (k : Configuration). k.rules) c.config-2.ensures.config in
     let second : c.visit_routes.new.visitor ≡ fold after_matcher first routes =
@@ -32,4 +33,4 @@ returns c =
     ∙ sym (fold-append after_matcher first (routes ++ rules) left)
     ∙ ap (fold after_matcher first) (append_assoc routes rules left) in
     c.into_found.ensures
-    ∙ ap (λ (s : Search). s.found) (last ∙ found_after w.alerts [] (placed_to_see w))
+    ∙ ap (λ (s : Search). s.found) (last ∙ found_after known [] (placed_to_see w))

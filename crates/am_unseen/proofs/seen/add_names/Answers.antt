@@ -27,7 +27,7 @@ loop-name-preserved c =
 pub returns : goal.returns
 returns c =
     let gives = c.into_iter-name-iterator.ensures.into_iter_gives in
-    let kept : entries c.args.alert.now ≡ entry_texts c.into_iter-name-iterator.result =
+    let kept : entries c.args.set.now ≡ entry_texts c.into_iter-name-iterator.result =
     ap entries (sym c.values-name-items.ensures.values)
     ∙ entries_kept c.values-name-items.result.now gives.5 ∙ ap entry_texts (sym gives.0) in
     sym (ap (with_entries (texts_of c.loop-name.names)) c.in-None.ensures.steps.0)

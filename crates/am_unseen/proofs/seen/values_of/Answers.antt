@@ -1,38 +1,35 @@
--- The values with that of one more alert.
-use Rattle.std.proofs.Common.{◌≡◌, ◌==◌, ℕ, List, Bor, length, map, not, refl, sym, ap, ◌∙◌}
-use Rattle.am_complete.specs.FoundState.{begins}
-use Rattle.am_complete.proofs.LabelStates.{empty_begins}
-use Rattle.am_universe.specs.LabelSet.{value_of}
+-- The values of the alerts, and then those of the rules.
+use Rattle.std.proofs.Common.{◌++◌, fold, map, take, [], ap, ◌∙◌, sym, arith, List, ℕ, Bor, append-nil}
+use Rattle.std.proofs.lemmas.List.{take_all}
+use Rattle.am_report_texts.proofs.PieceSteps.{item_here}
 use Rattle.am_report_texts.specs.EachOnce.{with_text}
+use Rattle.am_unseen.specs.Unseen.{all_values, seen_values}
 use Rattle.am_unseen.specs.Search.{texts_of}
-use Rattle.am_unseen.proofs.SeenValues.{none_more, value_more, texts_inserted}
+use Rattle.am_unseen.proofs.SeenValues.{second_longer, value_more}
 use Rattle.am_unseen.proofs.seen.values_of.Goals as goal
-use Rattle.am_unseen.proofs.seen.values_of.Goals.{then-not-is_empty+in_ok-insert}
-use Rattle.am_unseen.proofs.seen.values_of.Goals.{else-not-is_empty}
 
-pub loop-i-preserved : goal.loop-i-preserved
-loop-i-preserved c =
+pub loop-set-init : goal.loop-set-init
+loop-set-init c =
     let alerts = c.args.alerts.now in
     let name = c.args.name.now in
-    let a = c.get.result.now in
-    let value = c.get-value.result in
-    let before = c.loop-i.values in
-    let tested : begins (value_of a name) ≡ not c.is_empty.result =
-    sym (empty_begins (value_of a name))
-    ∙ ap (λ t. not (length t == 0)) (sym c.get-value.ensures.value)
-    ∙ ap not (sym c.is_empty.ensures) in
-    elim c.if-not-is_empty.branch [
-      | then-not-is_empty+in_ok-insert w ↦
-          let put : texts_of c.if-not-is_empty.values
-          ≡ with_text (texts_of before) (value_of a name) =
-          ap texts_of w.values-is
-          ∙ ap (map (λ (t : Bor (List ℕ)). t.now)) w.in_ok-insert.ensures.keys
-          ∙ texts_inserted _ (λ x y. refl) before.keys value
-          ∙ ap (with_text (texts_of before)) c.get-value.ensures.value in
-          value_more alerts name c.loop-i.i a (texts_of before) (texts_of c.if-not-is_empty.values)
-          c.get.ensures.alert (tested ∙ ap not w.if-not-is_empty.true) put c.loop-i.invariant
-      | else-not-is_empty w ↦
-          none_more alerts name c.loop-i.i a (texts_of c.if-not-is_empty.values)
-          c.get.ensures.alert (tested ∙ ap not w.if-not-is_empty.false)
-          (ap texts_of w.values-is ∙ c.loop-i.invariant)
-    ]
+    c.in_ok-add_values.ensures
+    ∙ ap (λ ks. fold with_text (map (λ (t : Bor (List ℕ)). t.now) ks) (all_values alerts name))
+    c.new-values.ensures.empty
+    ∙ ap (λ sets. seen_values sets name) (sym (append-nil alerts))
+
+pub loop-set-preserved : goal.loop-set-preserved
+loop-set-preserved c =
+    let alerts = c.args.alerts.now in
+    let rules = c.args.rules.now in
+    let name = c.args.name.now in
+    let i = c.loop-set.set-index in
+    value_more [] (texts_of c.loop-set.values) (texts_of c.add_value.new.values)
+    (alerts ++ take i rules) c.set-item.result name c.in_ok-add_value.ensures c.loop-set.invariant
+    ∙ ap (λ sets. seen_values sets name) (second_longer alerts rules i c.set-item.result
+    (item_here rules i c.set-item.result c.loop-set-test.true c.set-item.is))
+
+pub returns : goal.returns
+returns c =
+    let rules = c.args.rules.now in
+    c.loop-set.invariant ∙ ap (λ rs. seen_values (c.args.alerts.now ++ rs) c.args.name.now)
+    (take_all c.loop-set.set-index rules (omega arith))
