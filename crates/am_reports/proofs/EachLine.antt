@@ -1,6 +1,6 @@
 -- One more thing in the lines about things.
-use Rattle.std.proofs.Common.{◌≡◌, ◌+◌, ◌<◌, ◌≤◌, [], ◌∷◌, ℕ, List, ◌++◌, length, take, Some, subst, sym, ◌∙◌}
-use Rattle.std.proofs.Common.{arith}
+use Rattle.std.proofs.Common.{◌≡◌, ◌+◌, ◌<◌, ◌≤◌, [], ◌∷◌, ℕ, List, ◌++◌, length, take, Some}
+use Rattle.std.proofs.Common.{subst, sym, ◌∙◌, arith}
 use Rattle.std.specs.List.{AllZip, flat_map, enumerate_from, zip}
 use Rattle.std.proofs.lemmas.List.{take_more, take_all, flat_map_more}
 use Rattle.std.proofs.lemmas.List.FromFn.{length-enumerate_from, get_or-enumerate_from}
@@ -18,7 +18,8 @@ zip_at R xs found i x finding all at there =
     let other = zip_left R xs found i x all at in
     subst (R x) (same_Some other.0 finding (sym other.1 ∙ there)) other.2
 
-pub zip_so : {X F : Type 0} (R Q : X → F → Type 0) → ((x : X) (finding : F) → R x finding → Q x finding)
+pub zip_so : {X F : Type 0} (R Q : X → F → Type 0)
+    → ((x : X) (finding : F) → R x finding → Q x finding)
     → (xs : List X) (found : List F) → AllZip R xs found → AllZip Q xs found
 zip_so R Q each [] [] all = tt
 zip_so R Q each [] (g ∷ found) all = absurd all

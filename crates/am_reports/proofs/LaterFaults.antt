@@ -1,6 +1,7 @@
 -- The first fault after those of the inputs.
-use Rattle.std.proofs.Common.{◌≡◌, ℕ, List, [], ◌∷◌, ◌++◌, append_assoc, Bool, true, false, inl, inr, refl, sym, subst}
-use Rattle.std.specs.Prelude.{if◌then◌else◌}
+use Rattle.std.proofs.Common.{◌≡◌, ℕ, List, [], ◌∷◌, ◌++◌, append_assoc, Bool, true, false, inl, inr}
+use Rattle.std.proofs.Common.{refl, sym, subst, Option, Some, None}
+use Rattle.std.specs.Prelude.{if◌then◌else◌, unwrap_or}
 use Rattle.am_universe.specs.declared.place.Place.{Place}
 use Rattle.am_universe.specs.declared.place.Place.TheVariants as places
 use Rattle.am_universe.proofs.ListLemmas.{IsIn}
@@ -21,20 +22,23 @@ use Rattle.am_complete.specs.declared.origin.Origin.TheVariants as origin_is
 use Rattle.am_asked.specs.OriginPointer.{matcher_places}
 use Rattle.am_files.proofs.FirstFaults.{refused_later}
 use Rattle.am_asked.proofs.MatcherPlaces.{origin_in}
-use Rattle.am_outcomes.specs.Configurations.{Configurations, One, Pair, Silenced}
+use Rattle.am_outcomes.specs.Configurations.{Configurations, One, Pair, Silenced, Ends}
+use Rattle.am_outcomes.specs.Configurations.{Matched}
 use Rattle.am_reports.specs.RoutingLabels.{asks_of, first_place}
 use Rattle.am_reports.specs.ReportInputs.{ReportInputs, AcceptsReportInputs}
 use Rattle.am_reports.specs.CompareInputs.{CompareInputs, AcceptsCompareInputs}
-use Rattle.am_reports.specs.LintInputs.{LintInputs, AcceptsLintInputs}
 use Rattle.am_reports.specs.Made.{IsMadeRefusal, IsDeclaredRefusal}
 use Rattle.am_reports.specs.LaterStages.{IsOutcomesRefusal}
 use Rattle.am_reports.specs.OutcomesReport.{outcomes_promise, RefusesOutcomes}
 use Rattle.am_reports.specs.AskedReceivers.{ArePositions, IsUnknownReceiver, receivers_stage}
 use Rattle.am_reports.specs.RoutesReport.{routes_promise, RefusesRoutes, IsUnmadeRefusal}
-use Rattle.am_reports.specs.Comparing.{compare_promise, RefusesComparison}
+use Rattle.am_reports.specs.Comparing.{compare_promise, IsComparisonRefusal, RefusesComparison}
 use Rattle.am_reports.specs.Linting.{lint_promise, RefusesLint, IsLintRefusal}
+use Rattle.am_asked.specs.Made.{undeclared}
 use Rattle.am_reports.specs.RulesOutcomes.{IsRulesRefusal}
-use Rattle.am_reports.specs.WhereInputs.{WhereInputs, AcceptsWhereInputs, rules_stage, where_input_stages}
+use Rattle.am_reports.specs.RulesReach.{IsReachRefusal}
+use Rattle.am_reports.specs.RulesFile.{rules_stage}
+use Rattle.am_reports.specs.WorldInputs.{WorldInputs, AcceptsWorldInputs, world_input_stages}
 use Rattle.am_reports.specs.WhereReport.{where_promise, RefusesWhere, silenced_by}
 
 -- ---- The places.
@@ -54,6 +58,8 @@ first_in (Pair old new) name (origin_is.Question position) =
 first_in (Pair old new) name (origin_is.Impossible position) =
     origin_in (origin_is.Impossible position)
 first_in (Silenced c silences) name o = origin_in o
+first_in (Ends c) name o = origin_in o
+first_in (Matched ms) name o = origin_in o
 
 made_in : (a : Alphabet) (lists : List (List Matcher)) (k : Configurations) (place : Place)
     (r : Refusal) → IsMadeRefusal a lists k place r → IsIn matcher_places place
@@ -82,23 +88,37 @@ unmade_in : (a : Alphabet) (s : Space) (c : Configuration) (place : Place) (r : 
 unmade_in a s c place r (inl declared) = declared_in a s (One c) place r declared
 unmade_in a s c place r (inr (whole, made)) = made_in a s.impossible (One c) place r made
 
-rules_in : (a : Alphabet) (s : Space) (k : Configurations) (rules : List AlertingRule) (place : Place)
-    (r : Refusal) → IsRulesRefusal a s k rules place r → IsIn matcher_places place
+rules_in : (a : Alphabet) (s : Space) (k : Configurations) (rules : List AlertingRule)
+    (place : Place) (r : Refusal) → IsRulesRefusal a s k rules place r → IsIn matcher_places place
 rules_in a s k rules place r (inl declared) = declared_in a s k place r declared
 rules_in a s k rules place r (inr (whole, inl made)) = made_in a s.impossible k place r made
 rules_in a s k rules place r (inr (whole, inr many)) = inl (sym many.0)
 
-lint_in : (a : Alphabet) (s : Space) (w : World) (place : Place) (r : Refusal)
-    → IsLintRefusal a s w place r → IsIn matcher_places place
-lint_in a s w place r (inl declared) =
+reach_in : (a : Alphabet) (s : Space) (c : Configuration) (alerting : Option (List AlertingRule))
+    (place : Place) (r : Refusal) → IsReachRefusal a s c alerting place r
+    → IsIn matcher_places place
+reach_in a s c None place r refused = absurd refused
+reach_in a s c (Some rules) place r refused = rules_in a s (Ends c) rules place r refused
+
+lint_in : (a : Alphabet) (s : Space) (w : World) (alerting : Option (List AlertingRule))
+    (place : Place) (r : Refusal) → IsLintRefusal a s w alerting place r → IsIn matcher_places place
+lint_in a s w alerting place r (inl declared) =
     declared_in a s (One w.config) place r declared
-lint_in a s w place r (inr (whole, inl (inl every))) =
+lint_in a s w alerting place r (inr (whole, inl (inl every))) =
     made_in a s.impossible (One w.config) place r every
-lint_in a s w place r (inr (whole, inl (inr ordinary))) =
+lint_in a s w alerting place r (inr (whole, inl (inr ordinary))) =
     made_in Ascii s.impossible (One w.config) place r ordinary
-lint_in a s w place r (inr (whole, inr (inl rule))) = inr (inl (sym rule.2))
-lint_in a s w place r (inr (whole, inr (inr silence))) =
+lint_in a s w alerting place r (inr (whole, inr (inl rule))) = inr (inl (sym rule.2))
+lint_in a s w alerting place r (inr (whole, inr (inr (inl silence)))) =
     inr (inr (inr (inr (inl (sym silence.2)))))
+lint_in a s w alerting place r (inr (whole, inr (inr (inr reach)))) =
+    reach_in a (undeclared s) w.config alerting place r reach
+
+comparison_in : (a : Alphabet) (s : Space) (k : Configurations) (rules : Option (List AlertingRule))
+    (place : Place) (r : Refusal) → IsComparisonRefusal a s k rules place r
+    → IsIn matcher_places place
+comparison_in a s k None place r refused = outcomes_in a s k place r refused
+comparison_in a s k (Some rules) place r refused = rules_in a s k rules place r refused
 
 -- ---- The first faults.
 
@@ -146,36 +166,29 @@ routes_refused inputs names s c positions place r accepts are refused =
     )
 
 pub comparison_refused : (inputs : CompareInputs) (s : Space) (old new : Configuration)
-    (place : Place) (r : Refusal) → AcceptsCompareInputs inputs s old new
-    → IsOutcomesRefusal inputs.alphabet s (Pair old new) place r
+    (rules : Option (List AlertingRule)) (place : Place) (r : Refusal)
+    → AcceptsCompareInputs inputs s old new rules
+    → IsComparisonRefusal inputs.alphabet s (Pair old new) rules place r
     → IsFirstFaultOfCall (compare_promise inputs).stages place r
-comparison_refused inputs s old new place r accepts refused =
-    let later = refused_later (RefusesComparison inputs) place r (s, old, new, accepts, refused) matcher_places
-    (outcomes_in inputs.alphabet s (Pair old new) place r refused) in
+comparison_refused inputs s old new rules place r accepts refused =
+    let later = refused_later (RefusesComparison inputs) place r
+    (s, old, new, rules, accepts, refused) matcher_places
+    (comparison_in inputs.alphabet s (Pair old new) rules place r refused) in
     inr (
       (s, accepts.says_universe),
-      inr ((old, accepts.says_old), inr ((new, accepts.says_new), later)),
+      inr (
+        (old, accepts.says_old),
+        inr ((new, accepts.says_new), inr ((rules, accepts.says_rules), later)),
+      ),
     )
 
-pub lint_refused : (inputs : LintInputs) (s : Space) (w : World) (place : Place) (r : Refusal)
-    → AcceptsLintInputs inputs s w → IsLintRefusal inputs.alphabet s w place r
-    → IsFirstFaultOfCall (lint_promise inputs).stages place r
-lint_refused inputs s w place r accepts refused =
-    inr (
-      (s, accepts.says_universe),
-      first_behind_world inputs.files w (later_stages matcher_places (RefusesLint inputs)) place r
-          accepts.accepts_world
-          (refused_later (RefusesLint inputs) place r (s, w, accepts, refused) matcher_places
-          (lint_in inputs.alphabet s w place r refused)),
-    )
+-- ---- The first faults of `lint` and of `where`.
 
--- ---- The first faults of `where`.
-
-module _ (inputs : WhereInputs) (s : Space) (w : World) (rules : List AlertingRule)
-    (accepts : AcceptsWhereInputs inputs s w rules) (place : Place) (r : Refusal) where
+module _ (inputs : WorldInputs) (s : Space) (w : World) (rules : Option (List AlertingRule))
+    (accepts : AcceptsWorldInputs inputs s w rules) (place : Place) (r : Refusal) where
   -- if the inputs are accepted, a first fault of the later stages is one of all stages
   behind_rules : (later : List Stage) → IsFirstFaultOfCall later place r
-      → IsFirstFaultOfCall (where_input_stages inputs ++ later) place r
+      → IsFirstFaultOfCall (world_input_stages inputs ++ later) place r
   behind_rules later behind =
       inr (
         (s, accepts.says_universe),
@@ -184,6 +197,13 @@ module _ (inputs : WhereInputs) (s : Space) (w : World) (rules : List AlertingRu
             (first_behind_world inputs.files w (rules_stage inputs.rules ∷ later) place r
             accepts.accepts_world (inr ((rules, accepts.says_rules), behind))),
       )
+
+  pub lint_refused : IsLintRefusal inputs.alphabet s w rules place r
+      → IsFirstFaultOfCall (lint_promise inputs).stages place r
+  lint_refused refused =
+      behind_rules (later_stages matcher_places (RefusesLint inputs))
+      (refused_later (RefusesLint inputs) place r (s, w, rules, accepts, refused) matcher_places
+      (lint_in inputs.alphabet s w rules place r refused))
 
   module _ (names : List (List ℕ)) where
     abbrev refused_stages : List Stage
@@ -200,12 +220,12 @@ module _ (inputs : WhereInputs) (s : Space) (w : World) (rules : List AlertingRu
         (inl (at, (w.config, accepts.accepts_world.accepts_files.says_config, unknown)))
 
     pub where_refused : (positions : List ℕ) → ArePositions w.config names positions
-        → IsRulesRefusal inputs.alphabet s (silenced_by w) rules place r
+        → IsRulesRefusal inputs.alphabet s (silenced_by w) (unwrap_or rules []) place r
         → IsFirstFaultOfCall (where_promise inputs names).stages place r
     where_refused positions are refused =
         behind_rules (names_stage ∷ refused_stages)
         (inr (
           (w.config, accepts.accepts_world.accepts_files.says_config, positions, are),
           refused_later (RefusesWhere inputs) place r (s, w, rules, accepts, refused) matcher_places
-              (rules_in inputs.alphabet s (silenced_by w) rules place r refused),
+              (rules_in inputs.alphabet s (silenced_by w) (unwrap_or rules []) place r refused),
         ))

@@ -1,4 +1,5 @@
 pub mod DeclaredStates
+pub mod LabelsAsked
 pub mod LaterFaults
 pub mod EachLine
 pub mod RoutesFound
@@ -6,8 +7,11 @@ pub mod KeptItems
 pub mod OutcomesOver
 pub mod OnlyUnder
 pub mod ChangeLemmas
+pub mod Compared
 pub mod WrittenBeside
 pub mod ActiveSilences
 pub mod RulesOutcomes
+pub mod RulesReached
+pub mod RulesWalked
 pub mod AskedNames
 pub mod RuleNames

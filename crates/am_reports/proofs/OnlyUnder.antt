@@ -50,13 +50,13 @@ among_only names others name there none = elim (cases_Bool (is_among others name
 
 -- ---- No receiver is found twice.
 
-module _ (names others : List (List ℕ) → List (List ℕ))
-    (changes : List (List (List ℕ) × List ℕ)) where
-  abbrev first_with : List ℕ → Option (List (List ℕ) × List ℕ)
+module _ {C : Type 0} (names others : List (List ℕ) → List (List ℕ))
+    (changes : List (List (List ℕ) × C)) where
+  abbrev first_with : List ℕ → Option (List (List ℕ) × C)
   first_with name =
       find (λ change. is_only_among (names change.0) (others change.0) name) changes
 
-  one_more : (o : Option (List (List ℕ) × List ℕ)) (name : List ℕ) (found : List (List ℕ × List ℕ))
+  one_more : (o : Option (List (List ℕ) × C)) (name : List ℕ) (found : List (List ℕ × C))
       → AllByRecursion (λ other. same_text name other ≡ false) (map (λ f. f.0) found)
       → IsDistinct same_text (map (λ f. f.0) found)
       → IsDistinct same_text
@@ -74,7 +74,7 @@ module _ (names others : List (List ℕ) → List (List ℕ))
       one_more (first_with name) name found
       (AllByRecursion-each (λ other. same_text name other ≡ false) (map (λ f. f.0) found)
       (λ other there.
-      let from = IsIn-unmap (λ (f : List ℕ × List ℕ). f.0) found other there in
+      let from = IsIn-unmap (λ (f : List ℕ × C). f.0) found other there in
       AllByRecursion-at (λ other. same_text name other ≡ false) receivers other apart
       (subst (IsIn receivers) from.2 (only_from names others changes receivers from.0 from.1).0)))
       (names_once receivers distinct)

@@ -1,13 +1,17 @@
 -- The rules of a rules file have names, and so have their labels.
 use Rattle.std.proofs.Common.{◌≢◌, ℕ, List, [], ◌∷◌, Option, Some, None, map, sym, ◌∙◌, subst}
-use Rattle.std.proofs.Common.{inl, inr}
+use Rattle.std.proofs.Common.{IfSome, inl, inr}
+use Rattle.std.specs.Prelude.{unwrap_or}
 use Rattle.std.specs.List.{AllByRecursion, AllZip}
 use Rattle.am_list_files.specs.NamedText.{SaysNamedText}
 use Rattle.am_alerting_rules.specs.RulesFile.{AlertingRule, HasNames, FileSaysRules, SaysGroup}
 use Rattle.am_alerting_rules.specs.RulesFile.{SaysLabels, SaysRule, rules_among, rules_of_groups}
 use Rattle.am_alerting_rules.specs.RulesFile.{with_labels_below}
+use Rattle.am_alerting_rules.specs.RuleTexts.{HasUtf8Texts}
 use Rattle.am_alerting_rules.proofs.LabelsBelow.{all_below}
+use Rattle.am_alerting_rules.proofs.RuleTexts.{rules_texts}
 use Rattle.am_complete.proofs.MadeUniverses.{all_joined}
+use Rattle.am_reports.specs.RulesFile.{SaysRulesIfAny}
 
 abbrev IsNamed : List ℕ × List ℕ → Type 0
 IsNamed label = label.0 ≢ []
@@ -61,3 +65,34 @@ pub file_named : (bytes : List ℕ) (rules : List AlertingRule) → FileSaysRule
     → AllByRecursion HasNames rules
 file_named bytes rules (short, d, is, says) =
     subst (AllByRecursion HasNames) (sym says.are) (groups_named says.items says.groups says.each)
+
+-- ---- The rules of a file, if there is one.
+
+module _ (P : AlertingRule → Type 0) (holds : (bytes : List ℕ) (rules : List AlertingRule)
+    → FileSaysRules bytes rules → AllByRecursion P rules) where
+  if_any : (file : Option (List ℕ)) (rules : Option (List AlertingRule)) → SaysRulesIfAny file rules
+      → IfSome rules (AllByRecursion P)
+  if_any None rules says = subst (λ rs. IfSome rs (AllByRecursion P)) (sym says) tt
+  if_any (Some bytes) rules (said, is, says) =
+      subst (λ rs. IfSome rs (AllByRecursion P)) (sym is) (holds bytes said says)
+
+  in_any : (rules : Option (List AlertingRule)) → IfSome rules (AllByRecursion P)
+      → AllByRecursion P (unwrap_or rules [])
+  in_any None all = tt
+  in_any (Some rules) all = all
+
+pub named_if_any : (file : Option (List ℕ)) (rules : Option (List AlertingRule))
+    → SaysRulesIfAny file rules → IfSome rules (AllByRecursion HasNames)
+named_if_any = if_any HasNames file_named
+
+pub texts_if_any : (file : Option (List ℕ)) (rules : Option (List AlertingRule))
+    → SaysRulesIfAny file rules → IfSome rules (AllByRecursion HasUtf8Texts)
+texts_if_any = if_any HasUtf8Texts rules_texts
+
+pub named_in_any : (file : Option (List ℕ)) (rules : Option (List AlertingRule))
+    → SaysRulesIfAny file rules → AllByRecursion HasNames (unwrap_or rules [])
+named_in_any file rules says = in_any HasNames file_named rules (named_if_any file rules says)
+
+pub texts_in_any : (file : Option (List ℕ)) (rules : Option (List AlertingRule))
+    → SaysRulesIfAny file rules → AllByRecursion HasUtf8Texts (unwrap_or rules [])
+texts_in_any file rules says = in_any HasUtf8Texts rules_texts rules (texts_if_any file rules says)

@@ -1,28 +1,15 @@
 -- The outcomes of every alert that counts, under one configuration or under two. (This project's
 -- own.)
-use Rattle.std.specs.Prelude.{◌≡◌, ℕ, List, map, Contains}
-use Rattle.std.specs.List.{AllByRecursion, IsDistinct}
+use Rattle.std.specs.Prelude.{◌≡◌, ℕ, List}
 use Rattle.am_universe.specs.Universe.{Label}
-use Rattle.am_universe.specs.LabelSet.{LabelMap, label_set_of}
+use Rattle.am_universe.specs.LabelSet.{label_set_of}
 use Rattle.am_labels.specs.Space.{Space}
 use Rattle.am_classes.specs.declared.alphabet.Alphabet.{Alphabet}
 use Rattle.am_every_alert.specs.EveryAlert.{IsAlertOf}
-use Rattle.am_outcomes.specs.Outcomes.{outcome_of, same_outcome, outcomes_of}
+use Rattle.am_outcomes.specs.Outcomes.{AreOutcomesOf, outcomes_of}
 use Rattle.am_every_alert.specs.Deciding.{space_of}
 use Rattle.am_outcomes.specs.Configurations.{Configurations}
 use Rattle.am_reports.specs.Made.{StandsForAll}
-
--- The label set that is shown for an outcome is that of an alert that counts, and this alert has
--- the outcome.
-abbrev pub IsOutcome :
-    Alphabet → Space → List Label → Configurations → List (List ℕ) × List ℕ → Type 0
-IsOutcome a s u k outcome =
-    IsAlertOf a s (label_set_of u outcome.1)
-    × (outcome_of k (label_set_of u outcome.1) ≡ outcome.0)
-
--- Outcomes without what is shown for them.
-abbrev pub only_outcomes : List (List (List ℕ) × List ℕ) → List (List (List ℕ))
-only_outcomes outcomes = map (λ outcome. outcome.0) outcomes
 
 -- The outcomes are those of every alert that counts. The labels are those of a universe that stands
 -- for all of these alerts. The outcomes are in declared order of the first choices that have them,
@@ -36,7 +23,4 @@ pub record AreAllOutcomes (a : Alphabet) (s : Space) (k : Configurations) (label
     (outcomes : List (List (List ℕ) × List ℕ)) : Type 0 where
   pub stands : StandsForAll a s.impossible k labels
   pub order : outcomes ≡ outcomes_of (space_of s.impossible labels) k
-  pub each : AllByRecursion (IsOutcome a s labels k) outcomes
-  pub all : (alert : LabelMap) → IsAlertOf a s alert
-      → Contains (only_outcomes outcomes) (outcome_of k alert)
-  pub once : IsDistinct same_outcome (only_outcomes outcomes)
+  pub are : AreOutcomesOf (IsAlertOf a s) k (label_set_of labels) outcomes

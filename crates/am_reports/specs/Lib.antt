@@ -1,9 +1,13 @@
 pub mod RoutingLabels
+pub mod RulesFile
 pub mod ReportInputs
-pub mod LintInputs
+pub mod WorldInputs
 pub mod CompareInputs
 pub mod Made
 pub mod LaterStages
+pub mod ActiveSilences
+pub mod RulesOutcomes
+pub mod RulesReach
 pub mod LintLines
 pub mod FoundLines
 pub mod Linting
@@ -12,7 +16,4 @@ pub mod OutcomesReport
 pub mod AskedReceivers
 pub mod RoutesReport
 pub mod Comparing
-pub mod WhereInputs
-pub mod ActiveSilences
-pub mod RulesOutcomes
 pub mod WhereReport

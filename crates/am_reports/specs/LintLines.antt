@@ -1,6 +1,6 @@
 -- What the lines of `lint` say about the routes, the rules and the silences of a world, for every
 -- alert, and what they say of the alerts of a file. (This project's own.)
-use Rattle.std.specs.Prelude.{◌≡◌, ℕ, List, [], ◌++◌, Option, Some, None}
+use Rattle.std.specs.Prelude.{◌≡◌, ℕ, List, [], Option, Some, None}
 use Rattle.std.specs.List.{AllZip, flat_map, enumerate_from, zip}
 use Rattle.am_universe.specs.declared.place.Place.{Place}
 use Rattle.am_universe.specs.declared.place.Place.TheVariants as places
@@ -24,8 +24,9 @@ use Rattle.am_idle.specs.Silences.{IsSilenceFinding, IsFirstRefused}
 use Rattle.am_idle.specs.SilenceLines.{silence_lines}
 use Rattle.am_idle.specs.declared.rule_findings.RuleFinding.{RuleFinding}
 use Rattle.am_idle.specs.declared.silences.SilenceFinding.{SilenceFinding}
-use Rattle.am_firing.specs.FiringLines.{firing_lines}
-use Rattle.am_unseen.specs.UnseenLines.{unseen_lines}
+use Rattle.am_firing.specs.FiringLines.{firing_lines, unreached_lines}
+use Rattle.am_firing.specs.Reach.{Reached}
+use Rattle.am_firing.specs.declared.reached.Whose.TheVariants as whose_are
 use Rattle.am_outcomes.specs.Configurations.{One}
 use Rattle.am_reports.specs.Made.{StandsForAll}
 
@@ -74,18 +75,30 @@ pub record SaysOfSilences (a : Alphabet) (s : Space) (w : World)
   pub each : AllZip (IsSilenceFinding a s w alerts) w.silences found
   pub lines_are : lines ≡ each_lines silence_lines w.silences found
 
--- The lines about what the alerts of a file show: what they do not reach, which rules and
--- silences mute many of them, and what none of them has. They leave out what is said of routes,
--- receivers, rules and silences for every alert. Without a file of alerts there are none.
+-- The lines about what the alerts of alerting rules do not reach, if the rules are known. They
+-- leave out what is said of routes, receivers and rules for every alert.
 -- Source: own choice.
--- Example: if the only alert of the file enters each route, goes to each receiver, and has what
--- each matcher names, and there are no rules and silences, there are none.
+-- Example: if the alerts of some rule enter each route, each receiver gets one, and there are no
+-- inhibition rules, there are none.
+abbrev pub reached_lines :
+    Configuration → Option Reached → List Said → List (Option ReceiverFinding)
+    → List (Option RuleFinding) → List Line
+reached_lines c None routes receivers rules = []
+reached_lines c (Some reached) routes receivers rules =
+    unreached_lines whose_are.Rules c reached routes receivers rules
+
+-- The lines about what the alerts of a file show: what they do not reach, and which rules and
+-- silences mute many of them. They leave out what is said of routes, receivers, rules and silences
+-- for every alert. Without a file of alerts there are none.
+-- Source: own choice.
+-- Example: if the only alert of the file enters each route and goes to each receiver, and there are
+-- no rules and silences, there are none.
 abbrev pub alert_lines :
     World → Option (List LabelMap) → List Said → List (Option ReceiverFinding)
     → List (Option RuleFinding) → List (Option SilenceFinding) → List Line
 alert_lines w None routes receivers rules silences = []
 alert_lines w (Some alerts) routes receivers rules silences =
-    firing_lines w routes receivers rules silences ++ unseen_lines w
+    firing_lines w routes receivers rules silences
 
 -- ---- Why there are no such lines.
 

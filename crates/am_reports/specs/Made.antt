@@ -25,7 +25,8 @@ use Rattle.am_every_alert.specs.Deciding.{StandsFor, space_of}
 use Rattle.am_asked.specs.OriginPointer.{origin_pointer}
 use Rattle.am_asked.specs.Made.{NoRoomFor, UnprovedFor}
 use Rattle.am_outcomes.specs.Configurations.{Configurations, One}
-use Rattle.am_reports.specs.RoutingLabels.{matchers_of_routes, routing_matchers}
+use Rattle.am_reports.specs.RoutingLabels.{routing_matchers}
+use Rattle.am_rule_outcomes.specs.StandsForOutcomes.{outcome_matchers}
 use Rattle.am_reports.specs.RoutingLabels.{labels_of_routes, first_place}
 
 -- A universe stands for every alert over an alphabet that no impossible list matches: it is
@@ -37,7 +38,7 @@ use Rattle.am_reports.specs.RoutingLabels.{labels_of_routes, first_place}
 -- so over each alphabet. It does not if `team` may also be `web`.
 pub record StandsForAll (a : Alphabet) (lists : List (List Matcher)) (k : Configurations)
     (u : List Label) : Type 0 where
-  pub stands : StandsFor a (space_of lists u) (matchers_of_routes k)
+  pub stands : StandsFor a (space_of lists u) (outcome_matchers k)
   pub adds : AddsNeeded a (space_of lists []) (routing_matchers (space_of lists u) k) u
   pub order : AddsInOrder [] (labels_of_routes k lists) u
 

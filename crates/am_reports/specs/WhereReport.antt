@@ -1,5 +1,5 @@
 -- What `where` owes. (This project's own.)
-use Rattle.std.specs.Prelude.{◌≡◌, ℕ, List, ◌∷◌, ◌++◌, map, Option, ⊤}
+use Rattle.std.specs.Prelude.{◌≡◌, ℕ, List, [], ◌∷◌, ◌++◌, map, Option, unwrap_or, ⊤}
 use Rattle.std.specs.List.{AllByRecursion}
 use Rattle.am_universe.specs.declared.place.Place.{Place}
 use Rattle.am_labels.specs.Space.{Space}
@@ -16,12 +16,12 @@ use Rattle.am_report_texts.specs.declared.writing.Form.{Form}
 use Rattle.am_report_texts.specs.Written.{IsWritten}
 use Rattle.am_outcomes.specs.Configurations.{Configurations, Silenced}
 use Rattle.am_rule_outcomes.specs.RuleOutcomes.{IsRuleAlert, RuleOutcome, AreRuleOutcomes}
+use Rattle.am_rule_outcomes.specs.RuleOutcomes.{with_outcomes}
 use Rattle.am_rule_outcomes.specs.WhereLines.{where_report}
 use Rattle.am_rule_outcomes.specs.Narrowed.{Narrowed}
-use Rattle.am_rule_outcomes.specs.NarrowingView.{with_outcomes}
 use Rattle.am_reports.specs.ActiveSilences.{active_silences}
 use Rattle.am_reports.specs.AskedReceivers.{AreAsked, receivers_stage}
-use Rattle.am_reports.specs.WhereInputs.{WhereInputs, AcceptsWhereInputs, where_input_stages}
+use Rattle.am_reports.specs.WorldInputs.{WorldInputs, AcceptsWorldInputs, world_input_stages}
 use Rattle.am_reports.specs.Made.{AreDeclaredWhole}
 use Rattle.am_reports.specs.RulesOutcomes.{AreFoundFor, IsRulesRefusal}
 
@@ -56,34 +56,36 @@ pub record IsWhereReport (a : Alphabet) (s : Space) (w : World) (rules : List Al
   pub text : IsWritten form (where_report w.config receivers outcomes) report
 
 -- The inputs are accepted, no label that the universe file declares lacks a value, and the text is
--- a report of the rules of the file, for every alert that no impossible list matches; with
--- `--ascii`, for every such alert whose values are printable ASCII.
+-- a report of the rules of the file, if there is one, for every alert that no impossible list
+-- matches; with `--ascii`, for every such alert whose values are printable ASCII.
 -- Source: own choice.
 -- Example: if the top-level route is the only route and has the receiver `a`, and the rule `Down`
 -- of the group `g` sets no label, the report is the lines `"g" {alertname="Down"} -> "a"` and
 -- `# 1 rule`.
-pub record ReportsWhere (inputs : WhereInputs) (names : List (List ℕ)) (report : List ℕ)
+pub record ReportsWhere (inputs : WorldInputs) (names : List (List ℕ)) (report : List ℕ)
     : Type 0 where
   pub space : Space
   pub world : World
-  pub rules : List AlertingRule
-  pub accepts : AcceptsWhereInputs inputs space world rules
+  pub rules : Option (List AlertingRule)
+  pub accepts : AcceptsWorldInputs inputs space world rules
   pub whole : AreDeclaredWhole inputs.alphabet space (silenced_by world) space.labels
-  pub reports : IsWhereReport inputs.alphabet space world rules names inputs.form report
+  pub reports : IsWhereReport inputs.alphabet space world (unwrap_or rules []) names
+      inputs.form report
 
 -- The inputs are accepted, and what they say is refused at this place.
-abbrev pub RefusesWhere : WhereInputs → Place → Refusal → Type 0
+abbrev pub RefusesWhere : WorldInputs → Place → Refusal → Type 0
 RefusesWhere inputs place r =
-    (s : Space) × (w : World) × (rules : List AlertingRule) × AcceptsWhereInputs inputs s w rules
-    × IsRulesRefusal inputs.alphabet s (silenced_by w) rules place r
+    (s : Space) × (w : World) × (rules : Option (List AlertingRule))
+    × AcceptsWorldInputs inputs s w rules
+    × IsRulesRefusal inputs.alphabet s (silenced_by w) (unwrap_or rules []) place r
 
 -- What `where` owes, if receivers with these names are asked about.
 -- Source: own choice.
 -- Example: if the file of rules is not JSON, and a name is that of no receiver, the first fault is
 -- `not-json`.
-abbrev pub where_promise : WhereInputs → List (List ℕ) → Promise ⊤
+abbrev pub where_promise : WorldInputs → List (List ℕ) → Promise ⊤
 where_promise inputs names = record {
-  stages = where_input_stages inputs
+  stages = world_input_stages inputs
       ++ receivers_stage (config_of inputs.files.config) names
       ∷ later_stages matcher_places (RefusesWhere inputs);
   May = λ _. ReportsWhere inputs names;

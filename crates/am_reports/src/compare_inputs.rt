@@ -8,6 +8,8 @@ ghost use Rattle.am_config.specs.ConfigForm.{ConfigFileRefusedFor};
 ghost use Rattle.am_files.specs.Faults.{IsFirstFault};
 ghost use Rattle.am_reports.specs.CompareInputs.{AcceptsCompareInputs, compare_input_stages};
 
+use crate::rules_file::read_rules_if_any;
+use am_alerting_rules::AlertingRules;
 use am_classes::Alphabet;
 use am_config::{Config, read_config};
 use am_files::read_universe_if_any;
@@ -27,6 +29,8 @@ pub struct CompareInputs<'a> {
     pub old: &'a [u8],
     /// The bytes of the new configuration file.
     pub new: &'a [u8],
+    /// The bytes of a file of alerting rules. Then the alerts that count are those of the rules.
+    pub rules: Option<&'a [u8]>,
     /// Which texts the labels of alerts may have.
     pub alphabet: Alphabet,
     /// The form of the report.
@@ -43,6 +47,7 @@ impl<'a> Model for CompareInputs<'a> {
       universe = option_copied inputs.universe;
       old = inputs.old.now;
       new = inputs.new.now;
+      rules = option_copied inputs.rules;
       alphabet = inputs.alphabet;
       form = inputs.form;
     } };
@@ -54,19 +59,26 @@ pub(crate) struct Compared {
     pub space: Space,
     pub old: Config,
     pub new: Config,
+    pub rules: Option<AlertingRules>,
 }
 
-/// Reads the universe file, if there is one, then the old and then the new configuration file.
-/// Fails with the first fault.
+/// Reads the universe file, if there is one, then the old and then the new configuration file, and
+/// then the alerting rules, if there is a file of them. Fails with the first fault.
 pub(crate) fn read_compared(alloc: Global, inputs: &CompareInputs<'_>) -> Result<Compared, Fault>
     ensures accepts { IfOk result (λ read. AcceptsCompareInputs inputs.now read.space
-        (config_view read.old) (config_view read.new)) }
+        (config_view read.old) (config_view read.new) read.rules) }
     ensures first { IfErr result (IsFirstFault (compare_input_stages inputs.now)) }
 {
     let space = read_universe_if_any(alloc, inputs.universe)?;
     let old = read_config_at(alloc, Place::Old, inputs.old)?;
     let new = read_config_at(alloc, Place::New, inputs.new)?;
-    Ok(Compared { space, old, new })
+    let rules = read_rules_if_any(alloc, inputs.rules)?;
+    Ok(Compared {
+        space,
+        old,
+        new,
+        rules,
+    })
 }
 
 /// Reads a configuration file. Its faults are at the given place.

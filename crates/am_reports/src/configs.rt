@@ -10,12 +10,14 @@ ghost use Rattle.am_complete.specs.AskedLabel.{IsAskedOf};
 ghost use Rattle.am_complete.specs.AskedLabel.{with_asked};
 ghost use Rattle.am_complete.specs.Complete.{impossible_matchers};
 ghost use Rattle.am_reports.specs.RoutingLabels.{routing_matchers, labels_of_routes, asks_of};
-ghost use Rattle.am_reports.specs.RoutingLabels.{matchers_of_routes, placed_in_active};
+ghost use Rattle.am_reports.specs.RoutingLabels.{placed_in_active};
+ghost use Rattle.am_rule_outcomes.specs.StandsForOutcomes.{outcome_matchers};
 ghost use Rattle.am_outcomes.specs.Configurations.{Silenced, configurations_of, silences_view};
 ghost use Rattle.am_reports.specs.Made.{IsUnprovedAt};
 
 use am_asked::{
-    asked_by_both, asked_by_routes, unproved_fault, visit_lists, visit_matchers, visit_routes,
+    asked_by_both, asked_by_lists, asked_by_routes, unproved_fault, visit_lists, visit_matchers,
+    visit_routes,
 };
 use am_complete::{AskedLabel, Gathering, Origin};
 use am_config::Config;
@@ -24,8 +26,8 @@ use am_outcomes::{ActiveSilence, Configs};
 use am_universe::{Fault, Place};
 use std::alloc::{AllocError, Global};
 
-/// The labels that the routes of the configurations ask about, and then those that the impossible
-/// lists of a space ask about. Fails only if memory runs out.
+/// The labels that the routes of the configurations, or the list of matchers, ask about, and then
+/// those that the impossible lists of a space ask about. Fails only if memory runs out.
 pub(crate) fn labels_asked<'a>(
     alloc: Global,
     configs: Configs<'a>,
@@ -37,11 +39,14 @@ pub(crate) fn labels_asked<'a>(
         labels.items ≡ labels_of_routes (configurations_of configs.entry) space.now.impossible) }
 {
     match configs {
-        Configs::One(config) => asked_by_routes(alloc, config, &[], space.impossible()),
+        Configs::One(config) | Configs::Ends(config) => {
+            asked_by_routes(alloc, config, &[], space.impossible())
+        }
         Configs::Pair(old, new) => asked_by_both(alloc, old, new, space.impossible()),
         Configs::Silenced(config, silences) => {
             asked_with_silences(alloc, config, silences, space.impossible())
         }
+        Configs::Matched(matchers) => asked_by_lists(alloc, &[matchers], space.impossible()),
     }
 }
 
@@ -54,7 +59,7 @@ fn asked_with_silences<'a>(
     impossible: &'a [Matchers],
 ) -> Result<Vec<AskedLabel<'a>>, AllocError>
     ensures asked { IfOk result (λ labels. IsAskedOf labels.items
-        (matchers_of_routes (Silenced (config_view config.now) (silences_view silences.now))
+        (outcome_matchers (Silenced (config_view config.now) (silences_view silences.now))
         ++ impossible_matchers impossible.now)) }
     ensures labels { IfOk result (λ labels. labels.items ≡ labels_of_routes
         (Silenced (config_view config.now) (silences_view silences.now)) impossible.now) }

@@ -2,22 +2,22 @@
 //! functions over bytes and a [`Sink`](am_universe::Sink).
 //!
 //! [`lint`] says what is wrong with a configuration, with silences, and with the values that
-//! matchers name, and why. [`where_alerts_go`] says to which receivers the alerts of alerting rules
-//! go, [`routes`] which alerts end at each route, [`outcomes`] lists to
-//! which receivers alerts go, and [`compare`] says what changes between two configurations. They
-//! need no universe file: each makes the universes that stand for every alert itself.
+//! matchers name, and why, and what the alerts of alerting rules do not reach. [`where_alerts_go`]
+//! says to which receivers the alerts of alerting rules go, [`routes`] which alerts end at each
+//! route, [`outcomes`] lists to which receivers alerts go, and [`compare`] says what changes
+//! between two configurations. They need no universe file: each makes the universes that stand for
+//! every alert itself.
 #![tactic(auto)]
 
 // The inputs.
 mod compare_inputs;
-mod lint_inputs;
 mod report_inputs;
-mod where_inputs;
+mod rules_file;
+mod world_inputs;
 
 pub use compare_inputs::CompareInputs;
-pub use lint_inputs::LintInputs;
 pub use report_inputs::ReportInputs;
-pub use where_inputs::WhereInputs;
+pub use world_inputs::WorldInputs;
 
 // The universes that stand for the alerts, and the outcomes.
 mod all_outcomes;
@@ -32,6 +32,7 @@ mod rules_outcomes;
 // What `lint` finds.
 mod listed_findings;
 mod route_findings;
+mod rules_reach;
 
 // The commands.
 mod comparing;

@@ -80,7 +80,8 @@ pub(crate) fn push_rules<'a>(
 }
 
 /// Finds what is wrong with the silences of a world, for the same alerts. If it is known which
-/// alerts fire, it also finds which active silences hide none of them.
+/// alerts fire, it also finds which active silences hide none of them. The space declares no label,
+/// before and after.
 ///
 /// Fails with `Limit`, at `Silences` and with the pointer of the first silence for whose matchers
 /// there is no room in a universe, and with `Memory`.
@@ -95,6 +96,8 @@ pub(crate) fn silence_findings(
     ensures found { IfOk result (λ found. AllZip
         (IsSilenceFinding alphabet space.old world.now (option_map (λ a. a.now) alerts.entry))
         world.now.silences found.items) }
+    ensures labels { space.new.labels ≡ [] }
+    ensures impossible { space.new.impossible ≡ space.old.impossible }
     ensures refused { IfErr result (λ fault. fault.kind ≢ kinds.Memory
         → IsSilencesRefusal alphabet space.old world.now fault.place (refusal_of fault)) }
 {

@@ -38,6 +38,7 @@ pub(crate) fn outcomes_of_all_rules(
         (configurations_of configs.entry) space.old.labels) }
     ensures found { IfOk result (λ found. AreFoundFor alphabet space.old.impossible
         (configurations_of configs.entry) rules.now (rule_outcomes_view found)) }
+    ensures impossible { space.new.impossible ≡ space.old.impossible }
     ensures choices { IfOk result (λ found. AllByRecursion HaveWholeChoices found.each.items) }
     ensures refused { IfErr result (λ fault. fault.kind ≢ kinds.Memory
         → IsRulesRefusal alphabet space.old (configurations_of configs.entry) rules.now fault.place

@@ -13,11 +13,12 @@ ghost use Rattle.am_reports.specs.Made.{AreDeclaredWhole};
 ghost use Rattle.am_reports.specs.RulesOutcomes.{AreFoundFor, IsRulesRefusal};
 ghost use Rattle.am_reports.specs.WhereReport.{where_promise};
 
-use crate::WhereInputs;
+use crate::WorldInputs;
 use crate::active_silences::active_silences;
 use crate::receivers::receiver_positions;
+use crate::rules_file::rules_if_any;
 use crate::rules_outcomes::outcomes_of_all_rules;
-use crate::where_inputs::read_where_inputs;
+use crate::world_inputs::read_world_inputs;
 use am_outcomes::Configs;
 use am_report_texts::written;
 use am_rule_outcomes::where_report;
@@ -31,9 +32,9 @@ use std::alloc::Global;
 /// A rule without an alert that counts has a line that says so. If receivers are named, there are
 /// only the lines with one of them. The last line counts the rules. The alerts of a rule have its
 /// name as `alertname`, and each label that the rule sets to a text without `{{`; all other labels
-/// may be anything (Prometheus documentation, "Alerting rules"). Alerts are routed as in the
-/// Alertmanager configuration reference 0.25, "<route>". All input is read and all is found before
-/// the first byte is written.
+/// may be anything (Prometheus documentation, "Alerting rules"). Without a file there are no rules.
+/// Alerts are routed as in the Alertmanager configuration reference 0.25, "<route>". All input is
+/// read and all is found before the first byte is written.
 ///
 /// Fails with the first of these faults:
 ///
@@ -50,7 +51,7 @@ use std::alloc::Global;
 /// it has taken a prefix of the report.
 pub fn where_alerts_go<W: Sink>(
     alloc: Global,
-    inputs: &WhereInputs<'_>,
+    inputs: &WorldInputs<'_>,
     receivers: &[&str],
     out: &mut W,
 ) -> Result<(), Fault>
@@ -59,7 +60,7 @@ pub fn where_alerts_go<W: Sink>(
     ensures kept { IsKept (where_promise inputs.now (map (λ name. name.now) receivers.now))
         W.taken W.failures out.old out.new result }
 {
-    let mut read = read_where_inputs(alloc, inputs)?;
+    let mut read = read_world_inputs(alloc, inputs)?;
     let config = read.world.config();
     let positions = receiver_positions(alloc, config, receivers)?;
     let asked = if receivers.is_empty() {
@@ -71,7 +72,7 @@ pub fn where_alerts_go<W: Sink>(
         return Err(Fault::memory(alloc));
     };
     let configs = Configs::Silenced(config, silences.as_slice());
-    let rules = read.rules.as_slice();
+    let rules = rules_if_any(&read.rules).unwrap_or(&[]);
     let found = outcomes_of_all_rules(alloc, inputs.alphabet, &mut read.space, configs, rules)?;
     let Ok(report) = where_report(alloc, config, rules, &found, asked) else {
         return Err(Fault::memory(alloc));

@@ -3,9 +3,9 @@ use Rattle.std.proofs.lemmas.List.Sums.{fold-append}
 use Rattle.am_config.specs.ConfigView.{config_view}
 use Rattle.am_complete.specs.AskedLabel.{with_asked}
 use Rattle.am_asked.specs.Placed.{placed_in_routes, placed_in_lists}
-use Rattle.am_outcomes.specs.Configurations.{silences_view}
+use Rattle.am_outcomes.specs.Configurations.{Silenced, silences_view}
 use Rattle.am_reports.specs.RoutingLabels.{placed_in_active}
-use Rattle.am_reports.proofs.ActiveSilences.{asked_with_active}
+use Rattle.am_reports.proofs.LabelsAsked.{labels_asked_of}
 use Rattle.am_reports.proofs.configs.asked_with_silences.Goals as goal
 
 pub returns-clause-asked : goal.returns-clause-asked
@@ -23,4 +23,4 @@ returns-clause-asked c =
       c.empty-gathering.ensures,
       ← fold-append with_asked (fold with_asked [] routes) active (placed_in_lists lists),
       ← fold-append with_asked [] routes (active ++ placed_in_lists lists),
-    ) (asked_with_active config silences lists)
+    ) (labels_asked_of (Silenced config silences) lists)

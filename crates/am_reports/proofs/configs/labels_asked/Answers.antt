@@ -16,7 +16,7 @@ returns-in-Pair-clause-asked c =
     let old = route_matchers (config_view c.in-Pair.old.now).root in
     let new = route_matchers (config_view c.in-Pair.new.now).root in
     let same = ap (λ lists. old ++ (new ++ impossible_matchers lists))
-    c.impossible-in-Pair.ensures.lists
+    c.impossible.ensures.lists
     ∙ sym (append_assoc old new (impossible_matchers s.impossible)) in
     subst (λ (k : Configs). IfOk c.asked_by_both.result (λ labels.
     IsAskedOf labels.items (routing_matchers s (configurations_of k)))) (sym c.in-Pair.is)

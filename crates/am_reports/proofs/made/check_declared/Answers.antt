@@ -13,7 +13,8 @@ use Rattle.am_complete.specs.LabelState.{IsSoAt}
 use Rattle.am_complete.specs.Complete.{impossible_matchers}
 use Rattle.am_complete.proofs.AmongMatchers.{last_among}
 use Rattle.am_complete.proofs.Pushed.{one_more_passes}
-use Rattle.am_reports.specs.RoutingLabels.{matchers_of_routes, routing_matchers}
+use Rattle.am_reports.specs.RoutingLabels.{routing_matchers}
+use Rattle.am_rule_outcomes.specs.StandsForOutcomes.{outcome_matchers}
 use Rattle.am_reports.specs.RoutingLabels.{labels_of_routes}
 use Rattle.am_outcomes.specs.Configurations.{configurations_of}
 use Rattle.am_reports.specs.Made.{IsDeclaredRefusal, IsDeclaredWhole, IsStateRefusal}
@@ -27,7 +28,7 @@ label_states-requires c =
     let k = configurations_of c.args.configs in (
       routing_matchers s k,
       rw (c.as_slice.ensures.value) c.in-Ok.ensures.asked,
-      last_among (matchers_of_routes k) (impossible_matchers s.impossible),
+      last_among (outcome_matchers k) (impossible_matchers s.impossible),
     )
 
 -- the label at this position, and what is true of it

@@ -11,7 +11,8 @@ use Rattle.am_complete.specs.Complete.{impossible_matchers}
 use Rattle.am_complete.proofs.AmongMatchers.{last_among}
 use Rattle.am_asked.specs.Made.{NoRoomFor, IsFirstUnproved}
 use Rattle.am_asked.proofs.Undeclared.{undeclared_is}
-use Rattle.am_reports.specs.RoutingLabels.{matchers_of_routes, routing_matchers}
+use Rattle.am_reports.specs.RoutingLabels.{routing_matchers}
+use Rattle.am_rule_outcomes.specs.StandsForOutcomes.{outcome_matchers}
 use Rattle.am_reports.specs.RoutingLabels.{labels_of_routes}
 use Rattle.am_outcomes.specs.Configurations.{configurations_of}
 use Rattle.am_reports.specs.Made.{IsMadeRefusal}
@@ -32,7 +33,7 @@ universe_for-requires c =
     let k = configurations_of c.args.configs in (
       routing_matchers s k,
       is_asked (goal.at.universe_for-requires c).After-as_slice,
-      last_among (matchers_of_routes k) (impossible_matchers s.impossible),
+      last_among (outcome_matchers k) (impossible_matchers s.impossible),
     )
 
 pub returns-in_err-found-clause-refused : goal.returns-in_err-found-clause-refused

@@ -1,7 +1,8 @@
 -- The faults of the inputs come first, and the report is what is written.
-use Rattle.std.proofs.Common.{◌∷◌, List, Some, map, refl, sym, ap, ◌∙◌, subst, string_bytes}
-use Rattle.std.specs.Prelude.{option_copied}
+use Rattle.std.proofs.Common.{◌≡◌, [], ◌∷◌, List, Some, map, refl, sym, ap, ◌∙◌, subst, string_bytes}
+use Rattle.std.specs.Prelude.{option_copied, unwrap_or}
 use Rattle.std.proofs.lemmas.List.{length-map}
+use Rattle.am_labels.proofs.RowLemmas.{unwrapped}
 use Rattle.am_json.specs.Reading.{refusal_of}
 use Rattle.am_config.specs.ConfigFile.{Configuration}
 use Rattle.am_config.specs.ConfigView.{config_view}
@@ -11,19 +12,19 @@ use Rattle.am_files.specs.Faults.{later_stages}
 use Rattle.am_files.specs.Files.{config_of}
 use Rattle.am_asked.specs.OriginPointer.{matcher_places}
 use Rattle.am_alerting_rules.specs.RulesFile.{AlertingRule}
-use Rattle.am_alerting_rules.proofs.RuleTexts.{rules_texts}
 use Rattle.am_classes.specs.declared.alphabet.Alphabet.{Alphabet}
 use Rattle.am_outcomes.specs.Configurations.{Configurations, Silenced, silences_view}
-use Rattle.am_rule_outcomes.specs.NarrowingView.{rule_outcomes_view, with_outcomes}
+use Rattle.am_rule_outcomes.specs.NarrowingView.{rule_outcomes_view}
+use Rattle.am_rule_outcomes.specs.RuleOutcomes.{with_outcomes}
 use Rattle.am_reports.specs.AskedReceivers.{AreAsked, ArePositions, IsUnknownReceiver, receivers_stage}
 use Rattle.am_reports.specs.Made.{AreDeclaredWhole}
 use Rattle.am_reports.specs.RulesOutcomes.{AreFoundFor, IsRulesRefusal}
-use Rattle.am_reports.specs.WhereInputs.{WhereInputs, where_input_stages}
+use Rattle.am_reports.specs.WorldInputs.{WorldInputs, world_input_stages}
 use Rattle.am_reports.specs.WhereReport.{where_promise, RefusesWhere, silenced_by}
 use Rattle.am_reports.proofs.AskedNames.{none_asked, some_asked}
 use Rattle.am_reports.proofs.LaterFaults.{where_names_refused, where_refused}
-use Rattle.am_reports.proofs.RuleNames.{file_named}
-use Rattle.am_reports.proofs.RulesOutcomes.{all_have, as_long, rules_first}
+use Rattle.am_reports.proofs.RuleNames.{named_in_any, texts_in_any}
+use Rattle.am_reports.proofs.RulesOutcomes.{all_have, as_long, receivers_first}
 use Rattle.am_reports.proofs.where_report.where_alerts_go.Given.{Over}
 use Rattle.am_reports.proofs.where_report.where_alerts_go.Goals as goal
 use Rattle.am_reports.proofs.where_report.where_alerts_go.Goals.{After-outcomes_of_all_rules, then-is_empty, else-is_empty}
@@ -36,15 +37,21 @@ asked_so : (g : Over) (c : After-outcomes_of_all_rules g)
     → Path Asked (
       c.inputs.inside.alphabet,
       Silenced (config_view c.config-config.result.now) (silences_view c.as_slice-2.result.now),
-      c.as_slice-rules.result.now,
+      c.unwrap_or-rules.result.now,
+    ) (
+      c.args.inputs.now.alphabet,
+      silenced_by c.in_ok-read.read.world,
+      unwrap_or c.in_ok-read.read.rules [],
     )
-    (c.args.inputs.now.alphabet, silenced_by c.in_ok-read.read.world, c.in_ok-read.read.rules)
 asked_so g c =
     let silences = ap silences_view c.as_slice-2.ensures.value ∙ c.in-Ok.ensures in
+    let rules : c.unwrap_or-rules.result.now ≡ unwrap_or c.in_ok-read.read.rules [] =
+    ap (λ r. r.now) c.unwrap_or-rules.ensures ∙ unwrapped (λ r. r.now) c.rules_if_any.result _
+    ∙ ap (λ rs. unwrap_or rs []) c.rules_if_any.ensures in
     λ i. (
       (c.inputs.view_is i).alphabet,
       Silenced (c.config-config.ensures.config i) (silences i),
-      c.as_slice-rules.ensures.rules i,
+      rules i,
     )
 
 pub returns-in_err-read : goal.returns-in_err-read
@@ -55,7 +62,7 @@ returns-in_err-read g c =
     record {
       kept = refused (where_promise inputs names) fault c.from_residual.result refl
           c.from_residual.ensures.1
-          (λ remembered. first_of_more (where_input_stages inputs)
+          (λ remembered. first_of_more (world_input_stages inputs)
           (receivers_stage (config_of inputs.files.config) names
           ∷ later_stages matcher_places (RefusesWhere inputs)) fault.place (refusal_of fault)
           (c.in_err-read.ensures.first remembered));
@@ -105,18 +112,20 @@ where_report-requires-clause-each g c =
     sym (length-map found.of_rules.items _)
     ∙ as_long c.inputs.inside.alphabet c.in_ok-read.read.space.impossible
     (Silenced (config_view c.config-config.result.now) (silences_view c.as_slice-2.result.now))
-    c.as_slice-rules.result.now (rule_outcomes_view found) c.in_ok-found.ensures.found
+    c.unwrap_or-rules.result.now (rule_outcomes_view found) c.in_ok-found.ensures.found
 
 pub returns : goal.returns
 returns g c =
     let inputs = c.args.inputs.now in
     let names = map (λ name. name.now) c.args.receivers.now in
     let read = c.in_ok-read.read in
+    let rules = unwrap_or read.rules [] in
     let outcomes = rule_outcomes_view c.in_ok-found.found in
     let receivers = option_copied c.if-is_empty.asked in
     let same = asked_so g (goal.at.returns g c).After-outcomes_of_all_rules in
     let accepts = c.in_ok-read.ensures.accepts in
-    let found : AreFoundFor inputs.alphabet read.space.impossible (silenced_by read.world) read.rules outcomes =
+    let found : AreFoundFor inputs.alphabet read.space.impossible (silenced_by read.world) rules
+    outcomes =
     subst (λ (asked : Asked). AreFoundFor asked.0 read.space.impossible asked.1 asked.2 outcomes) same
     c.in_ok-found.ensures.found in
     let positions : ArePositions read.world.config names c.in_ok-positions.positions.items =
@@ -145,20 +154,21 @@ returns g c =
             reports = record {
               receivers = receivers;
               asked = asked;
-              outcomes = with_outcomes read.rules outcomes;
-              each_rule = rules_first read.rules outcomes
-                  (as_long inputs.alphabet read.space.impossible (silenced_by read.world) read.rules outcomes found);
-              are = all_have inputs.alphabet read.space read.world read.rules outcomes found
-                  (file_named inputs.rules read.rules accepts.says_rules)
-                  (rules_texts inputs.rules read.rules accepts.says_rules);
+              outcomes = with_outcomes rules outcomes;
+              each_rule = receivers_first rules outcomes
+                  (as_long inputs.alphabet read.space.impossible (silenced_by read.world) rules
+                  outcomes found);
+              are = all_have inputs.alphabet read.space read.world rules outcomes found
+                  (named_in_any inputs.rules read.rules accepts.says_rules)
+                  (texts_in_any inputs.rules read.rules accepts.says_rules);
               found = outcomes;
               over = found;
               order = refl;
               text = rw (
-                ap (λ (i : WhereInputs). i.form) c.inputs.view_is,
+                ap (λ (i : WorldInputs). i.form) c.inputs.view_is,
                 c.in-Ok-where_report.ensures.report,
                 c.config-config.ensures.config,
-                c.as_slice-rules.ensures.rules,
+                ap (λ (asked : Asked). asked.2) same,
               ) at c.in-Ok-written.ensures.written;
             };
           })
