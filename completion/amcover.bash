@@ -26,10 +26,10 @@ _amcover() {
         options="lint where routes compare outcomes ask dead receivers explain alerts universe --help --version"
     else
         case ${COMP_WORDS[1]} in
-        lint) options="--config --silences --alerts --at --universe --ascii --json --help" ;;
+        lint) options="--config --rules --silences --alerts --at --universe --ascii --json --help" ;;
         where) options="--config --rules --receiver --silences --at --universe --ascii --json --help" ;;
         routes) options="--config --receiver --universe --ascii --json --help" ;;
-        compare) options="--old --new --universe --ascii --json --help" ;;
+        compare) options="--old --new --rules --universe --ascii --json --help" ;;
         outcomes) options="--config --universe --ascii --json --help" ;;
         ask) options="--universe --config --silences --alerts --at --limit --steps --after --help" ;;
         dead) options="--universe --config --help" ;;

@@ -68,6 +68,18 @@ names are enough, and each of them is needed:
 
 The usual mistake is a source of critical alerts, a target of warnings, and severity in equal.
 
+With --rules, findings say what no alert of your alerting rules reaches. The JSON has the form
+that `amcover where --help` describes:
+
+  amcover lint --config alertmanager.json --rules rules.json
+
+  /3 unreached: \"db-pager\" {team=\"db\"}: no alert of the rules enters (and 8 routes below)
+             a finding: whatever labels the series of the rules bring along, no alert enters
+             the route. The same is said of receivers, and of the two sides of rules
+  note /2/0 unseen: no rule has severity=\"critcal\", some have \"critical\"
+             a matcher names a label, or asks for a value, that no rule sets, but some rule
+             sets one that is most similar
+
 With --silences and --at, lint also checks the silences, except those that are over at that
 time. With --alerts, notes say what the alerts of that file show. Numbers of silences and of
 alerts are positions in their files, from 0:
@@ -123,6 +135,7 @@ Exit status: 0 done without a finding, 1 refused input, 2 usage, 3 out of memory
 output failed, 5 done with a finding.",
         takes: &[
             (CONFIG, Need::Required),
+            (RULES, Need::Optional),
             (SILENCES, Need::Optional),
             (ALERTS, Need::Optional),
             (AT, Need::Optional),
@@ -297,6 +310,16 @@ files, or are in only one of them. If there is no line, each alert goes to the s
 as before, by routes with the same options, and all else in the files is the same. It does
 not matter how routes and matchers are written, or in which order receivers and rules stand.
 
+With --rules, only the alerts of your alerting rules count, and the lines name them. The JSON
+has the form that `amcover where --help` describes:
+
+  amcover compare --old old.json --new alertmanager.json --rules rules.json
+
+  \"db\" {alertname=\"PostgresDown\",team=\"db\"}: \"db-pager\" -> \"web-pager\"
+
+The line begins with the group of the rule, and a label set of an alert of the rule that moves.
+Then 0 changes means that each alert of the rules goes to the same receivers as before.
+
 If some alerts never occur, say so in a universe file, such as never.json:
 
   {\"labels\": [], \"impossible\": [\"team=web,severity=critical\"]}
@@ -321,6 +344,7 @@ output failed, 5 done with a change.",
         takes: &[
             (OLD, Need::Required),
             (NEW, Need::Required),
+            (RULES, Need::Optional),
             (IMPOSSIBLE, Need::Optional),
             (ASCII, Need::Optional),
             (JSON, Need::Optional),

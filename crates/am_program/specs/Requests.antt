@@ -18,6 +18,8 @@ use Rattle.am_report_texts.specs.declared.writing.Form.{Form}
 use Rattle.am_report_texts.specs.declared.writing.Form.TheVariants as form_is
 use Rattle.am_alerts.specs.Alerts.{alerts_promise}
 use Rattle.am_universe_command.specs.Universes.{universe_promise, check_promise}
+use Rattle.am_reports.specs.ReportInputs.{ReportInputs}
+use Rattle.am_reports.specs.WorldInputs.{WorldInputs}
 use Rattle.am_reports.specs.Linting.{lint_promise}
 use Rattle.am_reports.specs.Comparing.{compare_promise}
 use Rattle.am_reports.specs.OutcomesReport.{outcomes_promise}
@@ -52,6 +54,24 @@ alphabet_of ascii = if ascii then Ascii else Unicode
 abbrev pub form_of : Bool → Form
 form_of json = if json then form_is.Json else form_is.Lines
 
+-- The inputs of `lint` and of `where`, and those of `routes` and of `outcomes`.
+abbrev pub world_inputs : Call → Bool → WorldInputs
+world_inputs call ascii = record {
+  universe = bytes_if_any call.universe;
+  files = files_of call;
+  rules = bytes_if_any call.rules;
+  alphabet = alphabet_of ascii;
+  form = form_of call.json;
+}
+
+abbrev pub report_inputs : Call → Bool → ReportInputs
+report_inputs call ascii = record {
+  universe = bytes_if_any call.universe;
+  config = config_of (bytes_if_any call.config);
+  alphabet = alphabet_of ascii;
+  form = form_of call.json;
+}
+
 -- What is owed if the answer is whether something was found: by a command that looks for nothing
 -- wrong, and so finds nothing; and by a command that returns how many changes there are.
 abbrev pub finds_nothing : {A : Type 0} → Promise A → Promise Bool
@@ -78,43 +98,23 @@ finds promise = record {
 -- Example: for `dead --universe u.json --config alertmanager.json` it is what `dead` owes for the
 -- bytes of these files.
 abbrev pub owed : Request → Call → Promise Bool
-owed (requests.Lint ascii) call =
-    lint_promise (record {
-      universe = bytes_if_any call.universe;
-      files = files_of call;
-      alphabet = alphabet_of ascii;
-      form = form_of call.json;
-    })
+owed (requests.Lint ascii) call = lint_promise (world_inputs call ascii)
 owed (requests.Where ascii receivers) call =
-    finds_nothing (where_promise (record {
-      universe = bytes_if_any call.universe;
-      files = files_of call;
-      rules = bytes_of call.rules;
-      alphabet = alphabet_of ascii;
-      form = form_of call.json;
-    }) (map (λ name. name.now) receivers.items))
+    finds_nothing (where_promise (world_inputs call ascii) (map (λ name. name.now) receivers.items))
 owed (requests.Routes ascii receivers) call =
-    finds_nothing (routes_promise (record {
-      universe = bytes_if_any call.universe;
-      config = config_of (bytes_if_any call.config);
-      alphabet = alphabet_of ascii;
-      form = form_of call.json;
-    }) (map (λ name. name.now) receivers.items))
+    finds_nothing
+    (routes_promise (report_inputs call ascii) (map (λ name. name.now) receivers.items))
 owed (requests.Compare ascii) call =
     finds (compare_promise (record {
       universe = bytes_if_any call.universe;
       old = bytes_of call.old;
       new = bytes_of call.new;
+      rules = bytes_if_any call.rules;
       alphabet = alphabet_of ascii;
       form = form_of call.json;
     }))
 owed (requests.Outcomes ascii) call =
-    finds_nothing (outcomes_promise (record {
-      universe = bytes_if_any call.universe;
-      config = config_of (bytes_if_any call.config);
-      alphabet = alphabet_of ascii;
-      form = form_of call.json;
-    }))
+    finds_nothing (outcomes_promise (report_inputs call ascii))
 owed (requests.Ask question after limit steps) call =
     finds_nothing (ask_promise (record {
       universe = bytes_of call.universe;

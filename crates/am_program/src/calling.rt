@@ -7,6 +7,7 @@ ghost use Rattle.am_universe.specs.declared.limits.TheConstants.{MAX_LABELS};
 ghost use Rattle.am_command_line.specs.StepsView.{step_count};
 ghost use Rattle.am_files.specs.Promise.{IsKept};
 ghost use Rattle.am_program.specs.Requests.{alphabet_of, bytes_of, files_of, form_of, promise_of};
+ghost use Rattle.am_program.specs.Requests.{report_inputs, world_inputs};
 
 use am_alerts::alerts;
 use am_classes::Alphabet;
@@ -15,8 +16,7 @@ use am_commands::{ask, dead, explain_words, receivers};
 use am_files::Files;
 use am_report_texts::Form;
 use am_reports::{
-    CompareInputs, LintInputs, ReportInputs, WhereInputs, compare, lint, outcomes, routes,
-    where_alerts_go,
+    CompareInputs, ReportInputs, WorldInputs, compare, lint, outcomes, routes, where_alerts_go,
 };
 use am_search::Page;
 use am_universe::{Fault, Sink};
@@ -34,31 +34,15 @@ pub fn make_call<W: Sink>(alloc: Global, call: &Call<'_>, out: &mut W) -> Result
     let form = form_of(call.json);
     match &call.request {
         Request::Lint { ascii } => {
-            let inputs = LintInputs {
-                universe: given,
-                files,
-                alphabet: alphabet_of(*ascii),
-                form,
-            };
+            let inputs = world_inputs(call, files, *ascii);
             lint(alloc, &inputs, out)
         }
         Request::Where { ascii, receivers } => {
-            let inputs = WhereInputs {
-                universe: given,
-                files,
-                rules: bytes_of(&call.rules),
-                alphabet: alphabet_of(*ascii),
-                form,
-            };
+            let inputs = world_inputs(call, files, *ascii);
             nothing_found(where_alerts_go(alloc, &inputs, receivers.as_slice(), out))
         }
         Request::Routes { ascii, receivers } => {
-            let inputs = ReportInputs {
-                universe: given,
-                config: files.config(),
-                alphabet: alphabet_of(*ascii),
-                form,
-            };
+            let inputs = report_inputs(call, files, *ascii);
             nothing_found(routes(alloc, &inputs, receivers.as_slice(), out))
         }
         Request::Compare { ascii } => {
@@ -66,18 +50,14 @@ pub fn make_call<W: Sink>(alloc: Global, call: &Call<'_>, out: &mut W) -> Result
                 universe: given,
                 old: bytes_of(&call.old),
                 new: bytes_of(&call.new),
+                rules: call.rules.as_deref(),
                 alphabet: alphabet_of(*ascii),
                 form,
             };
             something_found(compare(alloc, &inputs, out))
         }
         Request::Outcomes { ascii } => {
-            let inputs = ReportInputs {
-                universe: given,
-                config: files.config(),
-                alphabet: alphabet_of(*ascii),
-                form,
-            };
+            let inputs = report_inputs(call, files, *ascii);
             nothing_found(outcomes(alloc, &inputs, out))
         }
         Request::Ask {
@@ -154,6 +134,33 @@ fn nothing_found<T: Drop>(answer: Result<T, Fault>) -> Result<bool, Fault>
     match answer {
         Ok(_) => Ok(false),
         Err(fault) => Err(fault),
+    }
+}
+
+/// The inputs of `lint` and of `where`.
+fn world_inputs<'a>(call: &'a Call<'_>, files: &'a Files<'a>, ascii: bool) -> WorldInputs<'a>
+    requires { files.now ≡ files_of call.now }
+    ensures { result ≡ world_inputs call.now ascii }
+{
+    WorldInputs {
+        universe: call.universe.as_deref(),
+        files,
+        rules: call.rules.as_deref(),
+        alphabet: alphabet_of(ascii),
+        form: form_of(call.json),
+    }
+}
+
+/// The inputs of `routes` and of `outcomes`.
+fn report_inputs<'a>(call: &'a Call<'_>, files: &'a Files<'a>, ascii: bool) -> ReportInputs<'a>
+    requires { files.now ≡ files_of call.now }
+    ensures { result ≡ report_inputs call.now ascii }
+{
+    ReportInputs {
+        universe: call.universe.as_deref(),
+        config: files.config(),
+        alphabet: alphabet_of(ascii),
+        form: form_of(call.json),
     }
 }
 

@@ -4,44 +4,35 @@ use Rattle.am_program.proofs.calling.make_call.Goals as goal
 
 pub returns-in-Lint : goal.returns-in-Lint
 returns-in-Lint g c = record {
-  kept = rw c.in-Lint.is (rw (
-    c.as_deref-given.ensures.value,
-    c.files_of.ensures,
-    c.alphabet_of.ensures,
-    c.form_of-form.ensures,
-  ) at c.lint.ensures.kept);
+  kept = rw c.in-Lint.is (rw c.world_inputs-inputs.ensures at c.lint.ensures.kept);
 }
 
 pub returns-in-Where : goal.returns-in-Where
 returns-in-Where g c = record {
   kept = rw c.in-Where.is (nothing_found c.nothing_found.ensures
-      (rw (c.as_slice.ensures.value, c.alphabet_of-in-Where.ensures, c.form_of-form.ensures)
-      at (rw (c.as_deref-given.ensures.value, c.bytes_of.ensures, c.files_of.ensures)
-      at c.where_alerts_go.ensures.kept)));
+      (rw (c.as_slice.ensures.value, c.world_inputs-inputs-in-Where.ensures)
+      at c.where_alerts_go.ensures.kept));
 }
 
 pub returns-in-Routes : goal.returns-in-Routes
 returns-in-Routes g c = record {
   kept = rw c.in-Routes.is (nothing_found c.nothing_found-in-Routes.ensures
-      (rw (c.as_slice-in-Routes.ensures.value, c.alphabet_of-in-Routes.ensures, c.form_of-form.ensures)
-      at (rw (c.as_deref-given.ensures.value, c.config.ensures.bytes, c.files_of.ensures)
-      at c.routes.ensures.kept)));
+      (rw (c.as_slice-in-Routes.ensures.value, c.report_inputs-inputs.ensures)
+      at c.routes.ensures.kept));
 }
 
 pub returns-in-Compare : goal.returns-in-Compare
 returns-in-Compare g c = record {
   kept = rw c.in-Compare.is (so_many_found c.something_found.ensures
-      (rw (c.alphabet_of-in-Compare.ensures, c.form_of-form.ensures)
-      at (rw (c.as_deref-given.ensures.value, c.bytes_of-in-Compare.ensures, c.bytes_of-in-Compare-2.ensures)
+      (rw (c.alphabet_of.ensures, c.form_of-form.ensures, c.as_deref.ensures.value)
+      at (rw (c.as_deref-given.ensures.value, c.bytes_of.ensures, c.bytes_of-in-Compare.ensures)
       at c.compare.ensures.kept)));
 }
 
 pub returns-in-Outcomes : goal.returns-in-Outcomes
 returns-in-Outcomes g c = record {
   kept = rw c.in-Outcomes.is (nothing_found c.nothing_found-in-Outcomes.ensures
-      (rw (c.alphabet_of-in-Outcomes.ensures, c.form_of-form.ensures)
-      at (rw (c.as_deref-given.ensures.value, c.config-in-Outcomes.ensures.bytes, c.files_of.ensures)
-      at c.outcomes.ensures.kept)));
+      (rw c.report_inputs-inputs-in-Outcomes.ensures at c.outcomes.ensures.kept));
 }
 
 pub returns-in-Ask : goal.returns-in-Ask
@@ -55,7 +46,7 @@ returns-in-Ask g c = record {
 pub returns-in-Dead : goal.returns-in-Dead
 returns-in-Dead g c = record {
   kept = rw c.in-Dead.is (nothing_found c.nothing_found-in-Dead.ensures
-      (rw (c.bytes_of-in-Dead.ensures, c.config-in-Dead.ensures.bytes, c.files_of.ensures)
+      (rw (c.bytes_of-in-Dead.ensures, c.config.ensures.bytes, c.files_of.ensures)
       at c.dead.ensures.kept));
 }
 
