@@ -3,6 +3,7 @@ mod SightLemmas
 mod ClosureLemmas
 mod StepLemmas
 mod ColumnLemmas
+mod ArrivalLemmas
 mod AutomatonLemmas
 pub mod WildcardLemmas
 pub mod WildcardStateLemmas

@@ -2,13 +2,18 @@
 use Rattle.std.specs.Prelude.{◌≡◌, ℕ, ◌<◌, Bool, true, List, [], ◌∷◌, length, Some, slice_get}
 use Rattle.std.specs.Prelude.{slice_index, string_bytes, vec_len}
 use Rattle.am_labels.specs.Pattern.{finds}
+use Rattle.regex_nfa.specs.declared.nfa.Nfa.{Nfa}
 use Rattle.am_scan.specs.declared.column.Column.{Column}
+use Rattle.am_scan.specs.declared.columns.Columns.{Columns}
+use Rattle.am_scan.specs.declared.steps.Steps.{Steps}
 use Rattle.am_scan.specs.declared.row.Row.{Row}
 use Rattle.am_scan.specs.declared.pattern_scan.PatternScan.{PatternScan}
 use Rattle.am_scan.specs.declared.pattern_state.PatternState.{PatternState}
 use Rattle.am_scan.specs.declared.pattern_automaton.PatternAutomaton.{PatternAutomaton}
 use Rattle.am_scan.specs.Sight.{is_scanned, IsScanned}
+use Rattle.am_scan.specs.Closure.{contains}
 use Rattle.am_scan.specs.Column.{IsColumn}
+use Rattle.am_scan.specs.Arrivals.{AreArrivals, items_at}
 use Rattle.am_scan.specs.Scan.{Follows}
 use Rattle.am_scan.specs.Numbers.{number_in}
 
@@ -30,6 +35,29 @@ abbrev pub LeadsTo : PatternScan → Column → PatternState → PatternState �
 LeadsTo scan column state next =
     (byte : ℕ) (text : List ℕ) → IsColumn scan.nfa scan.sight byte column
     → Follows scan state text → Follows scan next (byte ∷ text)
+
+-- The steps to each state are listed, for each state of a compiled pattern.
+pub record IsIndexed (nfa : Nfa) (columns : Columns) : Type 0 where
+  pub count : vec_len columns.arrivals ≡ vec_len nfa.states
+  pub each : AreArrivals columns.columns.items columns.arrivals.items
+
+-- A state is made from what bytes of a kind make of a text, for a class of bytes.
+pub record IsNextBy (steps : Steps) (class : ℕ) (starts : Bool) (next : PatternState) : Type 0 where
+  pub first : next.first ≡ Some steps.kind
+  pub starts_is : next.starts ≡ starts
+  pub reads : (q : ℕ) → contains next.reads.items q ≡ contains (items_at steps.reads.items class) q
+  pub later : next.later ≡ steps.later
+
+-- What bytes of a kind make of the texts of a state: each byte of a column of this kind leads to
+-- the state that is made for the column.
+-- Source: own choice.
+-- Example: for the pattern `db`, with all bytes of one kind, `d` leads from the state of `b` to
+-- that of `db`.
+abbrev pub AreSteps : PatternScan → List Column → PatternState → Steps → Type 0
+AreSteps scan columns state steps =
+    (class : ℕ) (column : Column) (next : PatternState) → slice_get columns class ≡ Some column
+    → column.kind ≡ steps.kind → IsNextBy steps class column.starts next
+    → LeadsTo scan column state next
 
 -- For each column, the state to which a byte of it leads.
 abbrev pub AreNext : PatternScan → List Column → PatternState → List PatternState → Type 0

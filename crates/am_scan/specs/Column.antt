@@ -1,6 +1,5 @@
 -- How a pattern treats a byte.
-use Rattle.std.specs.Prelude.{◌≡◌, ℕ, zero, suc, Bool, false, List, [], ◌∷◌, ◌++◌}
-use Rattle.std.specs.Prelude.{Option, Some, None, map, filter, vec_len, slice_index_or}
+use Rattle.std.specs.Prelude.{◌≡◌, ℕ, zero, suc, List, [], ◌∷◌, ◌++◌, Option, Some, None, vec_len}
 use Rattle.regex_hir.specs.Text.{is_boundary}
 use Rattle.regex_nfa.specs.Run.{state_of}
 use Rattle.regex_nfa.specs.States.{next_on}
@@ -26,13 +25,6 @@ first_edges nfa b (suc q) =
 -- The steps on which any state of a pattern reads a byte.
 abbrev pub edges_of : Nfa → ℕ → List Edge
 edges_of nfa b = first_edges nfa b (vec_len nfa.states)
-
--- The states from which steps lead to an accepted state.
--- Source: own choice.
--- Example: if only state 2 is accepted, the steps from 1 to 2 and from 2 to 3 give state 1 alone.
-abbrev pub sources : List Bool → List Edge → List ℕ
-sources accepted edges =
-    map (λ e. e.from) (filter (λ e. slice_index_or accepted e.to false) edges)
 
 -- A column says how the pattern treats a byte: the steps on which the byte is read, its kind, and
 -- whether a character begins with it.

@@ -1,6 +1,7 @@
 pub mod Sight
 pub mod Closure
 pub mod Column
+pub mod Arrivals
 pub mod Scan
 pub mod Numbers
 pub mod Automaton

@@ -4,8 +4,9 @@ ghost use Rattle.am_scan.specs.declared.sight.Sight.{Sight};
 ghost use Rattle.am_scan.specs.declared.column.Column.{Column};
 ghost use Rattle.am_scan.specs.Sight.{is_scanned};
 ghost use Rattle.am_scan.specs.Column.{IsColumn};
-ghost use Rattle.am_scan.specs.Automaton.{AreClasses, Grows};
+ghost use Rattle.am_scan.specs.Automaton.{AreClasses, Grows, IsIndexed};
 
+use crate::arrivals::{Arrival, arrivals_of};
 use crate::column::Column;
 use crate::pattern_scan::PatternScan;
 use std::alloc::{AllocError, Global};
@@ -17,6 +18,8 @@ pub(crate) struct Columns {
     pub(crate) columns: Vec<Column>,
     /// For each byte, the position of its column. For a byte that is not scanned, it means nothing.
     pub(crate) classes: Vec<u8>,
+    /// For each state of the pattern, the steps to it that are in the columns.
+    pub(crate) arrivals: Vec<Vec<Arrival>>,
 }
 
 impl Columns {
@@ -24,6 +27,8 @@ impl Columns {
     pub(crate) fn of(alloc: Global, scan: &PatternScan) -> Result<Option<Columns>, AllocError>
         ensures count { IfOk result (λ found. IfSome found
             (λ made. vec_len made.classes ≡ 256)) }
+        ensures arrivals { IfOk result (λ found. IfSome found
+            (λ made. IsIndexed scan.now.nfa made)) }
         ensures classes { IfOk result (λ found. IfSome found
             (λ made. AreClasses scan.now made.columns.items made.classes.items)) }
     {
@@ -35,7 +40,12 @@ impl Columns {
             };
             classes.push(class)?;
         }
-        Ok(Some(Columns { columns, classes }))
+        let arrivals = arrivals_of(alloc, columns.as_slice(), scan.nfa.states.len())?;
+        Ok(Some(Columns {
+            columns,
+            classes,
+            arrivals,
+        }))
     }
 }
 

@@ -1,9 +1,9 @@
 ghost use Rattle.std.specs.Prelude.{◌≡◌, ◌<◌, ℕ, List, Some, IfOk, IfSome};
 ghost use Rattle.std.specs.Prelude.{length, slice_get, vec_len};
 ghost use Rattle.am_scan.specs.declared.pattern_state.PatternState.{PatternState};
-ghost use Rattle.am_scan.specs.Automaton.{Grows, AreNumbers, IsRow, AreRows};
+ghost use Rattle.am_scan.specs.Automaton.{Grows, AreNumbers, IsIndexed, IsRow, AreRows};
 
-use crate::column::Column;
+use crate::columns::Columns;
 use crate::limits::MAX_TEXT_STATES;
 use crate::pattern_scan::PatternScan;
 use crate::pattern_state::PatternState;
@@ -16,10 +16,11 @@ use std::alloc::{AllocError, Global};
 pub(crate) fn explored(
     alloc: Global,
     scan: &PatternScan,
-    columns: &[Column],
+    columns: &Columns,
 ) -> Result<Option<Vec<Row>>, AllocError>
+    requires { IsIndexed scan.now.nfa columns.now }
     ensures { IfOk result (λ found. IfSome found (λ rows. (states : List PatternState)
-        × AreRows scan.now columns.now states rows.items)) }
+        × AreRows scan.now columns.now.columns.items states rows.items)) }
 {
     let mut states = IndexSet::new(alloc);
     states.insert(scan.end(alloc))?;
@@ -41,16 +42,17 @@ pub(crate) fn explored(
 fn row(
     alloc: Global,
     scan: &PatternScan,
-    columns: &[Column],
+    columns: &Columns,
     states: &mut IndexSet<PatternState>,
     at: usize,
 ) -> Result<Option<Row>, AllocError>
-    requires { at < length states.old.keys }
+    requires at { at < length states.old.keys }
+    requires index { IsIndexed scan.now.nfa columns.now }
     ensures grows { IfOk result (λ found. IfSome found
         (λ _. Grows states.old.keys states.new.keys)) }
     ensures row { IfOk result (λ found. IfSome found (λ row. (state : PatternState)
         → slice_get states.old.keys at ≡ Some state
-        → IsRow scan.now columns.now states.new.keys state row)) }
+        → IsRow scan.now columns.now.columns.items states.new.keys state row)) }
 {
     let state = &states[at];
     let Some(found) = scan.finds(alloc, state)? else {

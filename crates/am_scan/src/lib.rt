@@ -10,13 +10,14 @@
 pub mod limits;
 
 // What the assertions of a pattern see of bytes, and how the whole pattern treats them.
+mod arrivals;
 mod column;
 mod columns;
 mod sight;
 
 // What is known when the end of a text has been read.
-mod closure;
 mod pattern_state;
+mod steps;
 
 // How a pattern is followed from the end of a text.
 mod pattern_scan;

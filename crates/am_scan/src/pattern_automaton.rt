@@ -80,7 +80,7 @@ impl PatternAutomaton {
         let Some(columns) = Columns::of(alloc, &scan)? else {
             return Ok(None);
         };
-        let Some(rows) = explored(alloc, &scan, columns.columns.as_slice())? else {
+        let Some(rows) = explored(alloc, &scan, &columns)? else {
             return Ok(None);
         };
         Ok(Some(PatternAutomaton {

@@ -8,13 +8,13 @@ ghost use Rattle.am_scan.specs.Sight.{sees_state, IsScanned};
 ghost use Rattle.am_labels.specs.PatternView.{IsSearchFor};
 ghost use Rattle.am_scan.specs.Closure.{IsClosed, AcceptsReads, accepts, contains};
 ghost use Rattle.am_scan.specs.Closure.{reads_byte};
-ghost use Rattle.am_scan.specs.Column.{IsColumn, sources};
 
-use crate::closure::Closure;
-use crate::column::{Column, Edge};
+use crate::arrivals::sources;
+use crate::columns::Columns;
 use crate::limits::{MAX_STATES, MAX_TABLE_BYTES};
 use crate::pattern_state::PatternState;
 use crate::sight::{Sight, holds};
+use crate::steps::Steps;
 use am_labels::compile_pattern;
 use regex_nfa::{Nfa, State, StateId};
 use std::alloc::{AllocError, Global};
@@ -42,7 +42,7 @@ pub(crate) struct PatternScan {
 impl PatternScan {
     ghost use Rattle.am_scan.specs.declared.pattern_state.PatternState.{PatternState};
     ghost use Rattle.am_scan.specs.Scan.{Follows};
-    ghost use Rattle.am_scan.specs.Automaton.{AreNext};
+    ghost use Rattle.am_scan.specs.Automaton.{AreNext, AreSteps, IsIndexed};
 
     /// Compiles a pattern, to scan only texts of ASCII if `ascii`, and else any text. Returns
     /// `None` if the pattern cannot be followed: the engine's grammar does not read it, it is too
@@ -90,56 +90,79 @@ impl PatternScan {
         }
     }
 
-    /// Returns the state of a text with one more byte before it. `column` says how the pattern
-    /// treats that byte, and `closure` which states lead to a match after a byte of its kind.
-    fn step(
-        &self,
-        alloc: Global,
-        state: &PatternState,
-        closure: &Closure,
-        column: &Column,
-    ) -> Result<PatternState, AllocError>
-        requires closed { IsClosed self.now.nfa state.now.first closure.now.before
-            (contains state.now.reads.items) closure.now.accepted.items }
-        requires before { closure.now.before ≡ Some column.now.kind }
-        ensures { IfOk result (λ next. (byte : ℕ) (text : List ℕ)
-            → IsColumn self.now.nfa self.now.sight byte column.now
-            → Follows self.now state.now text → Follows self.now next (byte ∷ text)) }
-    {
-        let accepted = closure.accepted.as_slice();
-        Ok(PatternState {
-            first: closure.before,
-            starts: column.starts,
-            reads: sources(alloc, column.edges.as_slice(), accepted)?,
-            later: self.matches_from(state, accepted),
-        })
-    }
-
     /// Returns the states of a text with one more byte before it, one for each column. Returns
     /// `None` if [`PatternScan::closure`] does.
     pub(crate) fn next_states(
         &self,
         alloc: Global,
         state: &PatternState,
-        columns: &[Column],
+        columns: &Columns,
     ) -> Result<Option<Vec<PatternState>>, AllocError>
+        requires { IsIndexed self.now.nfa columns.now }
         ensures count { IfOk result (λ found. IfSome found
-            (λ nexts. vec_len nexts ≡ length columns.now)) }
+            (λ nexts. vec_len nexts ≡ vec_len columns.now.columns)) }
         ensures each { IfOk result (λ found. IfSome found
-            (λ nexts. AreNext self.now columns.now state.now nexts.items)) }
+            (λ nexts. AreNext self.now columns.now.columns.items state.now nexts.items)) }
     {
-        let Some(mut closure) = self.closure(alloc, state, None)? else {
-            return Ok(None);
-        };
-        let mut nexts = Vec::with_capacity(alloc, columns.len())?;
-        for column in columns {
-            let Some(behind) = self.closure_behind(alloc, state, column.kind, closure)? else {
+        let mut nexts = Vec::with_capacity(alloc, columns.columns.len())?;
+        let mut last = None;
+        for (class, column) in columns.columns.iter().enumerate() {
+            let Some(steps) = self.steps_of_kind(alloc, state, columns, column.kind, last)? else {
                 return Ok(None);
             };
-            nexts.push(self.step(alloc, state, &behind, column)?)?;
-            closure = behind;
+            nexts.push(steps.next(alloc, class, column.starts)?)?;
+            last = Some(steps);
         }
         Ok(Some(nexts))
+    }
+
+    /// Finds what bytes of this kind make of a text. Usually the previous column has shown this
+    /// already.
+    fn steps_of_kind(
+        &self,
+        alloc: Global,
+        state: &PatternState,
+        columns: &Columns,
+        kind: u8,
+        last: Option<Steps>,
+    ) -> Result<Option<Steps>, AllocError>
+        requires index { IsIndexed self.now.nfa columns.now }
+        requires last { IfSome last (λ steps.
+            AreSteps self.now columns.now.columns.items state.now steps) }
+        ensures kind { IfOk result (λ found. IfSome found (λ steps. steps.kind ≡ kind)) }
+        ensures steps { IfOk result (λ found. IfSome found (λ steps.
+            AreSteps self.now columns.now.columns.items state.now steps)) }
+    {
+        match last {
+            Some(steps) if steps.kind == kind => Ok(Some(steps)),
+            _ => self.steps(alloc, state, columns, kind),
+        }
+    }
+
+    /// Finds what bytes of this kind make of a text. Returns `None` if [`PatternScan::closure`]
+    /// does.
+    fn steps(
+        &self,
+        alloc: Global,
+        state: &PatternState,
+        columns: &Columns,
+        kind: u8,
+    ) -> Result<Option<Steps>, AllocError>
+        requires { IsIndexed self.now.nfa columns.now }
+        ensures kind { IfOk result (λ found. IfSome found (λ steps. steps.kind ≡ kind)) }
+        ensures steps { IfOk result (λ found. IfSome found (λ steps.
+            AreSteps self.now columns.now.columns.items state.now steps)) }
+    {
+        let Some(accepted) = self.closure(alloc, state, Some(kind))? else {
+            return Ok(None);
+        };
+        let arrivals = columns.arrivals.as_slice();
+        let accepted = accepted.as_slice();
+        Ok(Some(Steps {
+            kind,
+            reads: sources(alloc, arrivals, accepted, columns.columns.len())?,
+            later: self.matches_from(state, accepted),
+        }))
     }
 
     /// Whether the pattern finds the whole text that was read. Returns `None` if
@@ -153,10 +176,10 @@ impl PatternScan {
             → Follows self.now state.now text → IsScanned self.now.ascii text
             → answer ≡ finds (string_bytes self.now.pattern) text)) }
     {
-        let Some(closure) = self.closure(alloc, state, None)? else {
+        let Some(accepted) = self.closure(alloc, state, None)? else {
             return Ok(None);
         };
-        Ok(Some(self.matches_from(state, closure.accepted.as_slice())))
+        Ok(Some(self.matches_from(state, accepted.as_slice())))
     }
 
     /// Whether a match begins at the start of the state's text, or later.
@@ -168,29 +191,6 @@ impl PatternScan {
         state.later || (state.starts && accepted[self.nfa.start as usize])
     }
 
-    /// Finds which states lead to a match after a byte of this kind. Usually the previous column
-    /// has shown this already.
-    fn closure_behind(
-        &self,
-        alloc: Global,
-        state: &PatternState,
-        kind: u8,
-        last: Closure,
-    ) -> Result<Option<Closure>, AllocError>
-        requires { IsClosed self.now.nfa state.now.first last.before
-            (contains state.now.reads.items) last.accepted.items }
-        ensures closed { IfOk result (λ found. IfSome found (λ closure.
-            IsClosed self.now.nfa state.now.first closure.before (contains state.now.reads.items)
-            closure.accepted.items)) }
-        ensures before { IfOk result (λ found. IfSome found (λ closure.
-            closure.before ≡ Some kind)) }
-    {
-        if last.is_behind(kind) {
-            return Ok(Some(last));
-        }
-        self.closure(alloc, state, Some(kind))
-    }
-
     /// Finds for each state of the compiled pattern whether it leads to a match from the start of
     /// the text of `state`, after a byte of kind `before`. Looks at the states that read no byte in
     /// rounds, until a round changes nothing. There are at most as many rounds as such states, and
@@ -200,18 +200,16 @@ impl PatternScan {
         alloc: Global,
         state: &PatternState,
         before: Option<u8>,
-    ) -> Result<Option<Closure>, AllocError>
-        ensures closed { IfOk result (λ found. IfSome found (λ closure.
-            IsClosed self.now.nfa state.now.first closure.before (contains state.now.reads.items)
-            closure.accepted.items)) }
-        ensures before { IfOk result (λ found. IfSome found (λ closure.
-            closure.before ≡ before)) }
+    ) -> Result<Option<Vec<bool>>, AllocError>
+        ensures { IfOk result (λ found. IfSome found (λ accepted.
+            IsClosed self.now.nfa state.now.first before (contains state.now.reads.items)
+            accepted.items)) }
     {
         let mut accepted = vec![in alloc; false; self.nfa.states.len()]?;
         mark(state.reads.as_slice(), accepted.as_mut_slice());
         for _ in 0..=self.idle.len() {
             if !self.accept_more(state, before, accepted.as_mut_slice()) {
-                return Ok(Some(Closure { before, accepted }));
+                return Ok(Some(accepted));
             }
         }
         Ok(None)
@@ -296,17 +294,4 @@ fn mark(places: &[StateId], marks: &mut [bool])
             marks[*place as usize] = true;
         }
     }
-}
-
-/// Returns the states from which one of these steps leads to an accepted state.
-fn sources(alloc: Global, edges: &[Edge], accepted: &[bool]) -> Result<Vec<StateId>, AllocError>
-    ensures { IfOk result (λ reads. reads.items ≡ sources accepted.now edges.now) }
-{
-    let mut reads = Vec::new(alloc);
-    for edge in edges {
-        if let Some(true) = accepted.get(edge.to as usize) {
-            reads.push(edge.from)?;
-        }
-    }
-    Ok(reads)
 }

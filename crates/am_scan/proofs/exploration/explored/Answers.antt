@@ -8,7 +8,7 @@ use Rattle.am_scan.proofs.exploration.explored.Goals as goal
 pub loop-at-preserved : goal.loop-at-preserved
 loop-at-preserved c =
     let scan = c.args.scan.now in
-    let columns = c.args.columns.now in
+    let columns = c.args.columns.now.columns.items in
     let h = c.loop-at.invariant in
     let old = c.loop-at.states.keys in
     let new = c.row.new.states.keys in

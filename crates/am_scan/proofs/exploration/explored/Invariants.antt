@@ -13,5 +13,5 @@ invariant-loop-at l = record {
   count : vec_len l.rows ≡ l.at;
   first : (state : PatternState) → slice_get l.states.keys 0 ≡ Some state → Follows l.scan state [];
   each : (k : ℕ) (state : PatternState) (row : Row) → slice_get l.states.keys k ≡ Some state
-      → slice_get l.rows.items k ≡ Some row → IsRow l.scan l.columns l.states.keys state row;
+      → slice_get l.rows.items k ≡ Some row → IsRow l.scan l.columns.columns.items l.states.keys state row;
 }

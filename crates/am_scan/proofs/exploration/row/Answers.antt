@@ -8,7 +8,7 @@ use Rattle.am_scan.proofs.exploration.row.Goals as goal
 pub returns-clause-row : goal.returns-clause-row
 returns-clause-row c = λ state at.
     let scan = c.args.scan.now in
-    let columns = c.args.columns.now in
+    let columns = c.args.columns.now.columns.items in
     let states = c.args.states.now.keys in
     let this = c.index-state.result.now in
     let nexts = c.in-Some-2.nexts in
@@ -20,7 +20,7 @@ returns-clause-row c = λ state at.
     subst (λ s. IsRow scan columns c.numbers_of.new.states.keys s (record { next = numbers; found = c.in-Some.found }))
     (same_Some this state (sym c.index-state.ensures ∙ at))
     (record {
-      count = as_many ∙ count;
+      count = as_many ∙ count ∙ c.args.columns.now.columns.ok.0;
       leads = λ k column number here there.
           let next = get_within nexts.items k (omega (arith, slice_get_within numbers.items k number there, numbers.ok.0, nexts.ok.0, as_many)) in
           let other = serve k next.0 number next.1 there in

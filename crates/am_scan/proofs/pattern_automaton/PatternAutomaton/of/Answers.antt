@@ -13,7 +13,7 @@ invariant_of-result c =
     let count = rw c.in-Some-2.is at c.in_ok-columns.ensures.count in
     let own = rw c.in-Some-2.is at c.in_ok-columns.ensures.classes in
     let ascii = rw c.in-Some.is at c.in_ok-scan.ensures.ascii in
-    let are = rw (c.in-Some-3.is, c.as_slice.ensures.value) at c.in_ok-rows.ensures in
+    let are = rw c.in-Some-3.is at c.in_ok-rows.ensures in
     let bytes : length columns.classes.items ≡ 256 = omega (arith, columns.classes.ok.0, count) in
     record {
       exact = λ text scanned _.

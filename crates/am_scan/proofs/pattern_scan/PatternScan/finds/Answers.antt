@@ -1,6 +1,6 @@
 -- A match begins at the first character, or later.
-use Rattle.std.proofs.Common.{◌||◌, ◌&&◌, ◌∙◌, ap, subst, false, slice_index_or, string_bytes}
-use Rattle.am_scan.specs.Closure.{contains, IsClosed}
+use Rattle.std.proofs.Common.{◌||◌, ◌&&◌, ◌∙◌, ap, false, slice_index_or, string_bytes}
+use Rattle.am_scan.specs.Closure.{contains}
 use Rattle.am_scan.specs.Scan.{Follows}
 use Rattle.am_scan.proofs.StepLemmas.{finds_where_accepted}
 use Rattle.am_scan.proofs.pattern_scan.PatternScan.finds.Goals as goal
@@ -10,11 +10,9 @@ unfolding Follows
 returns c = λ text follows scanned.
     let scan = c.args.self.now in
     let state = c.args.state.now in
-    let accepted = c.in-Some.closure.accepted.items in
-    let closed = rw c.in-Some.is at c.in_ok-closure.ensures.closed in
-    let before = rw c.in-Some.is at c.in_ok-closure.ensures.before in
+    let accepted = c.in-Some.accepted.items in
     c.matches_from.ensures
     ∙ ap (λ xs. state.later || (state.starts && slice_index_or xs scan.nfa.start false)) c.as_slice.ensures.value
     ∙ finds_where_accepted scan.nfa scan.sight scan.ascii (record { all = scan.seen; words_in_ascii = scan.words_in_ascii })
     state.first state.starts (contains state.reads.items) state.later text follows accepted (string_bytes scan.pattern) scan.faithful
-    (subst (λ o. IsClosed scan.nfa state.first o (contains state.reads.items) accepted) before closed) scanned
+    (rw c.in-Some.is at c.in_ok-accepted.ensures) scanned

@@ -1,12 +1,11 @@
 -- The states for the columns so far.
-use Rattle.std.proofs.Common.{◌≡◌, take, vec_len}
-use Rattle.am_scan.specs.Closure.{contains, IsClosed}
-use Rattle.am_scan.specs.Automaton.{AreNext}
+use Rattle.std.proofs.Common.{◌≡◌, take, vec_len, IfSome}
+use Rattle.am_scan.specs.Automaton.{AreNext, AreSteps}
 use Rattle.am_scan.proofs.pattern_scan.PatternScan.next_states.Given as goal
 
-abbrev pub invariant-loop-column : goal.invariant-loop-column
-invariant-loop-column l = record {
-  closed : IsClosed l.self.nfa l.state.first l.closure.before (contains l.state.reads.items) l.closure.accepted.items;
-  count : vec_len l.nexts ≡ l.column-index;
-  each : AreNext l.self (take l.column-index l.columns) l.state l.nexts.items;
+abbrev pub invariant-loop-class : goal.invariant-loop-class
+invariant-loop-class l = record {
+  last : IfSome l.last (λ steps. AreSteps l.self l.columns.columns.items l.state steps);
+  count : vec_len l.nexts ≡ l.class;
+  each : AreNext l.self (take l.class l.columns.columns.items) l.state l.nexts.items;
 }
