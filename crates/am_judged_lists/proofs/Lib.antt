@@ -7,6 +7,7 @@ pub mod CubeLemmas
 pub mod JudgeLemmas
 pub mod BuildLemmas
 pub mod SetLemmas
+pub mod CubeSetLemmas
 pub mod BlockLemmas
 pub mod TableLemmas
 pub mod BoxLemmas

@@ -1,6 +1,9 @@
 -- Tests over lists.
-use Rattle.std.proofs.Common.{◌≡◌, ◌≢◌, ℕ, zero, suc, ◌+◌, ◌<◌, ◌≤◌, Bool, true, false, ◌&&◌, ◌||◌, List, [], ◌∷◌, ◌++◌, length, get_or, refl, ap, sym, subst, ◌∙◌, inl, inr, arith}
+use Rattle.std.proofs.Common.{◌≡◌, ◌≢◌, ℕ, zero, suc, ◌+◌, ◌<◌, ◌≤◌, Bool, true, false, ◌&&◌, ◌||◌, List, [], ◌∷◌, ◌++◌, length, get_or, refl, ap, sym, subst, ◌∙◌, inl, inr, arith, add-one, zero-add}
+use Rattle.std.specs.Bool.{Decides}
 use Rattle.std.specs.List.{list_all, list_any, range_with_len, AllByRecursion}
+use Rattle.std.proofs.lemmas.List.Folds.{list_all-append}
+use Rattle.am_universe.proofs.CompletionLemmas.{range_more}
 use Rattle.std.proofs.lemmas.Bool.{cases_Bool, and_parts, and_from, or_left, or_right, cases_eq}
 use Rattle.am_universe.proofs.ListLemmas.{IsIn}
 
@@ -85,12 +88,35 @@ all_but_one test k first (suc count) low high pass = elim (cases_eq first k) [
 pub all_but : (test : ℕ → Bool) (k count : ℕ) → k < count → ((i : ℕ) → i ≢ k → test i ≡ true) → list_all test (range_with_len 0 count) ≡ test k
 all_but test k count h pass = all_but_one test k 0 count (omega arith) (omega arith) pass
 
+-- they pass exactly if each does
+pub each_in_row : (test : ℕ → Bool) (first count : ℕ)
+    → Decides (list_all test (range_with_len first count)) ((k : ℕ) → first ≤ k → k < first + count → test k ≡ true)
+each_in_row test first zero = (λ e k low high. absurd (omega (arith, low, high)), λ each. refl)
+each_in_row test first (suc count) =
+    let rest = each_in_row test (first + 1) count in (
+      λ e k low high.
+          let parts = and_parts (test first) (list_all test (range_with_len (first + 1) count)) e in
+          elim (cases_eq first k) [
+            | inl same ↦ ap test (sym same) ∙ parts.0
+            | inr other ↦ rest.0 parts.1 k (omega (arith, low, other)) (omega (arith, high))
+          ],
+      λ each. and_from (test first) (list_all test (range_with_len (first + 1) count)) (each first (omega arith) (omega arith))
+          (rest.1 (λ k low high. each k (omega (arith, low)) (omega (arith, high)))),
+    )
+
+pub all_first_more : (test : ℕ → Bool) (i : ℕ)
+    → list_all test (range_with_len 0 (i + 1)) ≡ (list_all test (range_with_len 0 i) && test i)
+all_first_more test i =
+    ap (λ n. list_all test (range_with_len 0 n)) (add-one i)
+    ∙ ap (list_all test) (range_more 0 i ∙ ap (λ n. range_with_len 0 i ++ n ∷ []) (zero-add i))
+    ∙ list_all-append test (range_with_len 0 i) (i ∷ []) ∙ ap (λ b. list_all test (range_with_len 0 i) && b) (and_true (test i))
+
 both_rearranged : (a b x y : Bool) → ((a && b) && (x && y)) ≡ ((a && x) && (b && y))
 both_rearranged true false true y = refl
 both_rearranged true false false y = refl
 both_rearranged a b x y = refl
 
 -- two tests at once
-pub all_both : (p q : ℕ → Bool) (xs : List ℕ) → list_all (λ i. p i && q i) xs ≡ (list_all p xs && list_all q xs)
+pub all_both : {X : Type 0} (p q : X → Bool) (xs : List X) → list_all (λ i. p i && q i) xs ≡ (list_all p xs && list_all q xs)
 all_both p q [] = refl
 all_both p q (x ∷ xs) = ap (λ b. (p x && q x) && b) (all_both p q xs) ∙ both_rearranged (p x) (q x) (list_all p xs) (list_all q xs)

@@ -1,14 +1,13 @@
 -- What rows say of a choice, row by row and label by label.
-use Rattle.std.proofs.Common.{◌≡◌, ℕ, ◌+◌, ◌<◌, Bool, true, false, not, ◌&&◌, ◌||◌, ◌==◌, List, [], ◌∷◌, ◌++◌, length, map, take, get_or, Option, Some, None, unwrap_or, slice_get, refl, ap, sym, ◌∙◌, add-one, zero-add}
+use Rattle.std.proofs.Common.{◌≡◌, ℕ, ◌+◌, ◌<◌, Bool, true, false, not, ◌&&◌, ◌||◌, ◌==◌, List, [], ◌∷◌, ◌++◌, length, map, take, get_or, Option, Some, None, unwrap_or, slice_get, refl, ap, sym, ◌∙◌}
 use Rattle.std.specs.List.{list_all, list_any, range_with_len, AllByRecursion}
 use Rattle.std.proofs.lemmas.Bool.{and_from, or_parts, eq-eqb, ne_eqb, lt-ltb}
 use Rattle.std.proofs.lemmas.List.{take_more, map-append}
 use Rattle.std.proofs.lemmas.Option.{slice_get_within, get_or_from_slice_get}
 use Rattle.std.proofs.lemmas.List.Folds.{list_all-append}
-use Rattle.am_universe.proofs.CompletionLemmas.{range_more}
 use Rattle.am_labels.specs.Row.{TruthRow, truth_among, truth_at, is_reached, row_holds}
 use Rattle.am_judged_lists.specs.Rows.{is_label, is_any_of, allows, all_allow, is_false_without, is_never_true}
-use Rattle.am_judged_lists.proofs.ListLemmas.{all_both, all_but, all_others, and_true}
+use Rattle.am_judged_lists.proofs.ListLemmas.{all_both, all_but, all_others, all_first_more}
 
 -- the rows of two lists
 pub all_allow_joined : (rows more : List TruthRow) (label j : ℕ)
@@ -31,11 +30,7 @@ abbrev pub allow_first : List TruthRow → List ℕ → ℕ → Bool
 allow_first rows c count = list_all (λ i. all_allow rows i (get_or c i 0)) (range_with_len 0 count)
 
 pub allow_first_more : (rows : List TruthRow) (c : List ℕ) (i : ℕ) → allow_first rows c (i + 1) ≡ (allow_first rows c i && all_allow rows i (get_or c i 0))
-allow_first_more rows c i =
-    let test : ℕ → Bool = λ k. all_allow rows k (get_or c k 0) in
-    ap (λ n. list_all test (range_with_len 0 n)) (add-one i)
-    ∙ ap (list_all test) (range_more 0 i ∙ ap (λ n. range_with_len 0 i ++ n ∷ []) (zero-add i))
-    ∙ list_all-append test (range_with_len 0 i) (i ∷ []) ∙ ap (λ b. list_all test (range_with_len 0 i) && b) (and_true (test i))
+allow_first_more rows c i = all_first_more (λ k. all_allow rows k (get_or c k 0)) i
 
 -- a row of a label below a count, or of no label
 abbrev pub IsRowBelow : ℕ → TruthRow → Type 0

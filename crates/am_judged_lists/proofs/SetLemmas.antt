@@ -1,37 +1,67 @@
 -- Sets of lists, bit by bit.
-use Rattle.std.proofs.Common.{◌≡◌, ◌≢◌, ℕ, ◌-◌, ◌*◌, ◌%◌, ◌^◌, ◌<◌, ◌≤◌, min, Bool, true, false, nat_eq, bit_and, bit_or, ap, sym, ◌∙◌, inl, inr, arith}
+use Rattle.std.proofs.Common.{◌≡◌, ℕ, ◌-◌, ◌*◌, ◌/◌, ◌%◌, ◌^◌, ◌<◌, ◌≤◌, min, Bool, true, false, not, ◌&&◌, ◌||◌, nat_eq, bit_and, bit_or, ap, sym, ◌∙◌, inl, inr, arith}
 use Rattle.std.specs.Int.{bit_at, bit_not, trailing_zeros}
-use Rattle.std.proofs.lemmas.Bool.{cases_eq, cases_lt, eqb-true}
-use Rattle.std.proofs.lemmas.Nat.Bits.{bit_at-zero, bit_at-lt, bit_at_and, bit_at_set_same, bit_at_set_other, bit_at_clear_other, ones_shl, bit_at_mask_inside, bit_at_mask_below, bit_at-trailing_zeros}
+use Rattle.std.proofs.Math.Bool.{or-false}
+use Rattle.std.proofs.lemmas.Bool.{cases_eq, cases_lt, eq-eqb, ne_eqb, or_right, and_right}
+use Rattle.std.proofs.lemmas.Bool.Decides.{nat_tests}
+use Rattle.std.proofs.lemmas.Nat.Bits.{bit_at-zero, bit_at-lt, bit_at_and, bit_at_not, bit_at_ones, bit_at_set_same, bit_at_set_other, bit_at_clear_same, bit_at_clear_other, shr_and_one, ones_shl, bit_at_mask_inside, bit_at_mask_below, bit_at-trailing_zeros}
 use Rattle.std.proofs.lemmas.Nat.{and_le_r}
 use mir.Syntax.{w128}
 use Rattle.am_judged_lists.specs.declared.list_set.TheConstants.{ROOM}
+use Rattle.am_judged_lists.proofs.ListLemmas.{and_true}
+use Rattle.am_judged_lists.proofs.WordLemmas.{set_and}
 
 -- the list at an index is in the set of these bits
 abbrev pub is_in : ℕ → ℕ → Bool
 is_in bits k = nat_eq (bit_at bits k) 1
 
--- ---- One more list, or one less, and the lists of two sets.
+-- ---- All lists, one more, or one less, and the lists of two sets.
 
-abbrev pub with_bit : ℕ → ℕ → ℕ
-with_bit bits k = bit_or bits (1 * 2 ^ k % 2 ^ ROOM)
+pub in_all : (k : ℕ) → k < ROOM → is_in (2 ^ ROOM - 1) k ≡ true
+in_all k h = ap (λ b. nat_eq b 1) (bit_at_ones ROOM k h)
 
-pub inserted : (bits k : ℕ) → k < ROOM → is_in (with_bit bits k) k ≡ true
-inserted bits k h = ap (λ b. nat_eq b 1) (bit_at_set_same w128 bits k h)
+pub is_there : (bits k : ℕ) → nat_eq (bit_and (bits / 2 ^ k) 1) 1 ≡ is_in bits k
+is_there bits k = ap (λ b. nat_eq b 1) (shr_and_one bits k)
 
-pub kept_in : (bits k i : ℕ) → k < ROOM → is_in bits i ≡ true → is_in (with_bit bits k) i ≡ true
-kept_in bits k i h e = elim (cases_eq i k) [
-  | inl same ↦ ap (λ j. is_in (with_bit bits k) j) same ∙ inserted bits k h
-  | inr other ↦ ap (λ b. nat_eq b 1) (bit_at_set_other w128 bits k h i other) ∙ e
+pub inserted : (bits k i : ℕ) → k < ROOM → is_in (bit_or bits (1 * 2 ^ k % 2 ^ ROOM)) i ≡ (is_in bits i || (nat_eq i k && true))
+inserted bits k i h = elim (cases_eq i k) [
+  | inl same ↦
+      ap (λ j. is_in (bit_or bits (1 * 2 ^ k % 2 ^ ROOM)) j) same ∙ ap (λ b. nat_eq b 1) (bit_at_set_same w128 bits k h)
+      ∙ sym (or_right (is_in bits i) (nat_eq i k && true) (ap (λ b. b && true) (eq-eqb i k same)))
+  | inr other ↦
+      ap (λ b. nat_eq b 1) (bit_at_set_other w128 bits k h i other) ∙ sym (or-false (is_in bits i))
+      ∙ ap (λ b. is_in bits i || (b && true)) (sym (ne_eqb i k other))
 ]
 
-pub still_in : (bits k i : ℕ) → k < ROOM → i < ROOM → i ≢ k → is_in bits i ≡ true → is_in (bit_and bits (bit_not w128 (1 * 2 ^ k % 2 ^ ROOM))) i ≡ true
-still_in bits k i h within other e = ap (λ b. nat_eq b 1) (bit_at_clear_other w128 bits k h i within other) ∙ e
+pub removed : (bits k i : ℕ) → k < ROOM → i < ROOM
+    → is_in (bit_and bits (bit_not w128 (1 * 2 ^ k % 2 ^ ROOM))) i ≡ (is_in bits i && (not (nat_eq i k) || false))
+removed bits k i h within = elim (cases_eq i k) [
+  | inl same ↦
+      ap (λ j. is_in (bit_and bits (bit_not w128 (1 * 2 ^ k % 2 ^ ROOM))) j) same
+      ∙ ap (λ b. nat_eq b 1) (bit_at_clear_same w128 bits k h)
+      ∙ sym (and_right (is_in bits i) (not (nat_eq i k) || false) (ap (λ b. not b || false) (eq-eqb i k same)))
+  | inr other ↦
+      ap (λ b. nat_eq b 1) (bit_at_clear_other w128 bits k h i within other) ∙ sym (and_true (is_in bits i))
+      ∙ ap (λ b. is_in bits i && (not b || false)) (sym (ne_eqb i k other))
+]
 
-pub in_both : (a b i : ℕ) → is_in a i ≡ true → is_in b i ≡ true → is_in (bit_and a b) i ≡ true
-in_both a b i e f =
-    ap (λ n. nat_eq n 1)
-    (bit_at_and a b i ∙ ap (λ n. min n (bit_at b i)) (eqb-true (bit_at a i) 1 e) ∙ ap (min 1) (eqb-true (bit_at b i) 1 f))
+pub in_first : (a b i : ℕ) → b < 2 ^ ROOM → i < ROOM → is_in (bit_and a (bit_not w128 b)) i ≡ (is_in a i && not (is_in b i))
+in_first a b i fits h =
+    set_and a (bit_not w128 b) i
+    ∙ ap (λ c. is_in a i && c) (ap (λ n. nat_eq n 1) (bit_at_not w128 b i fits h) ∙ flipped (bit_at b i) (bit_at-lt b i))
+  where
+    flipped : (x : ℕ) → x < 2 → nat_eq (1 - x) 1 ≡ not (nat_eq x 1)
+    flipped x h = grind (arith, nat_tests, h)
+
+-- a number without bits is 0
+pub no_bits : (bits : ℕ) → bits < 2 ^ ROOM → ((k : ℕ) → k < ROOM → is_in bits k ≡ false) → bits ≡ 0
+no_bits bits fits none = elim (cases_eq bits 0) [
+  | inl same ↦ same
+  | inr some ↦
+      let lowest = bit_at-trailing_zeros w128 bits (omega (arith, some)) fits in
+      let apart : true ≡ false =
+      sym (ap (λ n. nat_eq n 1) lowest.1) ∙ none (trailing_zeros w128 bits) lowest.0 in cc
+]
 
 -- ---- The first list from a place on.
 
@@ -65,6 +95,7 @@ none_from bits from k e h low high =
 pub record IsFirst (bits start place : ℕ) : Type 0 where
   pub from : start ≤ place
   pub within : place < ROOM
+  pub found : is_in bits place ≡ true
   pub before : (k : ℕ) → start ≤ k → k < place → is_in bits k ≡ false
 
 pub first : (bits from : ℕ) → from < ROOM → (from_place bits from ≡ 0 → ⊥) → IsFirst bits from (trailing_zeros w128 (from_place bits from))
@@ -73,11 +104,13 @@ first bits from h some =
     let fits : from_place bits from < 2 ^ ROOM = omega (arith, and_le_r bits ones) in
     let place = trailing_zeros w128 (from_place bits from) in
     let lowest = bit_at-trailing_zeros w128 (from_place bits from) (omega (arith, some)) fits in
+    let past : from ≤ place = elim (cases_lt place from) [
+      | inl below ↦ absurd (omega (arith, lowest.1, none_below bits from place h below))
+      | inr past ↦ past
+    ] in
     record {
-      from = elim (cases_lt place from) [
-        | inl below ↦ absurd (omega (arith, lowest.1, none_below bits from place h below))
-        | inr past ↦ past
-      ];
+      from = past;
       within = lowest.0;
+      found = ap (λ n. nat_eq n 1) (sym (same_from bits from place h past lowest.0) ∙ lowest.1);
       before = λ k low high. ap (λ n. nat_eq n 1) (sym (same_from bits from k h low (omega (arith, high, lowest.0))) ∙ lowest.2 k high);
     }

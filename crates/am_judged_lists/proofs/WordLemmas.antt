@@ -22,7 +22,7 @@ both_ones : (x y : ℕ) → x < 2 → y < 2 → nat_eq (min x y) 1 ≡ (nat_eq x
 both_ones x y h g = grind (arith, nat_tests, h, g)
 
 -- `a & b` has the bits that both have
-set_and : (a b k : ℕ) → is_set (bit_and a b) k ≡ (is_set a k && is_set b k)
+pub set_and : (a b k : ℕ) → is_set (bit_and a b) k ≡ (is_set a k && is_set b k)
 set_and a b k = ap (λ n. nat_eq n 1) (bit_at_and a b k) ∙ both_ones (bit_at a k) (bit_at b k) (bit_at-lt a k) (bit_at-lt b k)
 
 -- `!b` has the bits that `b` does not have

@@ -7,6 +7,7 @@ pub mod Boxes
 pub mod Pairs
 pub mod Certainty
 pub mod ListSetView
-pub mod BlockView
 pub mod Places
+pub mod CubeSetView
+pub mod BlockView
 pub mod TableView

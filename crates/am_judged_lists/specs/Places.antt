@@ -1,5 +1,14 @@
--- The first index at which a test passes.
-use Rattle.std.specs.Prelude.{◌≡◌, ℕ, ◌<◌, ◌≤◌, List, length, slice_get, Some, Bool, false, IsTrue}
+-- Tests of the elements of a list by their indices.
+use Rattle.std.specs.Prelude.{◌≡◌, ℕ, ◌<◌, ◌≤◌, List, length, slice_get, Option, Some, None, Bool}
+use Rattle.std.specs.Prelude.{false, IsTrue}
+
+-- The element at an index passes the test. If there is no such element, the result is `false`.
+abbrev pub passes_if_there : {X : Type 0} → (X → Bool) → Option X → Bool
+passes_if_there test None = false
+passes_if_there test (Some x) = test x
+
+abbrev pub is_at : {X : Type 0} → (X → Bool) → List X → ℕ → Bool
+is_at test xs i = passes_if_there test (slice_get xs i)
 
 -- The test passes at no index that is at least `from` and below `to`.
 abbrev pub NoneBetween : {X : Type 0} → (X → Bool) → List X → ℕ → ℕ → Type 0

@@ -1,7 +1,7 @@
 ghost use Rattle.std.specs.Prelude.{◌≡◌, ◌<◌, ◌≤◌, ℕ, List, map, false, not, IfOk, IfErr, OnOk};
 ghost use Rattle.std.specs.Prelude.{OnErr, slice_index_or, IfSome, IfNone, IsTrue, length, ◌*◌, []};
-ghost use Rattle.std.specs.Prelude.{◌++◌};
-ghost use Rattle.std.specs.List.{list_any, AllByRecursion};
+ghost use Rattle.std.specs.Prelude.{◌++◌, ◌==◌};
+ghost use Rattle.std.specs.List.{list_all, list_any, AllByRecursion};
 ghost use Rattle.am_labels.specs.Matcher.{Matcher};
 ghost use Rattle.am_labels.specs.Row.{row_of};
 ghost use Rattle.am_judged_lists.specs.Rows.{is_never_true, is_any_of};
@@ -244,9 +244,11 @@ impl Cube {
         self.masks.len()
     }
 
-    /// Whether a label has a mask.
-    pub(crate) fn has_mask_of(&self, label: usize) -> bool {
-        self.masks.iter().any(|m| m.label == label)
+    /// Whether a label has no mask.
+    pub(crate) fn is_free(&self, label: usize) -> bool
+        ensures free { result ≡ list_all (λ m. not (m.label == label)) self.now.masks }
+    {
+        self.masks.iter().all(|m| m.label != label)
     }
 
     /// The verdict of the list at a prefix: whether the label sets of its completions match the

@@ -31,11 +31,13 @@ mod certainty;
 
 // Many lists at once.
 mod block;
+mod cube_set;
 mod list_set;
 mod table;
 
 pub use certainty::Certainty;
 pub use cube::Cube;
+pub use cube_set::{CubeSet, MAX_CUBES};
 pub use impossible::impossible_cubes;
 pub use mask::Part;
 pub use pairs::Side;

@@ -1,28 +1,30 @@
 //! Cubes that are asked together.
 //!
-//! The silences and the pairs of a world, and the impossible lists of a space, are many lists. A
-//! judge asks whether any of them passes.
+//! The routes, the silences and the pairs of a world, and the impossible lists of a space, are many
+//! lists. A judge asks which of them pass, or whether any does.
 //!
 //! The cubes are kept in blocks of up to 128. For each position of a label that has a mask, a block
-//! has the set of its cubes that permit the position, as the bits of one number. A cube that may
-//! pass at a prefix is in the sets of all its positions. From the first such cube on, each cube is
-//! then asked itself, so the answer of a table is exact. A set may hold a cube that does not pass,
-//! but it never lacks one that does. No more is proved of the sets.
+//! has the set of its cubes that permit the position, as the bits of one number. A cube passes at a
+//! prefix if it is in the sets of all its positions, and in the set of those that can pass at a
+//! prefix of this length.
 //!
 //! A table goes through each prefix anew, and keeps nothing of the prefix before it. To remember
 //! something, a judge would have to change when it is asked, and `judge` takes it unchanged.
 
-ghost use Rattle.std.specs.Prelude.{◌≡◌, ℕ, ◌<◌, ◌≤◌, ◌*◌, ◌+◌, length, IfOk, IfSome, IfNone};
+ghost use Rattle.std.specs.Prelude.{◌≡◌, ℕ, ◌<◌, ◌*◌, length, IfOk, IfSome, IfNone};
 ghost use Rattle.std.specs.List.{list_any};
 ghost use Rattle.am_judged_lists.specs.Cube.{verdict_at};
 ghost use Rattle.am_judged_lists.specs.Certainty.{passes};
-ghost use Rattle.am_judged_lists.specs.Places.{IsNext, NoneBetween};
-ghost use Rattle.am_judged_lists.specs.TableView.{IsBlockFrom, AreBlocksOf};
+ghost use Rattle.am_judged_lists.specs.CubeSetView.{contains};
+ghost use Rattle.am_judged_lists.specs.BlockView.{IsSetOf};
+ghost use Rattle.am_judged_lists.specs.Places.{is_at, IsNext, NoneBetween};
+ghost use Rattle.am_judged_lists.specs.TableView.{part_at, AreBlocksOf};
 
 use crate::block::Block;
 use crate::certainty::Certainty;
 use crate::cube::Cube;
-use crate::list_set::ROOM;
+use crate::cube_set::{CubeSet, MAX_CUBES, PARTS};
+use crate::list_set::{ListSet, ROOM};
 use am_universe::{Choice, Universe};
 use std::alloc::{AllocError, Global};
 use std::marker::Model;
@@ -64,19 +66,11 @@ impl Table {
             (λ cube. passes certainty (verdict_at cube prefix.now)) self.now from
             (length self.now)) }
     {
-        for block in from / ROOM..self.blocks.len() {
-            let first = block * ROOM;
-            let from = from.max(first);
-            let next = next_in(
-                &self.cubes,
-                &self.blocks[block],
-                first,
-                certainty,
-                prefix,
-                from,
-            );
-            if next.is_some() {
-                return next;
+        for i in from / ROOM..self.blocks.len() {
+            let first = i * ROOM;
+            let set = self.blocks[i].passing(part_at(&self.cubes, i), certainty, prefix);
+            if let Some(place) = set.first_from(from.max(first) - first) {
+                return Some(first + place);
             }
         }
         None
@@ -89,37 +83,29 @@ impl Table {
     {
         self.next(certainty, prefix, 0).is_some()
     }
+
+    /// Which of the first [`MAX_CUBES`] cubes have verdicts that pass at a prefix. Takes no memory.
+    pub fn passing(&self, certainty: Certainty, prefix: &Choice) -> CubeSet
+        ensures passing { (k : ℕ) → k < MAX_CUBES → contains result k
+            ≡ is_at (λ cube. passes certainty (verdict_at cube prefix.now)) self.now k }
+    {
+        let mut set = CubeSet::none();
+        for i in 0..PARTS.min(self.blocks.len()) {
+            let cubes = part_at(&self.cubes, i);
+            set.put(i, self.blocks[i].passing(cubes, certainty, prefix));
+        }
+        set
+    }
 }
 
-/// Does what `Table::next` does, for the cubes of one block. The first cube of the block is at the
-/// index `first`.
-fn next_in(
-    cubes: &[Cube],
-    block: &Block,
-    first: usize,
-    certainty: Certainty,
-    prefix: &Choice,
-    from: usize,
-) -> Option<usize>
-    requires block { IsBlockFrom cubes.now first block.now }
-    requires first { first < length cubes.now }
-    requires from { (first ≤ from) × (from < first + ROOM) }
-    ensures some { IfSome result (λ i.
-        IsNext (λ cube. passes certainty (verdict_at cube prefix.now)) cubes.now from i) }
-    ensures none { IfNone result (NoneBetween
-        (λ cube. passes certainty (verdict_at cube prefix.now)) cubes.now from (first + ROOM)) }
+/// The cubes of the block at the index `i`.
+fn part_at(cubes: &[Cube], i: usize) -> &[Cube]
+    requires { i * ROOM < length cubes.now }
+    ensures { result.now ≡ part_at cubes.now i }
 {
-    let candidates = block.candidates(certainty, prefix);
-    let Some(place) = candidates.first_from(from - first) else {
-        return None;
-    };
+    let first = i * ROOM;
     let end = cubes.len().min(first + ROOM);
-    for i in first + place..end {
-        if certainty.holds(&cubes[i], prefix) {
-            return Some(i);
-        }
-    }
-    None
+    &cubes[first..end]
 }
 
 /// The blocks of some cubes, in order. Fails only if memory runs out.
@@ -127,11 +113,8 @@ fn blocks_of(alloc: Global, universe: &Universe, cubes: &[Cube]) -> Result<Vec<B
     ensures blocks { IfOk result (λ blocks. AreBlocksOf cubes.now blocks.items) }
 {
     let mut blocks = Vec::new(alloc);
-    let count = cubes.len().div_ceil(ROOM);
-    for block in 0..count {
-        let first = block * ROOM;
-        let end = cubes.len().min(first + ROOM);
-        blocks.push(Block::of(alloc, universe, &cubes[first..end])?)?;
+    for i in 0..cubes.len().div_ceil(ROOM) {
+        blocks.push(Block::of(alloc, universe, part_at(cubes, i))?)?;
     }
     Ok(blocks)
 }

@@ -1,24 +1,22 @@
-use Rattle.std.proofs.Common.{◌≡◌, ◌+◌, ◌*◌, ◌-◌, ◌∷◌, [], length, slice_get, Some, ap, ◌∙◌, subst, arith}
-use Rattle.std.proofs.lemmas.List.{length-append}
-use Rattle.std.proofs.lemmas.Option.{slice_get_within}
+use Rattle.std.proofs.Common.{rules, List, drop, ◌*◌, length, ap, sym, subst, ◌∙◌, length-take, arith}
 use Rattle.am_judged_lists.specs.declared.list_set.TheConstants.{ROOM}
-use Rattle.am_judged_lists.specs.TableView.{IsBlockFrom}
+use Rattle.am_judged_lists.specs.Cube.{MaskedLabels}
+use Rattle.am_judged_lists.specs.BlockView.{IsBlockOf}
+use Rattle.am_judged_lists.specs.TableView.{part_at}
 use Rattle.am_judged_lists.proofs.BlockLemmas.{each_place_pushed}
-use Rattle.am_judged_lists.proofs.TableLemmas.{in_part}
 use Rattle.am_judged_lists.proofs.table.blocks_of.Goals as goal
 
-pub loop-block-preserved : goal.loop-block-preserved
-loop-block-preserved c =
-    let cubes = c.args.cubes.now in
-    let blocks = c.loop-block.blocks.items in
-    let so_far = c.loop-block.invariant in (
-      ap length c.in_ok-push.ensures.items ∙ length-append blocks (c.in_ok-of.field-0 ∷ []) ∙ ap (λ n. n + 1) so_far.0,
-      rw c.in_ok-push.ensures.items
-          (each_place_pushed (λ i block. IsBlockFrom cubes (i * ROOM) block) blocks c.in_ok-of.field-0 so_far.1
-          (λ k cube room at.
-          let first = c.loop-block.block * ROOM in
-          let here = subst (λ n. slice_get cubes (n * ROOM + k) ≡ Some cube) so_far.0 at in
-          c.in_ok-of.ensures k cube
-          (in_part cubes first (c.min-end.result - first) k cube
-          (omega (arith, room, c.min-end.ensures, slice_get_within cubes (first + k) cube here)) here))),
-    )
+pub of-requires : goal.of-requires
+of-requires c =
+    omega (arith, ap length c.part_at.ensures, length-take ROOM (drop (c.loop-i.i * ROOM) c.args.cubes.now))
+
+pub loop-i-preserved : goal.loop-i-preserved
+loop-i-preserved c =
+    let blocks = c.loop-i.blocks.items in
+    record {
+      count = search rules;
+      each = rw c.in_ok-push.ensures.items
+          (each_place_pushed (λ i block. IsBlockOf (part_at c.args.cubes.now i) block) blocks c.in_ok-of.field-0 c.loop-i.invariant.each
+          (subst (λ (xs : List MaskedLabels). IsBlockOf xs c.in_ok-of.field-0)
+          (c.part_at.ensures ∙ ap (part_at c.args.cubes.now) (sym c.loop-i.invariant.count)) c.in_ok-of.ensures));
+    }

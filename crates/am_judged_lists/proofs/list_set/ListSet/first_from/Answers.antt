@@ -9,6 +9,10 @@ returns-clause-some c =
     let f = first c.args.self.bits c.args.from c.requires c.if-bits-eq0.false in
     (f.from, f.within)
 
+pub returns-clause-found : goal.returns-clause-found
+returns-clause-found c =
+    (first c.args.self.bits c.args.from c.requires c.if-bits-eq0.false).found
+
 pub returns-clause-before : goal.returns-clause-before
 returns-clause-before c =
     (first c.args.self.bits c.args.from c.requires c.if-bits-eq0.false).before
