@@ -3,8 +3,9 @@ pub mod ListTests
 pub mod Soundness
 pub mod SpaceExample
 pub mod OneList
-pub mod WalkLemmas
+pub mod WayLemmas
 pub mod RouteMade
+pub mod RoutesAsked
 pub mod QuestionSteps
 pub mod PairSteps
 pub mod SilenceSteps

@@ -1,6 +1,6 @@
 pub mod Verdicts
-pub mod RouteSeen
-pub mod RoutesByCubes
+pub mod RouteGroups
+pub mod RoutesByWays
 pub mod PairsByLists
 pub mod WorldByLists
 pub mod QuestionByLists

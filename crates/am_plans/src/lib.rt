@@ -9,7 +9,8 @@
 
 // The lists of a world.
 mod pair_lists;
-mod route_walk;
+mod route_groups;
+mod route_lists;
 mod world_lists;
 
 // The lists of a question.

@@ -14,10 +14,10 @@
 //! The verdict of each impossible list is joined to that of the question by `and` and `not`. So
 //! `any` is `Open` until it is known whether the label set is possible.
 //!
-//! Only definitions have conditions. The code walks the tree of routes, child by child, and a lemma
-//! says that the result is the same. The walk never computes a verdict of three values. It answers
-//! one of two questions about it: `May`, whether it is not `No`, and `Must`, whether it is `Yes`.
-//! `judge` asks both.
+//! The code never computes a verdict of three values. It answers one of two questions about it:
+//! `May`, whether it is not `No`, and `Must`, whether it is `Yes`. `judge` asks both. The
+//! conditions of the routes are in sets of routes, and a table says at once which of their lists
+//! pass. So what is asked about routes is found once at each prefix, however long the question is.
 //!
 //! The promises of the commands rest on the clause `truth` of `new`. Which prefixes are judged
 //! rests on `verdict`. A law says what a verdict means
@@ -31,10 +31,15 @@ ghost use Rattle.am_universe.specs.Choice.{admits, IsWhole};
 ghost use Rattle.am_eval.specs.Question.{is_answer};
 ghost use Rattle.am_eval.specs.QuestionView.{question_view};
 ghost use Rattle.am_plans.specs.Verdicts.{verdict_of};
+ghost use Rattle.am_config.specs.ConfigView.{config_view};
 ghost use Rattle.am_plans.specs.PlanView.{is_answer_by, IsJudgeIn};
+ghost use Rattle.am_plans.specs.RouteGroups.{AreRoutesOf};
+ghost use Rattle.am_plans.specs.WorldByLists.{IsSeen};
 
 use crate::question_lists::QuestionLists;
+use crate::route_lists::RoutesSeen;
 use crate::world_lists::WorldLists;
+use am_config::{Config, RouteList};
 use am_eval::{Question, World};
 use am_judged_lists::{Certainty, Table, impossible_cubes};
 use am_labels::Space;
@@ -52,7 +57,7 @@ use std::alloc::{AllocError, Global};
 pub struct Plan<'a> {
     space: &'a Space,
     world: WorldLists,
-    question: QuestionLists<'a>,
+    question: QuestionLists,
     impossible: Table,
     ghost judges: { IsJudgeIn space.now.labels world question impossible } by { Prim.hlevel props },
 }
@@ -82,8 +87,9 @@ impl<'a> Plan<'a> {
         let universe = space.universe();
         // The contract of `len` tells the proof that the sizes are sizes that a judge may have.
         prove!(universe.len() <= MAX_LABELS);
-        let world = WorldLists::of(alloc, universe, world, question)?;
-        let question = QuestionLists::of(alloc, universe, question)?;
+        let routes = routes_of(alloc, world.config())?;
+        let world = WorldLists::of(alloc, universe, world, &routes, question)?;
+        let question = QuestionLists::of(alloc, universe, &routes, question)?;
         let impossible = Table::of(alloc, universe, impossible_cubes(alloc, space)?)?;
         Ok(Plan {
             space,
@@ -94,14 +100,24 @@ impl<'a> Plan<'a> {
     }
 
     /// Whether, at a prefix, it is not excluded (`May`) or is certain (`Must`) that the choice is
-    /// an answer.
-    fn is_answer(&self, certainty: Certainty, prefix: &Choice) -> bool
+    /// an answer. `routes` are the routes that its label set reaches there.
+    fn is_answer(&self, routes: &Option<RoutesSeen>, certainty: Certainty, prefix: &Choice) -> bool
+        requires { IsSeen prefix.now self.now.world routes.now }
         ensures { result ≡ is_answer_by self.now.world self.now.question self.now.impossible
             prefix.now certainty }
     {
-        self.question.holds(&self.world, certainty, prefix)
+        self.question.holds(&self.world, routes, certainty, prefix)
             && !self.impossible.any(certainty.other(), prefix)
     }
+}
+
+/// All routes of a configuration. Fails only if memory runs out.
+fn routes_of(alloc: Global, config: &Config) -> Result<RouteList<'_>, AllocError>
+    ensures routes { IfOk result (AreRoutesOf (config_view config.now)) }
+{
+    // The contract of `root` tells the proof how many routes there are at most.
+    let _root = config.root();
+    config.routes(alloc)
 }
 
 impl<'a> Judge for Plan<'a> {
@@ -124,11 +140,12 @@ impl<'a> Judge for Plan<'a> {
     }
 
     fn judge(&self, prefix: &Choice) -> Verdict {
-        if !self.is_answer(Certainty::May, prefix) {
+        let routes = self.world.see(prefix);
+        if !self.is_answer(&routes, Certainty::May, prefix) {
             return Verdict::No;
         }
         // A whole choice is never `Open`.
-        if prefix.len() == self.labels() || self.is_answer(Certainty::Must, prefix) {
+        if prefix.len() == self.labels() || self.is_answer(&routes, Certainty::Must, prefix) {
             return Verdict::Yes;
         }
         Verdict::Open

@@ -7,19 +7,21 @@ ghost use Rattle.am_universe.specs.Universe.{sizes};
 ghost use Rattle.am_eval.specs.declared.property.Property.TheVariants.{Silenced, Inhibited};
 ghost use Rattle.am_eval.specs.Question.{Is};
 ghost use Rattle.am_eval.specs.QuestionView.{question_view};
+ghost use Rattle.am_eval.specs.World.{World};
 ghost use Rattle.am_judged_lists.specs.Cube.{verdict_at};
 ghost use Rattle.am_judged_lists.specs.declared.certainty.Certainty.{Certainty};
 ghost use Rattle.am_judged_lists.specs.Certainty.{passes};
 ghost use Rattle.am_plans.specs.PairsByLists.{inhibited_by};
-ghost use Rattle.am_plans.specs.RoutesByCubes.{reaches_in, goes_in};
+ghost use Rattle.am_plans.specs.RouteGroups.{AreRoutesOf};
+ghost use Rattle.am_plans.specs.RoutesByWays.{reaches_in};
 ghost use Rattle.am_plans.specs.Verdicts.{verdict_of_simple};
 ghost use Rattle.am_plans.specs.WorldByLists.{world_seen, has_seen, needs_of, AreRoutes};
-ghost use Rattle.am_plans.specs.WorldByLists.{IsProperty, Serves, if_there};
+ghost use Rattle.am_plans.specs.WorldByLists.{IsProperty, Serves, IsSeen, if_there};
 
 use crate::pair_lists::PairLists;
-use crate::route_walk;
-use am_eval::{Property, Question, Reach, World};
-use am_first_sets::RouteCubes;
+use crate::route_lists::{RouteLists, RoutesSeen};
+use am_config::RouteList;
+use am_eval::{Property, Question, World};
 use am_judged_lists::{Certainty, Cube, Table};
 use am_universe::{Choice, Universe};
 use std::alloc::{AllocError, Global};
@@ -57,65 +59,45 @@ fn needs(question: &Question, need: Need) -> bool
 /// asks about them.
 #[derive(Drop)]
 pub(crate) struct WorldLists {
-    routes: Option<RouteCubes>,
+    routes: Option<RouteLists>,
     silences: Option<Table>,
     pairs: Option<PairLists>,
 }
 
 impl WorldLists {
-    /// Makes the lists of a world that a question asks about. Fails only if memory runs out.
+    /// Makes the lists of a world, which has these routes, so far as a question asks about them.
+    /// Fails only if memory runs out.
     pub(crate) fn of(
         alloc: Global,
         universe: &Universe,
         world: &World,
+        routes: &RouteList<'_>,
         question: &Question,
     ) -> Result<WorldLists, AllocError>
+        requires { AreRoutesOf world.now.config routes.now }
         ensures serves { IfOk result (λ lists. (prefix : List ℕ)
             → IsTrue (admits (sizes universe.now) prefix) → Serves universe.now world.now prefix
             (world_seen prefix lists) (question_view question.now)) }
     {
         Ok(WorldLists {
-            routes: routes_if(alloc, universe, world, needs(question, Need::Routes))?,
+            routes: routes_if(alloc, universe, routes, needs(question, Need::Routes))?,
             silences: silences_if(alloc, universe, world, needs(question, Need::Silences))?,
             pairs: pairs_if(alloc, universe, world, needs(question, Need::Pairs))?,
         })
     }
 
-    /// Whether, at a prefix, it is not excluded (`May`) or is certain (`Must`) that a label set
-    /// goes to a receiver.
-    pub(crate) fn goes_to(&self, certainty: Certainty, receiver: usize, prefix: &Choice) -> bool
-        ensures goes { result ≡ (world_seen prefix.now self.now).goes_to certainty receiver }
+    /// Finds the routes that a label set reaches at a prefix, if there are lists of them.
+    pub(crate) fn see(&self, prefix: &Choice) -> Option<RoutesSeen>
+        ensures { IsSeen prefix.now self.now result }
     {
         match &self.routes {
-            Some(routes) => {
-                certainty.holds(&routes.cube, prefix)
-                    && route_walk::goes_to(routes, certainty, receiver, prefix)
-            }
-            None => false,
+            Some(routes) => Some(routes.see(prefix)),
+            None => None,
         }
     }
 
-    /// Whether a label set reaches the route at a path, in the same way.
-    pub(crate) fn reaches(
-        &self,
-        certainty: Certainty,
-        reach: Reach,
-        path: &[u16],
-        prefix: &Choice,
-    ) -> bool
-        ensures reaches { result
-            ≡ (world_seen prefix.now self.now).reaches certainty reach path.now }
-    {
-        match &self.routes {
-            Some(routes) => {
-                certainty.holds(&routes.cube, prefix)
-                    && route_walk::reaches(routes, certainty, reach, path, prefix)
-            }
-            None => false,
-        }
-    }
-
-    /// Whether a label set has a property, in the same way.
+    /// Whether, at a prefix, it is not excluded (`May`) or is certain (`Must`) that a label set has
+    /// a property.
     pub(crate) fn has(&self, certainty: Certainty, property: Property, prefix: &Choice) -> bool
         ensures has { result
             ≡ has_seen (world_seen prefix.now self.now) certainty property }
@@ -134,22 +116,21 @@ impl WorldLists {
     }
 }
 
-/// The lists of the routes of a world, if they are needed.
+/// The lists of these routes, if they are needed.
 fn routes_if(
     alloc: Global,
     universe: &Universe,
-    world: &World,
+    routes: &RouteList<'_>,
     needed: bool,
-) -> Result<Option<RouteCubes>, AllocError>
-    ensures routes { IfOk result (λ found. IsTrue needed → (prefix : List ℕ)
-        → IsTrue (admits (sizes universe.now) prefix)
-        → AreRoutes universe.now world.now prefix (reaches_in prefix found)
-        (goes_in prefix found)) }
+) -> Result<Option<RouteLists>, AllocError>
+    ensures routes { IfOk result (λ found. IsTrue needed → (w : World) (prefix : List ℕ)
+        → AreRoutesOf w.config routes.now → IsTrue (admits (sizes universe.now) prefix)
+        → AreRoutes universe.now w prefix (reaches_in prefix found)) }
 {
     if !needed {
         return Ok(None);
     }
-    Ok(Some(RouteCubes::of(alloc, universe, world.config().root())?))
+    Ok(Some(RouteLists::of(alloc, universe, routes)?))
 }
 
 /// The lists of the active silences of a world, if they are needed.

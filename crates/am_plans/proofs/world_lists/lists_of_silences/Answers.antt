@@ -8,7 +8,7 @@ use Rattle.am_judged_lists.specs.Cube.{verdict_at}
 use Rattle.am_judged_lists.specs.Verdicts.{verdict_of_list}
 use Rattle.am_plans.proofs.SilenceSteps.{hides, silences_truth}
 use Rattle.am_plans.proofs.ListTests.{any_more}
-use Rattle.am_first_sets.proofs.CubeEnds.{or_false}
+use Rattle.std.proofs.Math.Bool.{or-false}
 use Rattle.am_plans.proofs.world_lists.lists_of_silences.Goals as goal
 use Rattle.am_plans.proofs.world_lists.lists_of_silences.Goals.{then-active+in_ok-list+in_ok-add_list, else-active}
 
@@ -35,7 +35,7 @@ loop-i-preserved c = λ prefix m admitted.
                 ∙ (λ j. so_far || (sym active j && passes m (exact j))))
             | else-active w ↦
                 let idle = sym (c.active.ensures.active at.0 at.2) ∙ w.if-active.false in
-                one (rw w.lists-is (sym (or_false so_far))
+                one (rw w.lists-is (sym (or-false so_far))
                 ∙ ap (λ b. so_far || (b && passes m (verdict_of_list u at.0.matchers prefix)))
                 (sym idle))
           ]

@@ -3,7 +3,9 @@ use Rattle.am_universe.specs.Universe.{Label, sizes}
 use Rattle.am_search.specs.Judge.{AreSizes}
 use Rattle.am_search.proofs.TokenTexts.{sizes_of_universe}
 use Rattle.am_judged_lists.specs.Cube.{verdict_at}
+use Rattle.am_config.specs.ConfigFile.{Configuration}
 use Rattle.am_eval.specs.QuestionView.{question_view}
+use Rattle.am_plans.specs.RouteGroups.{AreRoutesOf}
 use Rattle.am_plans.specs.WorldByLists.{world_seen}
 use Rattle.am_plans.proofs.PlanJudges.{IsQuestionOver, AreImpossible, verdict_is, truth_is, is_judge}
 use Rattle.am_plans.proofs.plan.Plan.new.Goals as goal
@@ -17,8 +19,9 @@ exact c =
     subst (λ (u : List Label). IsQuestionOver u w (question_view c.args.question.now) world
     c.in_ok-question.question) c.universe-universe.ensures.labels
     (λ prefix m admitted.
-    c.in_ok-question.ensures.exact w prefix (world_seen prefix world) m admitted
-    (c.in_ok-world.ensures.serves prefix admitted))
+    c.in_ok-question.ensures.exact w prefix (world_seen prefix world) m
+    (subst (λ (config : Configuration). AreRoutesOf config c.in_ok-routes.routes) c.config.ensures.config c.in_ok-routes.ensures.routes)
+    admitted (c.in_ok-world.ensures.serves prefix admitted))
 
 cubes : (c : In_ok-impossible) → AreImpossible c.args.space.now c.in_ok-impossible.impossible
 cubes c prefix admitted =

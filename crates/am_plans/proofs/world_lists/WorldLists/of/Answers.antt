@@ -22,7 +22,7 @@ returns c = record {
       }) in
       each_need (λ need. IsTrue (needs_of need q)
       → IsServed c.args.universe.now c.args.world.now prefix seen need)
-      (λ asks. c.in_ok-routes_if.ensures.routes (c.needs.ensures ∙ asks) prefix knows)
+      (λ asks. c.in_ok-routes_if.ensures.routes (c.needs.ensures ∙ asks) c.args.world.now prefix c.requires knows)
       (λ asks. c.in_ok-silences_if.ensures.silences (c.needs-2.ensures ∙ asks) prefix knows)
       (λ asks. c.in_ok-pairs_if.ensures.pairs (c.needs-3.ensures ∙ asks) prefix knows);
 }
