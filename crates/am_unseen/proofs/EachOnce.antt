@@ -7,9 +7,10 @@ use Rattle.std.proofs.lemmas.Grind.{common_steps}
 use Rattle.std.specs.Cmp.Lexicographic.{bytes_decides}
 use Rattle.am_universe.specs.Text.{same_text}
 use Rattle.am_universe.proofs.ListLemmas.{IsIn, IsIn-left, IsIn-right}
-use Rattle.am_labels.proofs.Passing.{any_in}
+use Rattle.am_eval.proofs.RouteConditions.{same_test}
+use Rattle.am_labels.proofs.Passing.{any_in, in_any}
 use Rattle.am_complete.proofs.Pushed.{in_pushed}
-use Rattle.am_report_texts.specs.EachOnce.{with_text}
+use Rattle.am_report_texts.specs.EachOnce.{with_text, each_once}
 
 -- ---- One more text.
 
@@ -45,3 +46,19 @@ in_once before (t ∷ texts) text (inr (inl same)) =
     in_once (with_text before t) texts text (inl (there_still before t text (inr same)))
 in_once before (t ∷ texts) text (inr (inr later)) =
     in_once (with_text before t) texts text (inr later)
+
+-- ---- A test of a text.
+
+pub there_once : (texts : List (List ℕ)) (text : List ℕ)
+    → list_any (same_text text) (each_once texts) ≡ list_any (same_text text) texts
+there_once texts text =
+    let test = same_text text in
+    same_test (list_any test (each_once texts)) (list_any test texts) (
+      λ some. let r = any_in test (each_once texts) some in
+          elim (once_in [] texts r.0 r.1) [
+            | inl none ↦ absurd none
+            | inr there ↦ in_any test texts r.0 there r.2
+          ],
+      λ some. let r = any_in test texts some in
+          in_any test (each_once texts) r.0 (in_once [] texts r.0 (inr r.1)) r.2,
+    ) (λ some. some, λ some. some)

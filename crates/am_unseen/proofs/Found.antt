@@ -1,8 +1,8 @@
 -- Tests that none of a list passes, that two lists pass alike, and that all of a list pass.
 use Rattle.std.proofs.Common.{◌≡◌, ◌≢◌, ℕ, List, [], ◌∷◌, refl, ap, Bool, true, false, not}
 use Rattle.std.proofs.Common.{None, inl, inr}
-use Rattle.std.specs.List.{find, list_all, list_any}
-use Rattle.std.proofs.lemmas.Bool.{not-true, both_ways, false_from_ne_true}
+use Rattle.std.specs.List.{filter, find, list_all, list_any}
+use Rattle.std.proofs.lemmas.Bool.{cases_Bool, not-true, both_ways, false_from_ne_true}
 use Rattle.am_universe.proofs.ListLemmas.{IsIn}
 use Rattle.am_labels.proofs.Passing.{any_in, in_any}
 use Rattle.am_unseen.specs.Unseen.{none_passes}
@@ -21,6 +21,19 @@ find_same p q [] each = refl
 find_same p q (x ∷ xs) each =
     let later = find_same p q xs (λ y i. each y (inr i)) in
     rw (each x (inl refl), later) refl
+
+-- the first that passes is kept by each test that it passes too
+pub find_kept : {X : Type 0} (p q : X → Bool) (xs : List X)
+    → ((x : X) → p x ≡ true → q x ≡ true) → find p (filter q xs) ≡ find p xs
+find_kept p q [] each = refl
+find_kept p q (x ∷ xs) each =
+    let later = find_kept p q xs each in
+    elim (cases_Bool (q x)) [
+      | inl kept ↦ rw (kept, later) refl
+      | inr out ↦
+          let fails = false_from_ne_true (p x) (λ passes. both_ways (q x) out (each x passes)) in
+          rw (out, fails) later
+    ]
 
 -- ---- All pass.
 

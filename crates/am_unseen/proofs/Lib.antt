@@ -1,9 +1,14 @@
 pub mod Found
 pub mod Nearest
 pub mod Columns
+pub mod Cells
+pub mod Shifts
+pub mod OccurrenceSets
+pub mod SimilarValues
+pub mod NearestTexts
 pub mod EachOnce
 pub mod SeenValues
-pub mod SeenSets
+pub mod KeptMaps
 pub mod UnseenMatchers
 pub mod UnseenNames
 pub mod FirstMentions

@@ -1,64 +1,32 @@
 -- The values that are no alternatives, value by value, and an alternative that is told or not.
-use Rattle.std.proofs.Common.{◌≡◌, ℕ, ◌+◌, ◌<◌, List, [], ◌∷◌, ◌++◌, sym, ap, ◌∙◌, Bool, true}
+use Rattle.std.proofs.Common.{◌≡◌, ℕ, ◌+◌, ◌<◌, List, [], ◌∷◌, ◌++◌, sym, ap, ◌∙◌, Bool, true, refl, inl, inr, ◌&&◌}
 use Rattle.std.proofs.Common.{false, not, Option, Some, None, is_some, option_map, cond}
 use Rattle.std.proofs.Common.{length, get_or, take, map, Bor, append-nil}
-use Rattle.std.specs.Cmp.Lexicographic.{nat_list_eq_equiv}
-use Rattle.std.specs.List.{list_any}
-use Rattle.std.proofs.lemmas.Bool.{and_left, and_right, and_from}
-use Rattle.std.proofs.lemmas.List.{map_more, map_push}
-use Rattle.std.proofs.lemmas.List.Elements.{filter-append}
+use Rattle.std.specs.List.{list_any, flat_map}
+use Rattle.std.proofs.lemmas.Bool.{and_left, and_right, and_from, cases_Bool}
+use Rattle.std.proofs.lemmas.List.Elements.{filter_agree}
 use Rattle.am_universe.specs.Text.{same_text}
 use Rattle.am_labels.specs.declared.op.Op.TheVariants.{Equal}
-use Rattle.am_labels.specs.Matcher.{Matcher}
+use Rattle.am_labels.specs.Matcher.{Matcher, negates}
+use Rattle.am_classes.specs.Named.{alternatives_of}
 use Rattle.am_complete.specs.declared.origin.Origin.{Origin}
 use Rattle.am_complete.specs.FoundState.{begins}
 use Rattle.am_unseen.specs.Similar.{most_similar}
-use Rattle.am_unseen.specs.Unseen.{UnseenMatcher, values_beside, meant, misspelled}
-use Rattle.am_unseen.proofs.SeenValues.{passes_there}
+use Rattle.am_unseen.specs.Unseen.{UnseenMatcher, values_beside, meant, misspelled, misses}
+use Rattle.am_unseen.specs.Unseen.{is_true_of_one, unseen_beside}
+use Rattle.am_unseen.specs.Search.{placed_at}
+use Rattle.std.proofs.lemmas.List.{map-append}
+use Rattle.am_report_texts.specs.EachOnce.{each_once}
+use Rattle.am_unseen.proofs.EachOnce.{there_once}
 
 -- ---- The other values.
 
-abbrev nows : List (Bor (List ℕ)) → List (List ℕ)
-nows texts = map (λ (t : Bor (List ℕ)). t.now) texts
-
-module _ (texts values others next : List (Bor (List ℕ))) (i : ℕ) (d : Bor (List ℕ))
-    (lt : i < length values) (before : nows others ≡ values_beside (nows texts) (nows (take i values)))
-  where
-    abbrev value : Bor (List ℕ)
-    value = get_or values i d
-
-    among : list_any (λ (t : Bor (List ℕ)). same_text t.now value.now) texts
-        ≡ list_any (same_text value.now) (nows texts)
-    among = passes_there _ (same_text value.now) (λ t. nat_list_eq_equiv.symm t.now value.now) texts
-
-    more : values_beside (nows texts) (nows (take (i + 1) values))
-        ≡ values_beside (nows texts) (nows (take i values))
-        ++ values_beside (nows texts) (value.now ∷ [])
-    more =
-        ap (values_beside (nows texts)) (map_more (λ (t : Bor (List ℕ)). t.now) values i d lt)
-        ∙ filter-append (λ v. not (list_any (same_text v) (nows texts))) (nows (take i values))
-        (value.now ∷ [])
-
-    -- one that is no alternative
-    pub other_value : list_any (λ (t : Bor (List ℕ)). same_text t.now value.now) texts ≡ false
-        → next ≡ others ++ value ∷ []
-        → nows next ≡ values_beside (nows texts) (nows (take (i + 1) values))
-    other_value none put =
-        ap nows put ∙ map_push (λ (t : Bor (List ℕ)). t.now) others value
-        ∙ (λ j. before j ++ value.now ∷ [])
-        ∙ sym (more
-        ∙ ap (λ b. values_beside (nows texts) (nows (take i values)) ++ cond (not b) (value.now ∷ []) [])
-        (sym among ∙ none))
-
-    -- and one that is an alternative
-    pub own_value : list_any (λ (t : Bor (List ℕ)). same_text t.now value.now) texts ≡ true
-        → next ≡ others → nows next ≡ values_beside (nows texts) (nows (take (i + 1) values))
-    own_value there same =
-        ap nows same ∙ before
-        ∙ sym (more
-        ∙ ap (λ b. values_beside (nows texts) (nows (take i values)) ++ cond (not b) (value.now ∷ []) [])
-        (sym among ∙ there)
-        ∙ append-nil (values_beside (nows texts) (nows (take i values))))
+-- texts that are taken once leave the same values
+pub beside_once : (texts values : List (List ℕ))
+    → values_beside (each_once texts) values ≡ values_beside texts values
+beside_once texts values =
+    filter_agree (λ v. not (list_any (same_text v) (each_once texts)))
+    (λ v. not (list_any (same_text v) texts)) (λ v. ap not (there_once texts v)) values
 
 -- ---- An alternative.
 
@@ -87,3 +55,43 @@ module _ (values others : List (List ℕ)) (placed : Origin × Matcher) (text : 
   told_text (Some v) some none found is =
       ap (meant placed text) is
       ∙ sym (ap told (and_from (begins text) (not (list_any (same_text text) values)) some (ap not none)))
+
+-- ---- At another origin.
+
+module _ (origin : Origin) (name : List ℕ) (placed : Origin × Matcher) where
+  abbrev moved : Origin × Matcher
+  moved = (origin, record { name = name; op = placed.1.op; value = placed.1.value })
+
+  meant_moved : (text : List ℕ) (similar : Option (List ℕ))
+      → map (placed_at origin name) (meant placed text similar) ≡ meant moved text similar
+  meant_moved text None = refl
+  meant_moved text (Some value) = refl
+
+  misspelled_moved : (values others texts : List (List ℕ))
+      → map (placed_at origin name) (flat_map (misspelled values others placed) texts)
+      ≡ flat_map (misspelled values others moved) texts
+  misspelled_moved values others [] = refl
+  misspelled_moved values others (text ∷ texts) =
+      let b = begins text && not (list_any (same_text text) values) in
+      let one : map (placed_at origin name) (misspelled values others placed text)
+      ≡ misspelled values others moved text = elim (cases_Bool b) [
+        | inl told ↦ rw told (meant_moved text (most_similar text others))
+        | inr other ↦ rw other refl
+      ] in
+      map-append (placed_at origin name) (misspelled values others placed text)
+      (flat_map (misspelled values others placed) texts)
+      ∙ (λ i. one i ++ misspelled_moved values others texts i)
+
+  -- what a matcher asks for is the same elsewhere
+  pub unseen_moved : (values : List (List ℕ))
+      → map (placed_at origin name) (unseen_beside values placed) ≡ unseen_beside values moved
+  unseen_moved values = elim (cases_Bool (misses placed.1 values)) [
+    | inl all ↦ rw all refl
+    | inr some ↦
+        let found = not (negates placed.1.op) && is_true_of_one placed.1 values in
+        let texts = alternatives_of placed.1 in
+        rw some (elim (cases_Bool found) [
+          | inl there ↦ rw there (misspelled_moved values (values_beside texts values) texts)
+          | inr none ↦ rw none refl
+        ])
+  ]

@@ -1,4 +1,6 @@
 pub mod Similar
+pub mod SideBySide
+pub mod Occurrences
 pub mod Known
 pub mod Unseen
 pub mod UnseenNames

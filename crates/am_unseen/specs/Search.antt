@@ -9,7 +9,10 @@ use Rattle.am_universe.specs.LabelSet.{LabelMap}
 use Rattle.am_universe.specs.Text.{same_text}
 use Rattle.am_labels.specs.Matcher.{Matcher}
 use Rattle.am_complete.specs.declared.origin.Origin.{Origin}
-use Rattle.am_unseen.specs.Unseen.{UnseenMatcher, seen_values, unseen_by}
+use Rattle.am_labels.specs.declared.op.Op.{Op}
+use Rattle.std.specs.declared.vec.Vec.{Vec}
+use Rattle.std.specs.declared.alloc.Global.{Global}
+use Rattle.am_unseen.specs.Unseen.{UnseenMatcher, seen_values, unseen_beside, unseen_by}
 use Rattle.am_unseen.specs.UnseenNames.{Mention, mention_of}
 use denote.Ref.{Bor}
 
@@ -44,13 +47,29 @@ after_mention s placed = mentioned s (mention_of placed)
 abbrev pub texts_of : {S : Type 0} → IndexSet (Bor (List ℕ)) S → List (List ℕ)
 texts_of texts = map (λ t. t.now) texts.keys
 
--- The set that a map has for a label name. The sets of a map are the known values of these labels,
--- each once.
-abbrev pub set_at : {S : Type 0} → BTreeMap (Bor (List ℕ)) S → List ℕ → Option S
-set_at sets name = get_by (λ k. slice_cmp nat_cmp name k.now) sets
+-- What a map has for a text. What it has for a label name are the known values of the label, each
+-- once.
+abbrev pub kept_at : {S : Type 0} → BTreeMap (Bor (List ℕ)) S → List ℕ → Option S
+kept_at kept text = get_by (λ k. slice_cmp nat_cmp text k.now) kept
 
-abbrev pub AreSeen : {S : Type 0} → List LabelMap
-    → BTreeMap (Bor (List ℕ)) (IndexSet (Bor (List ℕ)) S) → Type 0
-AreSeen {S} alerts sets =
-    (name : List ℕ) (values : IndexSet (Bor (List ℕ)) S) → set_at sets name ≡ Some values
-    → texts_of values ≡ seen_values alerts name
+abbrev pub AreSeen : List LabelMap → BTreeMap (Bor (List ℕ)) (List (List ℕ)) → Type 0
+AreSeen alerts sets =
+    (name : List ℕ) (values : List (List ℕ)) → kept_at sets name ≡ Some values
+    → values ≡ seen_values alerts name
+
+-- An unseen matcher as it is at another origin, on the label of this name.
+abbrev pub placed_at : Origin → List ℕ → UnseenMatcher → UnseenMatcher
+placed_at origin name unseen = record {
+  origin = origin;
+  matcher = record { name = name; op = unseen.matcher.op; value = unseen.matcher.value };
+  similar = unseen.similar;
+}
+
+-- What a map has for a text is what a matcher with an operator and this text asks for that is none
+-- of some values, but for its origin and its name.
+abbrev pub AreKept : Op → List (List ℕ) → BTreeMap (Bor (List ℕ)) (Vec UnseenMatcher Global)
+    → Type 0
+AreKept op values kept =
+    (text : List ℕ) (found : Vec UnseenMatcher Global) → kept_at kept text ≡ Some found
+    → (origin : Origin) (name : List ℕ) → map (placed_at origin name) found.items
+    ≡ unseen_beside values (origin, record { name = name; op = op; value = text })

@@ -10,9 +10,14 @@
 // How similar a name or a value has to be to be shown.
 pub mod limits;
 
-// Whose label sets are known, the names and values in them, and the most similar one.
+// Whose label sets are known, and the names and values in them.
 mod known;
 mod seen;
+
+// The most similar one: how near many texts are to one text, character by character.
+mod block;
+mod nearness;
+mod occurrences;
 mod similar;
 
 // The matchers of the silences that are not over.
@@ -22,7 +27,9 @@ mod silences_left;
 mod mentions;
 mod unseen_name;
 
-// Unseen matchers: the search, in the order of the files.
+// Unseen matchers: what one asks for, and the search, in the order of the files.
+mod beside;
+mod known_values;
 mod misspelled;
 mod search;
 mod unseen_matcher;

@@ -4,13 +4,15 @@
 //! told only if it is similar to a value that the pattern does not name.
 
 ghost use Rattle.std.specs.Prelude.{◌≡◌, true, false, IfOk, map};
+ghost use Rattle.std.specs.List.{flat_map};
 ghost use Rattle.am_classes.specs.Named.{alternatives_of};
 ghost use Rattle.am_labels.specs.Matcher.{negates};
 ghost use Rattle.am_unseen.specs.Unseen.{is_true_of_one, misspelled, misspelled_in};
 ghost use Rattle.am_unseen.specs.Unseen.{values_beside};
 ghost use Rattle.am_unseen.specs.Search.{texts_of};
+ghost use Rattle.am_report_texts.specs.EachOnce.{each_once};
 
-use crate::similar::most_similar;
+use crate::similar::SimilarTexts;
 use crate::unseen_matcher::UnseenMatcher;
 use am_complete::Origin;
 use am_labels::{Matcher, Op, is_alternation};
@@ -22,42 +24,76 @@ use std::alloc::{AllocError, Global};
 pub(crate) fn misspelled_in<'w>(
     alloc: Global,
     values: &IndexSet<&'w str>,
+    similar: &mut SimilarTexts<'w>,
     origin: &Origin,
     matcher: &'w Matcher,
 ) -> Result<Vec<UnseenMatcher<'w>>, AllocError>
     requires asks { negates matcher.now.op ≡ false }
     requires finds { is_true_of_one matcher.now (texts_of values.now) ≡ true }
-    ensures { IfOk result (λ found.
+    requires among { similar.old ≡ texts_of values.now }
+    ensures same { similar.new ≡ similar.old }
+    ensures found { IfOk result (λ found.
         found.items ≡ misspelled_in (texts_of values.now) (origin.now, matcher.now)) }
 {
-    let alternatives = alternatives_of(alloc, matcher)?;
-    let others = values_beside(alloc, alternatives.as_slice(), values)?;
+    let texts = alternatives_of(alloc, matcher)?;
+    let but = set_of(alloc, texts.as_slice())?;
+    misspelled_among(
+        alloc,
+        texts.as_slice(),
+        &but,
+        values,
+        similar,
+        origin,
+        matcher,
+    )
+}
+
+/// Returns those of the alternatives of the pattern of a matcher that may be misspelled. `but` has
+/// all of them.
+fn misspelled_among<'w>(
+    alloc: Global,
+    texts: &[&'w str],
+    but: &IndexSet<&'w str>,
+    values: &IndexSet<&'w str>,
+    similar: &mut SimilarTexts<'w>,
+    origin: &Origin,
+    matcher: &'w Matcher,
+) -> Result<Vec<UnseenMatcher<'w>>, AllocError>
+    requires { similar.old ≡ texts_of values.now }
+    ensures same { similar.new ≡ similar.old }
+    ensures found { IfOk result (λ found. found.items ≡ flat_map
+        (misspelled (texts_of values.now) (values_beside (texts_of but.now) (texts_of values.now))
+        (origin.now, matcher.now)) (map (λ t. t.now) texts.now)) }
+{
     let mut found = Vec::new(alloc);
-    for text in alternatives.as_slice() {
-        let mut one = misspelled(alloc, values, others.as_slice(), origin, matcher, text)?;
+    for text in texts {
+        let mut one = misspelled(alloc, text, but, values, similar, origin, matcher)?;
         found.append(&mut one)?;
     }
     Ok(found)
 }
 
-/// Returns an alternative of the pattern of a matcher, if it may be misspelled. The others are the
-/// values that are no alternatives.
+/// Returns an alternative of the pattern of a matcher, if it may be misspelled. `but` has all the
+/// alternatives.
 fn misspelled<'w>(
     alloc: Global,
+    text: &'w str,
+    but: &IndexSet<&'w str>,
     values: &IndexSet<&'w str>,
-    others: &[&'w str],
+    similar: &mut SimilarTexts<'w>,
     origin: &Origin,
     matcher: &'w Matcher,
-    text: &'w str,
 ) -> Result<Vec<UnseenMatcher<'w>>, AllocError>
-    ensures { IfOk result (λ found. found.items
-        ≡ misspelled (texts_of values.now) (map (λ v. v.now) others.now)
+    requires { similar.old ≡ texts_of values.now }
+    ensures same { similar.new ≡ similar.old }
+    ensures found { IfOk result (λ found. found.items
+        ≡ misspelled (texts_of values.now) (values_beside (texts_of but.now) (texts_of values.now))
         (origin.now, matcher.now) text.now) }
 {
     if text.is_empty() || values.contains(text) {
         return Ok(Vec::new(alloc));
     }
-    let similar = most_similar(alloc, text, others)?;
+    let similar = similar.most_similar_but(alloc, text, but)?;
     if similar.is_none() {
         return Ok(Vec::new(alloc));
     }
@@ -72,7 +108,10 @@ fn misspelled<'w>(
 }
 
 /// Returns the alternatives of the pattern of a matcher, if they are plain texts.
-fn alternatives_of<'w>(alloc: Global, matcher: &'w Matcher) -> Result<Vec<&'w str>, AllocError>
+pub(crate) fn alternatives_of<'w>(
+    alloc: Global,
+    matcher: &'w Matcher,
+) -> Result<Vec<&'w str>, AllocError>
     ensures { IfOk result (λ texts. map (λ t. t.now) texts.items ≡ alternatives_of matcher.now) }
 {
     let pattern = matcher.value();
@@ -82,20 +121,13 @@ fn alternatives_of<'w>(alloc: Global, matcher: &'w Matcher) -> Result<Vec<&'w st
     Ok(Vec::new(alloc))
 }
 
-/// Returns those of some values that are not among some texts.
-fn values_beside<'w>(
-    alloc: Global,
-    texts: &[&'w str],
-    values: &IndexSet<&'w str>,
-) -> Result<Vec<&'w str>, AllocError>
-    ensures { IfOk result (λ others. map (λ v. v.now) others.items
-        ≡ values_beside (map (λ t. t.now) texts.now) (texts_of values.now)) }
+/// Returns the set of some texts.
+fn set_of<'w>(alloc: Global, texts: &[&'w str]) -> Result<IndexSet<&'w str>, AllocError>
+    ensures { IfOk result (λ set. texts_of set ≡ each_once (map (λ t. t.now) texts.now)) }
 {
-    let mut others = Vec::new(alloc);
-    for value in values.as_slice() {
-        if !texts.contains(value) {
-            others.push(*value)?;
-        }
+    let mut set = IndexSet::new(alloc);
+    for text in texts {
+        set.insert(*text)?;
     }
-    Ok(others)
+    Ok(set)
 }

@@ -3,23 +3,20 @@
 //! Labels that none of them has are ignored: their names are told, and nothing can be said of their
 //! values.
 
-ghost use Rattle.std.specs.Prelude.{◌≡◌, [], ◌++◌, IfOk, option_map};
-ghost use Rattle.am_unseen.specs.Unseen.{is_true_of_one, similar_value};
-ghost use Rattle.am_unseen.specs.Unseen.{unseen_beside, unseen_by, unseen_matchers};
-ghost use Rattle.am_unseen.specs.Search.{after_matcher, texts_of};
+ghost use Rattle.std.specs.Prelude.{◌≡◌, [], ◌++◌, IfOk};
+ghost use Rattle.am_unseen.specs.Unseen.{seen_values, unseen_by, unseen_matchers};
+ghost use Rattle.am_unseen.specs.Search.{after_matcher};
 
-use crate::misspelled::misspelled_in;
+use crate::known_values::KnownValues;
 use crate::seen::values_of;
 use crate::silences_left::visit_silences_left;
-use crate::similar::most_similar;
 use crate::unseen_matcher::UnseenMatcher;
 use am_asked::{Visitor, visit_routes, visit_rules};
 use am_complete::Origin;
 use am_eval::World;
-use am_labels::{Matcher, Op};
+use am_labels::Matcher;
 use am_list_files::Alerts;
 use am_universe::LabelSet;
-use indexmap::IndexSet;
 use std::alloc::{AllocError, Global};
 use std::collections::BTreeMap;
 use std::marker::Model;
@@ -49,7 +46,7 @@ struct Search<'w> {
     alloc: Global,
     alerts: &'w Alerts,
     rules: &'w [LabelSet],
-    seen: BTreeMap<&'w str, IndexSet<&'w str>>,
+    seen: BTreeMap<&'w str, KnownValues<'w>>,
     found: Vec<UnseenMatcher<'w>>,
 }
 
@@ -91,15 +88,22 @@ impl<'w> Search<'w> {
         ensures unseen { IfOk result (λ found.
             found.items ≡ unseen_by self.old.known (origin.now, matcher.now)) }
     {
-        match self.seen.get(matcher.name()) {
-            Some(values) => unseen_beside(self.alloc, values, origin, matcher),
-            None => {
-                let values = values_of(self.alloc, self.alerts, self.rules, matcher.name())?;
-                let unseen = unseen_beside(self.alloc, &values, origin, matcher)?;
-                self.seen.insert(matcher.name(), values)?;
-                Ok(unseen)
-            }
+        let mut values = self.take_values(matcher.name())?;
+        let unseen = values.unseen(self.alloc, origin, matcher)?;
+        self.seen.insert(matcher.name(), values)?;
+        Ok(unseen)
+    }
+
+    /// Takes out the known values of a label, which are gathered unless they were taken before.
+    fn take_values(&mut self, name: &'w str) -> Result<KnownValues<'w>, AllocError>
+        ensures same { self.new ≡ self.old }
+        ensures values { IfOk result (λ values. values ≡ seen_values self.old.known name.now) }
+    {
+        if let Some(values) = self.seen.remove(name) {
+            return Ok(values);
         }
+        let values = values_of(self.alloc, self.alerts, self.rules, name)?;
+        KnownValues::of(self.alloc, values)
     }
 
     /// Returns what was found.
@@ -117,70 +121,4 @@ impl<'w> Visitor<'w> for Search<'w> {
         let mut unseen = self.unseen_by(origin, matcher)?;
         self.found.append(&mut unseen)
     }
-}
-
-/// Returns what a matcher asks for that is none of the values of its label: all that it asks for,
-/// or alternatives of its pattern that may be misspelled.
-fn unseen_beside<'w>(
-    alloc: Global,
-    values: &IndexSet<&'w str>,
-    origin: &Origin,
-    matcher: &'w Matcher,
-) -> Result<Vec<UnseenMatcher<'w>>, AllocError>
-    ensures { IfOk result (λ found.
-        found.items ≡ unseen_beside (texts_of values.now) (origin.now, matcher.now)) }
-{
-    if values.is_empty() || !matches!(matcher.op(), Op::Equal | Op::Matches) {
-        return Ok(Vec::new(alloc));
-    }
-    if is_true_of_one(alloc, matcher, values)? {
-        return misspelled_in(alloc, values, origin, matcher);
-    }
-    if matcher.prepare(alloc)?.holds("") {
-        return Ok(Vec::new(alloc));
-    }
-    let unseen = UnseenMatcher {
-        origin: *origin,
-        name: matcher.name(),
-        op: matcher.op(),
-        value: matcher.value(),
-        similar: similar_value(alloc, matcher, values)?,
-    };
-    Ok(vec![in alloc; unseen]?)
-}
-
-/// Whether a matcher is true of one of some texts.
-fn is_true_of_one(
-    alloc: Global,
-    matcher: &Matcher,
-    texts: &IndexSet<&str>,
-) -> Result<bool, AllocError>
-    ensures { IfOk result (λ is. is ≡ is_true_of_one matcher.now (texts_of texts.now)) }
-{
-    if matcher.op() == Op::Equal {
-        return Ok(texts.contains(matcher.value()));
-    }
-    let mut prepared = matcher.prepare(alloc)?;
-    for text in texts.as_slice() {
-        if prepared.holds(text) {
-            return Ok(true);
-        }
-    }
-    Ok(false)
-}
-
-/// Returns the value that is most similar to the text that a matcher compares with. Finds none for
-/// a pattern.
-fn similar_value<'w>(
-    alloc: Global,
-    matcher: &Matcher,
-    values: &IndexSet<&'w str>,
-) -> Result<Option<&'w str>, AllocError>
-    ensures { IfOk result (λ similar. option_map (λ v. v.now) similar
-        ≡ similar_value matcher.now (texts_of values.now)) }
-{
-    if matcher.op() != Op::Equal {
-        return Ok(None);
-    }
-    most_similar(alloc, matcher.value(), values.as_slice())
 }

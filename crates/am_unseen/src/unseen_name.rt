@@ -6,7 +6,7 @@ ghost use Rattle.am_unseen.specs.Search.{texts_of};
 
 use crate::mentions::{Mention, first_mentions};
 use crate::seen::names_of;
-use crate::similar::most_similar;
+use crate::similar::SimilarTexts;
 use am_complete::Origin;
 use am_eval::World;
 use am_universe::LabelSet;
@@ -61,10 +61,11 @@ fn missing_among<'w>(
     ensures { IfOk result (λ found.
         found.items ≡ missing_among (texts_of names.now) mentioned.now) }
 {
+    let mut all_names = SimilarTexts::among(alloc, names.as_slice())?;
     let mut found = Vec::new(alloc);
     for mention in mentioned {
         if is_missing(names, mention.name) {
-            let similar = most_similar(alloc, mention.name, names.as_slice())?;
+            let similar = all_names.most_similar(alloc, mention.name)?;
             found.push(UnseenName {
                 origin: mention.origin,
                 name: mention.name,

@@ -5,6 +5,8 @@ use Rattle.am_labels.specs.Matcher.{Matcher}
 use Rattle.am_complete.specs.declared.origin.Origin.{Origin}
 use Rattle.am_complete.proofs.LabelStates.{empty_begins}
 use Rattle.am_labels.specs.declared.op.Op.TheVariants.{Equal}
+use Rattle.am_unseen.specs.Similar.{most_similar}
+use Rattle.am_unseen.specs.Unseen.{values_beside}
 use Rattle.am_unseen.specs.Search.{texts_of}
 use Rattle.am_unseen.proofs.MisspelledSteps.{empty_text, seen_text, told_text}
 use Rattle.am_unseen.proofs.SeenValues.{text_there}
@@ -12,10 +14,10 @@ use Rattle.am_unseen.proofs.misspelled.misspelled.Goals as goal
 use Rattle.am_unseen.proofs.misspelled.misspelled.Goals.{then-is_empty-via-then-is_empty}
 use Rattle.am_unseen.proofs.misspelled.misspelled.Goals.{then-is_empty-via-else-is_empty+then-contains}
 
-pub returns-then-is_empty : goal.returns-then-is_empty
-returns-then-is_empty c =
+pub returns-then-is_empty-clause-found : goal.returns-then-is_empty-clause-found
+returns-then-is_empty-clause-found c =
     let values = texts_of c.args.values.now in
-    let others = map (λ (v : Bor (List ℕ)). v.now) c.args.others.now in
+    let others = values_beside (texts_of c.args.but.now) values in
     let placed : Origin × Matcher = (c.args.origin.now, c.args.matcher.now) in
     let text = c.args.text.now in
     c.new.ensures.items ∙ elim c.then-is_empty.branch [
@@ -28,10 +30,10 @@ returns-then-is_empty c =
           ∙ sym w.contains.ensures ∙ w.if-contains.true)
     ]
 
-pub returns : goal.returns
-returns c =
+pub returns-clause-found : goal.returns-clause-found
+returns-clause-found c =
     let values = texts_of c.args.values.now in
-    let others = map (λ (v : Bor (List ℕ)). v.now) c.args.others.now in
+    let others = values_beside (texts_of c.args.but.now) values in
     let m = c.args.matcher.now in
     let text = c.args.text.now in
     c.in_ok-vec.ensures.items
@@ -44,4 +46,6 @@ returns c =
     (sym (empty_begins text) ∙ ap not (sym c.is_empty.ensures ∙ c.if-is_empty.false))
     (sym (text_there _ text (λ k. refl) c.args.values.now.keys) ∙ sym c.contains.ensures
     ∙ c.if-contains.false)
-    (c.is_none.ensures ∙ ap not c.if-is_none.false) c.in_ok-similar.ensures
+    (c.is_none.ensures ∙ ap not c.if-is_none.false)
+    (c.in_ok-similar.ensures.similar
+    ∙ ap (λ vs. most_similar text (values_beside (texts_of c.args.but.now) vs)) c.requires)
