@@ -1,2 +1,6 @@
 mod Truths
 mod Ids
+mod AlertLabelLemmas
+mod AlertEnds
+mod AlertListLemmas
+mod SilenceNames

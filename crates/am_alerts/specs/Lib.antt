@@ -1,6 +1,7 @@
 pub mod SilenceIds
 pub mod Intervals
-pub mod Outcome
+pub mod AlertLabels
+pub mod AlertLists
+pub mod Outcomes
 pub mod AlertLines
-pub mod FoundView
 pub mod Alerts

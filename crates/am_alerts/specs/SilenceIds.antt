@@ -1,5 +1,6 @@
 -- The identifiers of silences, by which a report names them.
-use Rattle.std.specs.Prelude.{ℕ, List, [], map, codes, decimal, Option, None, option_and_then}
+use Rattle.std.specs.Prelude.{◌≡◌, ◌<◌, ℕ, List, [], map, codes, decimal, Option, None}
+use Rattle.std.specs.Prelude.{option_and_then}
 use Rattle.std.specs.Prelude.{option_map, slice_get, unwrap_or}
 use Rattle.serde_json.specs.Data.{Data}
 use Rattle.serde_json.specs.Find.{as_str}
@@ -34,3 +35,11 @@ id_at ids silence = unwrap_or (slice_get ids silence) None
 -- Example: if the second silence has no identifier, its name is `1`.
 abbrev pub called : List (Option (List ℕ)) → ℕ → List ℕ
 called ids silence = unwrap_or (id_at ids silence) (decimal silence)
+
+-- The name at a position, or the empty text if there is none.
+abbrev pub name_at : List (List ℕ) → ℕ → List ℕ
+name_at names i = unwrap_or (slice_get names i) []
+
+-- These are the names of so many silences.
+abbrev pub AreNames : List (Option (List ℕ)) → ℕ → List (List ℕ) → Type 0
+AreNames ids count names = (i : ℕ) → i < count → name_at names i ≡ called ids i

@@ -1,31 +1,43 @@
 //! The lines of alerts.
 
-ghost use Rattle.std.specs.Prelude.{◌≡◌, map, IfOk};
+ghost use Rattle.std.specs.Prelude.{◌≡◌, ◌<◌, ℕ, List, Option, length, map, string_bytes, IfOk};
+ghost use Rattle.std.specs.Prelude.{slice_get, Some};
 ghost use Rattle.std.specs.FinMap.{entries};
-ghost use Rattle.am_config.specs.ConfigView.{config_view};
+ghost use Rattle.am_universe.specs.LabelSet.{LabelMap};
+ghost use Rattle.am_eval.specs.QuestionView.{question_view};
 ghost use Rattle.am_report_texts.specs.Line as spec;
 ghost use Rattle.am_report_texts.specs.LineView.{line_view, report_view, shown_view};
-ghost use Rattle.am_alerts.specs.AlertLines.{alert_line, alerts_report, words_before};
-ghost use Rattle.am_alerts.specs.FoundView.{found_view};
+ghost use Rattle.am_alerts.specs.SilenceIds.{AreNames, name_at};
+ghost use Rattle.am_alerts.specs.AlertLines.{alert_line, alerts_report, line_of, lines_of};
+ghost use Rattle.am_alerts.specs.AlertLines.{words_before};
 
-use crate::finding::Found;
-use am_config::Config;
-use am_report_texts::{Field, Level, Line, Piece, Report, Shown, receiver_names, texts_of};
+use crate::intervals::intervals_of;
+use crate::outcomes::Outcomes;
+use crate::truth::truths_of;
+use am_eval::Question;
+use am_report_texts::{Field, Level, Line, Piece, Report, Shown, receiver_names};
 use am_universe::LabelSet;
 use std::alloc::{AllocError, Global};
 
-/// Returns a line for each alert, and then `# end`. Fails only if memory runs out.
-pub(crate) fn alerts_report<'a>(
+/// Returns a line for each alert of which a question is true, in their order, and then `# end`. The
+/// silences of the world have these names. Fails only if memory runs out.
+pub(crate) fn alerts_report<'o>(
     alloc: Global,
-    config: &'a Config,
-    found: &'a [Found<'_>],
-) -> Result<Report<'a>, AllocError>
-    ensures report { IfOk result (λ report.
-        report_view report ≡ alerts_report (config_view config.now) (map found_view found.now)) }
+    outcomes: &'o Outcomes<'_>,
+    names: &'o [String],
+    question: &Question,
+) -> Result<Report<'o>, AllocError>
+    ensures report { IfOk result (λ report. (ids : List (Option (List ℕ)))
+        → AreNames ids (length outcomes.now.silences) (map string_bytes names.now)
+        → report_view report ≡ alerts_report outcomes.now.config
+        (lines_of outcomes.now ids (question_view question.now))) }
 {
-    let mut lines = Vec::with_capacity(alloc, found.len())?;
-    for alert in found {
-        lines.push(alert_line(alloc, config, alert)?)?;
+    let truths = truths_of(alloc, outcomes, question)?;
+    let mut lines = Vec::new(alloc);
+    for position in 0..outcomes.world().alerts().len() {
+        if truths[position] {
+            lines.push(alert_line(alloc, outcomes, names, position)?)?;
+        }
     }
     Ok(Report {
         lines,
@@ -33,34 +45,69 @@ pub(crate) fn alerts_report<'a>(
     })
 }
 
-fn alert_line<'a>(
+/// Returns the line of the alert at a position.
+fn alert_line<'o>(
     alloc: Global,
-    config: &'a Config,
-    found: &'a Found<'_>,
-) -> Result<Line<'a>, AllocError>
-    ensures { IfOk result (λ line.
-        line_view line ≡ alert_line (config_view config.now) (found_view found.now)) }
+    outcomes: &'o Outcomes<'_>,
+    names: &'o [String],
+    position: usize,
+) -> Result<Line<'o>, AllocError>
+    requires { position < length outcomes.now.alerts }
+    ensures { IfOk result (λ line. (ids : List (Option (List ℕ))) (s : LabelMap)
+        → AreNames ids (length outcomes.now.silences) (map string_bytes names.now)
+        → slice_get outcomes.now.alerts position ≡ Some s
+        → line_view line
+        ≡ alert_line outcomes.now.config (line_of outcomes.now ids (position, s))) }
 {
-    let receivers = receiver_names(alloc, config, found.receivers.as_slice())?;
-    let silencers = found.silencers.as_slice();
-    let inhibitors = found.inhibitors.as_slice();
-    let intervals = found.intervals.as_slice();
+    let world = outcomes.world();
+    let outcome = outcomes.at(position);
+    let receivers = receiver_names(alloc, world.config(), outcome.receivers)?;
+    let silencers = names_of(alloc, names, outcome.silencers)?;
+    let intervals = intervals_of(alloc, world.config(), outcome.ends)?;
+    let labels = labels_of(alloc, world.alerts().get(position))?;
     Ok(Line {
         level: Level::Plain,
         pieces: vec![in alloc;
-            Piece::Value(Field::Alert, Shown::Number(found.position as u64)),
+            Piece::Value(Field::Alert, Shown::Number(position as u64)),
             Piece::Words(" "),
-            Piece::Value(Field::Labels, labels_of(alloc, found.set)?),
+            Piece::Value(Field::Labels, labels),
             Piece::Words(" -> "),
             Piece::Value(Field::Receivers, Shown::Texts(receivers)),
-            Piece::Words(words_before(" silenced ", silencers)),
-            Piece::Value(Field::Silenced, Shown::Texts(texts_of(alloc, silencers)?)),
-            Piece::Words(words_before(" inhibited ", inhibitors)),
-            Piece::Value(Field::Inhibited, Shown::Inhibitors(inhibitors)),
-            Piece::Words(words_before(" intervals ", intervals)),
-            Piece::Value(Field::Intervals, Shown::Texts(intervals.to_vec(alloc)?)),
+            Piece::Words(words_before(" silenced ", outcome.silencers)),
+            Piece::Value(Field::Silenced, Shown::Texts(silencers)),
+            Piece::Words(words_before(" inhibited ", outcome.inhibitors)),
+            Piece::Value(Field::Inhibited, Shown::Inhibitors(outcome.inhibitors)),
+            Piece::Words(words_before(" intervals ", intervals.as_slice())),
+            Piece::Value(Field::Intervals, Shown::Texts(intervals)),
         ]?,
     })
+}
+
+/// Returns the names of silences, which are given by their positions. One without a name has the
+/// empty text.
+fn names_of<'o>(
+    alloc: Global,
+    names: &'o [String],
+    silences: &[usize],
+) -> Result<Vec<&'o str>, AllocError>
+    ensures { IfOk result (λ found. map (λ n. n.now) found.items
+        ≡ map (name_at (map string_bytes names.now)) silences.now) }
+{
+    let mut found = Vec::with_capacity(alloc, silences.len())?;
+    for silence in silences {
+        found.push(name_at(names, *silence))?;
+    }
+    Ok(found)
+}
+
+/// The name at a position, or the empty text if there is none.
+fn name_at(names: &[String], silence: usize) -> &str
+    ensures { result.now ≡ name_at (map string_bytes names.now) silence }
+{
+    match names.get(silence) {
+        Some(name) => name.as_str(),
+        None => "",
+    }
 }
 
 /// Words before a list, unless it is empty.

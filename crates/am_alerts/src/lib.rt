@@ -5,17 +5,20 @@
 //! inhibition rules and firing alerts that inhibit it, and the time intervals that may mute it.
 #![tactic(auto)]
 
-// The outcome of an alert, and whether a question is true of it.
-mod outcome;
+// The labels of all alerts, and a list for each alert.
+mod alert_labels;
+mod alert_lists;
+
+// The outcomes of all alerts, and of which of them a question is true.
+mod alert_ends;
+mod alert_hiding;
+mod outcomes;
 mod truth;
 
 pub use truth::is_true_of;
 
-// The alerts of which a question is true, and the time intervals that may mute them.
-mod finding;
+// The time intervals that may mute alerts, and the identifiers of the silences of a file.
 mod intervals;
-
-// The identifiers of the silences of a file.
 mod silence_ids;
 
 // The lines.

@@ -11,8 +11,8 @@ ghost use Rattle.am_alerts.specs.AlertLines.{alerts_report, lines_of};
 ghost use Rattle.am_alerts.specs.Alerts.{asked_text, alerts_promise};
 
 use crate::alert_lines::alerts_report;
-use crate::finding::find_asked;
-use crate::silence_ids::SilenceIds;
+use crate::outcomes::Outcomes;
+use crate::silence_ids::silence_names;
 use am_config::Config;
 use am_eval::{Question, World};
 use am_files::{Files, read_world};
@@ -73,9 +73,9 @@ fn report_text(
         (lines_of world.now (ids_of_file files.now.silences) (question_view question.now)))
         (string_bytes text)) }
 {
-    let ids = SilenceIds::read(alloc, files.silences)?;
-    let found = find_asked(alloc, world, &ids, question)?;
-    let report = alerts_report(alloc, world.config(), found.as_slice())?;
+    let names = silence_names(alloc, files.silences, world.silences().len())?;
+    let outcomes = Outcomes::of(alloc, world)?;
+    let report = alerts_report(alloc, &outcomes, names.as_slice(), question)?;
     written(alloc, form, &report)
 }
 

@@ -6,16 +6,30 @@
 ghost use Rattle.std.specs.Prelude.{◌≡◌, IfOk, map, option_copied, option_map, string_bytes};
 ghost use Rattle.serde_json.specs.View.{view};
 ghost use Rattle.am_json.specs.Json.{json_of};
-ghost use Rattle.am_alerts.specs.SilenceIds.{called, id_of, ids_of, ids_of_file, id_at};
+ghost use Rattle.am_alerts.specs.SilenceIds.{called, id_of, ids_of, ids_of_file, id_at, AreNames};
 
 use am_json::field;
 use serde_json::Value;
 use std::alloc::{AllocError, Global};
 use std::marker::Model;
 
+/// Returns the names of so many silences of a file: the identifier of each, or the position if it
+/// has none. None has one without a file, or if its bytes are not JSON. Fails only if memory runs
+/// out.
+pub(crate) fn silence_names(
+    alloc: Global,
+    file: Option<&[u8]>,
+    count: usize,
+) -> Result<Vec<String>, AllocError>
+    ensures names { IfOk result (λ names. AreNames (ids_of_file (option_copied file.entry)) count
+        (map string_bytes names.items)) }
+{
+    SilenceIds::read(alloc, file)?.names(alloc, count)
+}
+
 /// The identifiers of the silences of a file.
 #[derive(Drop)]
-pub(crate) struct SilenceIds {
+struct SilenceIds {
     /// The value of the file, if there is one.
     value: Option<Value>,
 }
@@ -34,7 +48,7 @@ impl Model for SilenceIds {
 impl SilenceIds {
     /// Reads the identifiers from the bytes of a file. There are none without a file, or if the
     /// bytes are not JSON. Fails only if memory runs out.
-    pub(crate) fn read(alloc: Global, file: Option<&[u8]>) -> Result<SilenceIds, AllocError>
+    fn read(alloc: Global, file: Option<&[u8]>) -> Result<SilenceIds, AllocError>
         ensures ids { IfOk result (λ ids. ids ≡ ids_of_file (option_copied file.entry)) }
     {
         match file {
@@ -45,19 +59,15 @@ impl SilenceIds {
         }
     }
 
-    /// Returns the names of silences: the identifier of each, or the position if it has none. Fails
-    /// only if memory runs out.
-    pub(crate) fn names_of(
-        &self,
-        alloc: Global,
-        silences: &[usize],
-    ) -> Result<Vec<String>, AllocError>
+    /// Returns the names of so many silences: the identifier of each, or the position if it has
+    /// none. Fails only if memory runs out.
+    fn names(&self, alloc: Global, count: usize) -> Result<Vec<String>, AllocError>
         ensures names { IfOk result (λ names.
-            map string_bytes names.items ≡ map (called self.now) silences.now) }
+            AreNames self.now count (map string_bytes names.items)) }
     {
-        let mut names = Vec::with_capacity(alloc, silences.len())?;
-        for silence in silences {
-            names.push(self.name_of(alloc, *silence)?)?;
+        let mut names = Vec::with_capacity(alloc, count)?;
+        for silence in 0..count {
+            names.push(self.name_of(alloc, silence)?)?;
         }
         Ok(names)
     }

@@ -1,14 +1,18 @@
-//! Whether a question is true of an alert.
+//! Whether a question is true of alerts.
 
-ghost use Rattle.std.specs.Prelude.{◌≡◌, ◌==◌, IfOk};
+ghost use Rattle.std.specs.Prelude.{◌≡◌, ◌==◌, ℕ, length, not, slice_get, Some, IfOk};
 ghost use Rattle.std.specs.List.{list_any};
+ghost use Rattle.am_universe.specs.LabelSet.{LabelMap};
 ghost use Rattle.am_eval.specs.QuestionView.{question_view};
 ghost use Rattle.am_eval.specs.Question.{reaches, satisfies};
-ghost use Rattle.am_alerts.specs.Outcome.{HasOutcome};
+ghost use Rattle.am_alerts.specs.AlertLabels.{flag, AreTruths};
+ghost use Rattle.am_alerts.specs.Outcomes.{HasOutcome};
 
-use crate::outcome::{Outcome, outcome_of};
+use crate::alert_labels::AlertLabels;
+use crate::alert_lists::without;
+use crate::outcomes::{Outcome, Outcomes, receivers_at};
 use am_config::Path;
-use am_eval::{Question, Reach, World};
+use am_eval::{Question, Reach, World, ends, inhibited_by, silenced_by};
 use am_universe::LabelSet;
 use std::alloc::{AllocError, Global};
 
@@ -24,20 +28,91 @@ pub fn is_true_of(
     ensures truth { IfOk result (λ truth.
         truth ≡ satisfies world.now (question_view question.now) set.now) }
 {
-    let outcome = outcome_of(alloc, world, set)?;
-    satisfies(alloc, world, question, set, &outcome)
+    let ends = ends(alloc, world.config(), set)?;
+    let receivers = receivers_at(alloc, world.config(), ends.as_slice())?;
+    let silencers = silenced_by(alloc, world, set)?;
+    let inhibitors = inhibited_by(alloc, world, set)?;
+    let outcome = Outcome {
+        ends: ends.as_slice(),
+        receivers: receivers.as_slice(),
+        silencers: silencers.as_slice(),
+        inhibitors: inhibitors.as_slice(),
+    };
+    satisfies(alloc, world, question, set, outcome)
+}
+
+/// Returns of which alerts a question is true, as a truth for each. Each list of matchers in braces
+/// is looked at once, with all alerts. Fails only if memory runs out.
+pub(crate) fn truths_of(
+    alloc: Global,
+    outcomes: &Outcomes<'_>,
+    question: &Question,
+) -> Result<Vec<bool>, AllocError>
+    ensures truths { IfOk result (λ truths. AreTruths outcomes.now.alerts
+        (satisfies outcomes.now (question_view question.now)) truths.items) }
+{
+    match question {
+        Question::Braces(matchers) => outcomes.labels().matching(alloc, matchers),
+        Question::Not(question) => {
+            let truths = truths_of(alloc, outcomes, question)?;
+            others(alloc, outcomes.labels(), truths.as_slice())
+        }
+        Question::And(left, right) => {
+            let first = truths_of(alloc, outcomes, left)?;
+            let second = truths_of(alloc, outcomes, right)?;
+            let left_out = others(alloc, outcomes.labels(), second.as_slice())?;
+            without(alloc, first.as_slice(), left_out.as_slice())
+        }
+        Question::Or(left, right) => {
+            let first = truths_of(alloc, outcomes, left)?;
+            let second = truths_of(alloc, outcomes, right)?;
+            let left_out = others(alloc, outcomes.labels(), first.as_slice())?;
+            let neither = without(alloc, left_out.as_slice(), second.as_slice())?;
+            others(alloc, outcomes.labels(), neither.as_slice())
+        }
+        _ => truths_of_part(alloc, outcomes, question),
+    }
+}
+
+/// Returns all alerts but some.
+fn others(alloc: Global, labels: &AlertLabels<'_>, among: &[bool]) -> Result<Vec<bool>, AllocError>
+    requires { length among.now ≡ length labels.now }
+    ensures count { IfOk result (λ others. length others.items ≡ length labels.now) }
+    ensures others { IfOk result (λ others. (i : ℕ) (s : LabelMap)
+        → slice_get labels.now i ≡ Some s → flag others.items i ≡ not (flag among.now i)) }
+{
+    let all = labels.all(alloc)?;
+    without(alloc, all.as_slice(), among)
+}
+
+/// Returns of which alerts a question is true, alert by alert.
+fn truths_of_part(
+    alloc: Global,
+    outcomes: &Outcomes<'_>,
+    question: &Question,
+) -> Result<Vec<bool>, AllocError>
+    ensures { IfOk result (λ truths. AreTruths outcomes.now.alerts
+        (satisfies outcomes.now (question_view question.now)) truths.items) }
+{
+    let world = outcomes.world();
+    let mut truths = Vec::with_capacity(alloc, world.alerts().len())?;
+    for i in 0..world.alerts().len() {
+        let set = world.alerts().get(i);
+        truths.push(satisfies(alloc, world, question, set, outcomes.at(i))?)?;
+    }
+    Ok(truths)
 }
 
 /// Whether a question is true of an alert with these labels and this outcome. Fails only if
 /// memory runs out.
-pub(crate) fn satisfies(
+fn satisfies(
     alloc: Global,
     world: &World,
     question: &Question,
     set: &LabelSet,
-    outcome: &Outcome,
+    outcome: Outcome<'_>,
 ) -> Result<bool, AllocError>
-    requires { HasOutcome world.now set.now outcome.now }
+    requires { HasOutcome world.now set.now outcome }
     ensures { IfOk result (λ truth.
         truth ≡ satisfies world.now (question_view question.now) set.now) }
 {
@@ -45,9 +120,9 @@ pub(crate) fn satisfies(
         Question::Any => Ok(true),
         Question::Silenced => Ok(!outcome.silencers.is_empty()),
         Question::Inhibited => Ok(!outcome.inhibitors.is_empty()),
-        Question::Receiver(receiver) => Ok(has_receiver(outcome.receivers.as_slice(), *receiver)),
-        Question::Ends(path) => Ok(reaches(outcome.ends.as_slice(), Reach::Ends, path)),
-        Question::Enters(path) => Ok(reaches(outcome.ends.as_slice(), Reach::Enters, path)),
+        Question::Receiver(receiver) => Ok(has_receiver(outcome.receivers, *receiver)),
+        Question::Ends(path) => Ok(reaches(outcome.ends, Reach::Ends, path)),
+        Question::Enters(path) => Ok(reaches(outcome.ends, Reach::Enters, path)),
         Question::Braces(matchers) => matchers.matches(alloc, set),
         Question::Not(question) => Ok(!satisfies(alloc, world, question, set, outcome)?),
         Question::And(left, right) => {

@@ -1,11 +1,18 @@
-use Rattle.std.proofs.Common.{◌≡◌, map, take}
-use Rattle.am_config.specs.ConfigView.{config_view}
+use Rattle.std.proofs.Common.{◌≡◌, ◌++◌, ℕ, List, Option, length, map, drop, string_bytes}
+use Rattle.std.specs.List.{filter, enumerate_from}
+use Rattle.am_eval.specs.Question.{satisfies}
+use Rattle.am_eval.specs.QuestionView.{question_view}
 use Rattle.am_report_texts.specs.LineView.{line_view}
-use Rattle.am_alerts.specs.AlertLines.{alert_line}
-use Rattle.am_alerts.specs.FoundView.{found_view}
+use Rattle.am_alerts.specs.AlertLines.{alert_line, line_of, lines_of}
+use Rattle.am_alerts.specs.SilenceIds.{AreNames}
 use Rattle.am_alerts.proofs.alert_lines.alerts_report.Given as goal
 
-abbrev pub invariant-loop-alert : goal.invariant-loop-alert
-invariant-loop-alert l =
-    map line_view l.lines.items
-    ≡ map (alert_line (config_view l.config)) (map found_view (take l.alert-index l.found))
+-- the lines so far, and then those of the alerts that are left, are all lines
+abbrev pub invariant-loop-position : goal.invariant-loop-position
+invariant-loop-position l =
+    let w = l.outcomes in
+    let q = question_view l.question in
+    (ids : List (Option (List ℕ))) → AreNames ids (length w.silences) (map string_bytes l.names)
+    → map line_view l.lines.items ++ map (alert_line w.config) (map (line_of w ids)
+    (filter (λ alert. satisfies w q alert.1) (enumerate_from l.position (drop l.position w.alerts))))
+    ≡ map (alert_line w.config) (lines_of w ids q)

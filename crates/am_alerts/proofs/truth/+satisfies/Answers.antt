@@ -1,5 +1,5 @@
 -- The outcome of an alert tells whether a part of a question is true of it.
-use Rattle.std.proofs.Common.{◌≡◌, not, length, ap, sym, ◌∙◌, arith, vec_len}
+use Rattle.std.proofs.Common.{not, length, ap, sym, ◌∙◌}
 use Rattle.std.specs.Prelude.{◌==◌}
 use Rattle.std.specs.List.{list_any}
 use Rattle.am_eval.specs.declared.reach.Reach.TheVariants.{Ends, Enters}
@@ -18,10 +18,7 @@ pub returns-in-Silenced : goal.returns-in-Silenced
 returns-in-Silenced t c =
     let w = c.args.world.now in
     let s = c.args.set.now in
-    let found = c.args.outcome.now.silencers in
-    let same : vec_len found ≡ length found.items = omega (arith, found.ok.0) in
-    ap not (c.is_empty.ensures ∙ ap (λ n. n == 0) same
-    ∙ ap (λ xs. length xs == 0) c.requires.silencers)
+    ap not (c.is_empty.ensures ∙ ap (λ xs. length xs == 0) c.requires.silencers)
     ∙ has_some (is_silenced w s) (silencers w s) (silencing.some w s)
     ∙ sym (ap (λ q. satisfies w q s)
     (seen_by Question-F.Silenced (variants.rolls-Silenced ∙ sym c.in-Silenced.is)))
@@ -30,10 +27,7 @@ pub returns-in-Inhibited : goal.returns-in-Inhibited
 returns-in-Inhibited t c =
     let w = c.args.world.now in
     let s = c.args.set.now in
-    let found = c.args.outcome.now.inhibitors in
-    let same : vec_len found ≡ length found.items = omega (arith, found.ok.0) in
-    ap not (c.is_empty-in-Inhibited.ensures ∙ ap (λ n. n == 0) same
-    ∙ ap (λ xs. length xs == 0) c.requires.inhibitors)
+    ap not (c.is_empty-in-Inhibited.ensures ∙ ap (λ xs. length xs == 0) c.requires.inhibitors)
     ∙ has_some (is_inhibited w s) (inhibitors w s) (inhibition.some w s)
     ∙ sym (ap (λ q. satisfies w q s)
     (seen_by Question-F.Inhibited (variants.rolls-Inhibited ∙ sym c.in-Inhibited.is)))
@@ -44,7 +38,7 @@ returns-in-Receiver t c =
     let s = c.args.set.now in
     c.has_receiver.ensures
     ∙ ap (list_any (λ other. other == c.in-Receiver.receiver))
-    (c.as_slice.ensures.value ∙ c.requires.receivers)
+    c.requires.receivers
     ∙ sym (ap (λ q. satisfies w q s)
     (seen_by (Question-F.Receiver _) (variants.rolls-Receiver _ ∙ sym c.in-Receiver.is)))
 
@@ -54,7 +48,7 @@ returns-in-Ends t c =
     let s = c.args.set.now in
     let path = c.in-Ends.path in
     c.reaches.ensures
-    ∙ ap (list_any (reaches Ends path)) (c.as_slice-in-Ends.ensures.value ∙ c.requires.ends)
+    ∙ ap (list_any (reaches Ends path)) c.requires.ends
     ∙ sym (ap (λ q. satisfies w q s)
     (seen_by (Question-F.Ends path) (variants.rolls-Ends path ∙ sym c.in-Ends.is)))
 
@@ -64,6 +58,6 @@ returns-in-Enters t c =
     let s = c.args.set.now in
     let path = c.in-Enters.path in
     c.reaches-in-Enters.ensures
-    ∙ ap (list_any (reaches Enters path)) (c.as_slice-in-Enters.ensures.value ∙ c.requires.ends)
+    ∙ ap (list_any (reaches Enters path)) c.requires.ends
     ∙ sym (ap (λ q. satisfies w q s)
     (seen_by (Question-F.Enters path) (variants.rolls-Enters path ∙ sym c.in-Enters.is)))

@@ -1,0 +1,23 @@
+use Rattle.std.proofs.Common.{subst}
+use Rattle.std.proofs.lemmas.List.Sorted.{All-permutation, answers_always}
+use Rattle.std.proofs.Common.{rules}
+use Rattle.am_alerts.specs.AlertLabels.{IsRight, HaveFirsts}
+use Rattle.am_alerts.proofs.AlertLabelLemmas.{each_right, whole_of_all, whole_again}
+use Rattle.am_alerts.proofs.alert_labels.AlertLabels.of.Goals as goal
+
+pub invariant_of-result : goal.invariant_of-result
+invariant_of-result c =
+    let alerts = c.args.alerts.now in
+    let all = c.in_ok-labels.ensures in
+    let by_value = c.sort_unstable_by_key.ensures.permutation in
+    let by_name = c.in_ok-sort_by_key.ensures.permutation in
+    record {
+      right = All-permutation (IsRight alerts) _ _ by_name
+          (All-permutation (IsRight alerts) _ _ by_value (each_right alerts c.in_ok-labels.labels.items all));
+      whole = whole_again alerts _ _ by_name
+          (whole_again alerts _ _ by_value (whole_of_all alerts c.in_ok-labels.labels.items all));
+      sorted = c.in_ok-sort_by_key.ensures.sorted (λ l. l.name)
+          (answers_always _ _ _ (λ f a r g h. search rules));
+      rows = subst (λ labels. HaveFirsts labels c.in_ok-firsts.firsts.items) c.as_slice.ensures.value
+          c.in_ok-firsts.ensures;
+    }

@@ -1,0 +1,22 @@
+use Rattle.std.proofs.Common.{◌≡◌, ◌≤◌, Some, map, length, ◌∙◌, arith, append_assoc, append-nil}
+use Rattle.std.specs.Prelude.{slice_get}
+use Rattle.std.proofs.lemmas.List.{drop_all}
+use Rattle.am_universe.proofs.Members.{left_at}
+use Rattle.am_alerts.specs.AlertLabels.{label_view, labels_of}
+use Rattle.am_alerts.proofs.alert_labels.labels_of.Goals as goal
+
+pub loop-alert-preserved : goal.loop-alert-preserved
+loop-alert-preserved c =
+    let i = c.loop-alert.alert in
+    let s = c.get.result.now in
+    let here : slice_get c.args.alerts.now i ≡ Some s = c.get.ensures.alert in
+    rw c.in_ok-add_labels.ensures
+    (append_assoc (map label_view c.loop-alert.labels.items) (labels_of (i, s)) _
+    ∙ (rw (left_at c.args.alerts.now i s here) at c.loop-alert.invariant))
+
+pub returns : goal.returns
+returns c =
+    let i = c.loop-alert.alert in
+    let all : length c.args.alerts.now ≤ i =
+    omega (arith, c.len-alert-end.ensures.count, c.loop-alert-test.false) in
+    rw (drop_all i c.args.alerts.now all, append-nil) at c.loop-alert.invariant
