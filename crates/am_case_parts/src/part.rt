@@ -30,7 +30,7 @@ pub fn call<R: Files + AllocGlobal>(
         "row" => of_row(files, one, two),
         "classes" => of_classes(alloc, Alphabet::Unicode, one),
         "classes-ascii" => of_classes(alloc, Alphabet::Ascii, one),
-        "boxes" => of_boxes(files, one, two),
+        "boxes" => of_boxes(files, one),
         "judge" => of_judge(files, words),
         "count" => of_count(files, words),
         "whole" => of_whole(files, words),

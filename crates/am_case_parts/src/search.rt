@@ -9,13 +9,12 @@ ghost use Rattle.am_search.specs.Start.{IsStart};
 use crate::asked::{read_file, read_words};
 use crate::texts::{Refusal, add_positions, word};
 use am_case_runner::Problem;
-use am_first_sets::{Budget, Solved, solve_within};
-use am_judged_lists::{PositionBox, impossible_cubes};
+use am_first_sets::{Budget, PossibleSets, Unfinished};
 use am_list_files::read_universe;
 use am_plans::Plan;
 use am_search::{Answers, Judge, Start, State, Verdict, first};
 use am_universe::{Choice, Universe};
-use std::alloc::Global;
+use std::alloc::{AllocError, Global};
 use std::cell::Cell;
 use std::rt;
 
@@ -154,26 +153,16 @@ fn count_text(
     Ok(text.into_bytes())
 }
 
-/// Returns whether the search by boxes finds a label set of a universe file that is possible. The
-/// second word is the most boxes that it may look at.
-pub fn of_boxes<R: rt::Files + AllocGlobal>(
-    files: &R,
-    universe: &str,
-    most: &str,
-) -> Result<Vec<u8>, Refusal> {
+/// Returns whether the search by boxes finds a label set of a universe file that is possible.
+pub fn of_boxes<R: rt::Files + AllocGlobal>(files: &R, universe: &str) -> Result<Vec<u8>, Refusal> {
     let alloc = files.alloc();
     let space = read_universe(alloc, read_file(files, universe)?.as_slice())?;
-    let cubes = impossible_cubes(alloc, &space)?;
-    let mut unwanted = Vec::new(alloc);
-    for cube in &cubes {
-        unwanted.push(cube)?;
-    }
-    let start = PositionBox::all(alloc, space.universe())?;
-    let mut budget = Budget::of(most.parse::<usize>().unwrap_or(0));
-    let text = match solve_within(alloc, start, unwanted.as_slice(), &mut budget)? {
-        Solved::Found(_) => "some",
-        Solved::NoAnswer => "none",
-        Solved::UsedUp => "used up",
+    let possible = PossibleSets::of(alloc, &space)?;
+    let text = match possible.some_meeting(alloc, &[], &[], &mut Budget::limited()) {
+        Ok(Some(_)) => "some",
+        Ok(None) => "none",
+        Err(Unfinished::Memory) => return Err(Refusal::from(AllocError)),
+        Err(Unfinished::UsedUp(_)) => "used up",
     };
     Ok(Vec::from_slice(alloc, text.as_bytes())?)
 }

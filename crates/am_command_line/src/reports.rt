@@ -33,6 +33,8 @@ receiver of the route, its matchers, and the reason. The kinds are:
   unusual    a finding: no ordinary alert enters the route, but some other alert does. The
              line shows the label set of such an alert
   hands on   a note: ordinary alerts enter the route, and its children take all of them
+  undecided  a finding: it would take too long to find out whether an alert ends at the
+             route. A receiver, a rule and a silence may be undecided too
 
 An alert is ordinary if its values consist of printable ASCII, from the space to ~. So an
 alert with a line feed in a value, which . does not match, is not ordinary. A dead route below

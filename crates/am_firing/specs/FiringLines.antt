@@ -1,6 +1,6 @@
 -- The lines of what alerts show of a configuration. (This project's own.)
 use Rattle.std.specs.Prelude.{ℕ, ◌-◌, List, [], ◌∷◌, ◌++◌, length, map, Option, Some, None, codes}
-use Rattle.std.specs.Prelude.{slice_get, is_some, Bool, ◌||◌, if◌then◌else◌}
+use Rattle.std.specs.Prelude.{slice_get, Bool, ◌||◌, if◌then◌else◌}
 use Rattle.std.specs.List.{filter, flat_map, enumerate_from, range_with_len, zip}
 use Rattle.am_universe.specs.LabelSet.{LabelMap}
 use Rattle.am_labels.specs.Matcher.{Matcher}
@@ -21,7 +21,7 @@ use Rattle.am_idle.specs.declared.rule_findings.RuleFinding.{RuleFinding}
 use Rattle.am_idle.specs.declared.silences.SilenceFinding.{SilenceFinding}
 use Rattle.am_firing.specs.declared.reached.Whose.{Whose}
 use Rattle.am_firing.specs.declared.reached.Whose.TheVariants as whose_is
-use Rattle.am_firing.specs.Unreached.{is_unreached, is_idle}
+use Rattle.am_firing.specs.Unreached.{is_unreached, gets_none, is_idle}
 use Rattle.am_firing.specs.Reach.{Reached, reached_by_alerts}
 use Rattle.am_firing.specs.Wide.{inhibited_counts, widest, lacked_names}
 use Rattle.am_firing.specs.HidesAll.{alerts_of, hides_each, is_all}
@@ -61,7 +61,7 @@ route_lines whose c entered routes =
     map (route_line whose c routes) (filter (is_unreached entered) routes)
 
 -- The line of an unreached receiver; and the lines of a receiver: none if an alert goes to it, or
--- if over every alert something is said of it.
+-- if over every alert it is said already that no ordinary one does.
 -- Source: own choice.
 -- Example: `note receiver "net-pager" unreached: no alert of the file goes to it`.
 abbrev pub receiver_line : Whose → Configuration → ℕ → Line
@@ -76,7 +76,7 @@ receiver_line whose c receiver = record {
 abbrev pub receiver_lines :
     Whose → Configuration → ℕ × (Bool × Option ReceiverFinding) → List Line
 receiver_lines whose c (receiver, (is_reached, finding)) =
-    if is_reached || is_some finding then [] else receiver_line whose c receiver ∷ []
+    if is_reached || gets_none finding then [] else receiver_line whose c receiver ∷ []
 
 -- The line of a side of the rule at a position, which has these matchers. `words` and `field` say
 -- which side it is. And the lines of a side: none if an alert matches it.

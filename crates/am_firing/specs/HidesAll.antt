@@ -30,3 +30,4 @@ is_all (Some finding_is.Idle) = false
 is_all (Some finding_is.All) = true
 is_all (Some finding_is.Unused) = false
 is_all (Some finding_is.Unproved) = false
+is_all (Some (finding_is.Undecided evidence)) = false

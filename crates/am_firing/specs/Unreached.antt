@@ -8,8 +8,10 @@ use Rattle.am_config.specs.ConfigFile.{Configuration}
 use Rattle.am_config.specs.Path.{leads_through}
 use Rattle.am_eval.specs.Routing.{ends, receivers}
 use Rattle.am_eval.specs.World.{World}
-use Rattle.am_lint.specs.Findings.{Finding, Dead, Unusual, HandsOn}
+use Rattle.am_lint.specs.Findings.{Finding, Dead, Unusual, HandsOn, Undecided}
 use Rattle.am_lint.specs.LintLines.{Said}
+use Rattle.am_lint.specs.declared.found.ReceiverFinding.{ReceiverFinding}
+use Rattle.am_lint.specs.declared.found.ReceiverFinding.TheVariants as receiver_is
 use Rattle.am_idle.specs.declared.rule_findings.RuleFinding.{RuleFinding}
 use Rattle.am_idle.specs.declared.rule_findings.RuleFinding.TheVariants as rule_is
 
@@ -46,12 +48,20 @@ has_entered_parent entered [] = true
 has_entered_parent entered (p ∷ path) = entered (take (length path) (p ∷ path))
 
 -- What is said of a route over every alert tells already that no ordinary alert enters it: it is
--- dead or unusual.
+-- dead or unusual. What is said of a receiver tells that none goes to it: it is unmatched or
+-- unusual.
 abbrev pub is_barred : Option Finding → Bool
 is_barred None = false
 is_barred (Some (Dead cause routes)) = true
 is_barred (Some (Unusual cause routes entry)) = true
 is_barred (Some (HandsOn children)) = false
+is_barred (Some (Undecided looks)) = false
+
+abbrev pub gets_none : Option ReceiverFinding → Bool
+gets_none None = false
+gets_none (Some receiver_is.Unmatched) = true
+gets_none (Some receiver_is.Unusual) = true
+gets_none (Some receiver_is.Undecided) = false
 
 -- A route is told to be unreached: none of some alerts enters it, though one enters its parent. It
 -- is not told if over every alert worse is said of the route. Nor is it told below an unreached
@@ -69,3 +79,4 @@ abbrev pub is_idle : Option RuleFinding → Bool
 is_idle None = false
 is_idle (Some (rule_is.Idle reason)) = true
 is_idle (Some rule_is.Unproved) = false
+is_idle (Some (rule_is.Undecided evidence)) = false

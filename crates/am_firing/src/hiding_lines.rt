@@ -38,7 +38,7 @@ pub(crate) fn push_hiding_lines<'a>(
         (enumerate_from 0 (zip world.now.silences silences.now))) }
 {
     for (i, finding) in silences.iter().enumerate() {
-        push_told_lines(alloc, lines, world, going, i, *finding)?;
+        push_told_lines(alloc, lines, world, going, i, finding)?;
     }
     Ok(())
 }
@@ -50,7 +50,7 @@ fn push_told_lines<'a>(
     world: &'a World,
     going: &[Vec<usize>],
     position: usize,
-    finding: Option<SilenceFinding>,
+    finding: &Option<SilenceFinding>,
 ) -> Result<(), AllocError>
     requires going { map (λ positions. positions.items) going.now
         ≡ map (positions_of world.now) (range_with_len 0 (length world.now.config.receivers)) }
@@ -58,7 +58,7 @@ fn push_told_lines<'a>(
     ensures { OnOk result ((silence : Silence)
         → slice_get world.now.silences position ≡ Some silence
         → map line_view lines.new.items ≡ map line_view lines.old.items
-        ++ told_lines world.now (position, (silence, finding))) }
+        ++ told_lines world.now (position, (silence, finding.now))) }
 {
     if is_all(finding) || !world.active(position) {
         return Ok(());
@@ -73,8 +73,8 @@ fn push_told_lines<'a>(
     )
 }
 
-fn is_all(finding: Option<SilenceFinding>) -> bool
-    ensures { result ≡ is_all finding }
+fn is_all(finding: &Option<SilenceFinding>) -> bool
+    ensures { result ≡ is_all finding.now }
 {
     matches!(finding, Some(SilenceFinding::All))
 }

@@ -6,7 +6,7 @@ ghost use Rattle.am_config.specs.ConfigView.{config_view};
 ghost use Rattle.am_report_texts.specs.LineView.{line_view};
 ghost use Rattle.am_lint.specs.FoundView.{said_of};
 ghost use Rattle.am_firing.specs.Reach.{leads_to, paths_of, reached_view};
-ghost use Rattle.am_firing.specs.Unreached.{is_idle};
+ghost use Rattle.am_firing.specs.Unreached.{gets_none, is_idle};
 ghost use Rattle.am_firing.specs.FiringLines.{receiver_line, receiver_lines};
 ghost use Rattle.am_firing.specs.FiringLines.{route_line, route_lines, rule_lines};
 ghost use Rattle.am_firing.specs.FiringLines.{side_line, side_lines, unreached_lines};
@@ -140,8 +140,8 @@ fn push_receiver_lines<'a>(
     Ok(())
 }
 
-/// Adds the line of the receiver at a position, unless an alert goes to it, or something is said of
-/// it over every alert.
+/// Adds the line of the receiver at a position, unless an alert goes to it, or it is already said
+/// that no ordinary alert does.
 fn push_receiver_line<'a>(
     alloc: Global,
     lines: &mut Vec<Line<'a>>,
@@ -155,10 +155,20 @@ fn push_receiver_line<'a>(
         ++ receiver_lines whose (config_view config.now)
         (receiver, (is_reached, finding.now))) }
 {
-    if !is_reached && finding.is_none() {
+    if !is_reached && !gets_none(finding) {
         lines.push(receiver_line(alloc, config, whose, receiver)?)?;
     }
     Ok(())
+}
+
+/// Whether it is already said of a receiver that no ordinary alert goes to it.
+fn gets_none(finding: &Option<ReceiverFinding>) -> bool
+    ensures { result ≡ gets_none finding.now }
+{
+    matches!(
+        finding,
+        Some(ReceiverFinding::Unmatched | ReceiverFinding::Unusual)
+    )
 }
 
 fn receiver_line<'a>(

@@ -2,7 +2,6 @@ pub mod CubeTruth
 pub mod FirstPossible
 pub mod CubeEnds
 pub mod FirstLemmas
-pub mod BudgetLemmas
 pub mod SolverLemmas
 pub mod MeetingLemmas
 pub mod ReasonLemmas

@@ -12,10 +12,7 @@ use Rattle.am_judged_lists.specs.declared.mask.Part.{Part}
 use Rattle.am_judged_lists.specs.declared.mask.Part.TheVariants.{Within, Outside}
 use Rattle.am_judged_lists.specs.Cube.{MaskedLabels, matches, permits_position}
 use Rattle.am_judged_lists.specs.Boxes.{box_permits, IsInBox, HasChoice, is_in_part, count_positions}
-use Rattle.am_first_sets.specs.Solving.{avoids, marked, IsAnswer, NoneAvoids, IsSolved, IsLeast, IsTestOf}
-use Rattle.am_first_sets.specs.Budget.{NodesLeft}
-use Rattle.am_first_sets.specs.declared.solver.Solved.{Solved}
-use Rattle.am_first_sets.specs.declared.solver.Solved.TheVariants.{Found, NoAnswer, UsedUp}
+use Rattle.am_first_sets.specs.Solving.{avoids, marked, IsAnswer, NoneAvoids, IsLeast, IsTestOf}
 use Rattle.am_judged_lists.proofs.ListLemmas.{each_map}
 use Rattle.am_first_sets.proofs.FirstLemmas.{found_least, found_nowhere}
 
@@ -210,14 +207,11 @@ refuted_by ms cubes b k lt within covers c i e = elim (slice_get_cases cubes k).
 ]
 
 -- if the cubes that were used leave no choice, all leave none
-pub solved_by_all : (start : List (List Bool)) (cubes : List (Bor MaskedLabels)) (ms : List Bool)
-    (budget : NodesLeft) (solved : Solved) → IsSolved start cubes (marked ms cubes) budget solved
-    → IsSolved start cubes cubes budget solved
-solved_by_all start cubes ms budget (Found b) h = h
-solved_by_all start cubes ms budget NoAnswer h = λ c i.
+pub none_by_all : (start : List (List Bool)) (cubes : List (Bor MaskedLabels)) (ms : List Bool)
+    → NoneAvoids start (marked ms cubes) → NoneAvoids start cubes
+none_by_all start cubes ms h = λ c i.
     false_from_ne_true (avoids cubes c)
     (λ e. both_ways (avoids (marked ms cubes) c) (h c i) (avoids_marked ms cubes c e))
-solved_by_all start cubes ms budget UsedUp h = h
 
 -- ---- What a search has still to look at.
 

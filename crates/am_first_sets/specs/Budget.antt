@@ -1,16 +1,15 @@
--- How many boxes a search looks at.
-use Rattle.std.specs.Prelude.{◌≡◌, ◌+◌, ℕ, Option, None, Some}
+-- How a search ends without an answer.
+use Rattle.std.specs.Prelude.{ℕ, Bool, IsTrue, ⊤}
+use Rattle.std.specs.List.{sum}
+use Rattle.am_first_sets.specs.declared.used_up.UsedUp.{UsedUp}
+use Rattle.am_first_sets.specs.declared.budget.Unfinished.{Unfinished}
+use Rattle.am_first_sets.specs.declared.budget.Unfinished.TheVariants as unfinished_is
 
--- How many boxes a search may still look at, if there is a limit, and how many it has looked at.
-pub record NodesLeft : Type 0 where
-  pub left : Option ℕ
-  pub looked : ℕ
+-- A search may end so without an answer: its budget is used up only if it has a limit.
+abbrev pub MayEnd : Bool → Unfinished → Type 0
+MayEnd limited unfinished_is.Memory = ⊤
+MayEnd limited (unfinished_is.UsedUp evidence) = IsTrue limited
 
--- What was looked at is taken from the budget, if there is a limit.
--- Source: own choice.
--- Example: from a budget of 5 boxes, of which none was looked at, 3 are left once 2 were looked at.
-abbrev pub IsSpent : NodesLeft → NodesLeft → Type 0
-IsSpent old new =
-    (old.left ≡ None → new.left ≡ None)
-    × ((n : ℕ) → old.left ≡ Some n
-    → (m : ℕ) × (new.left ≡ Some m) × (new.looked + m ≡ old.looked + n))
+-- How many masks were looked at when the budget was used up.
+abbrev pub looks_of : UsedUp → ℕ
+looks_of evidence = sum evidence.looked.items

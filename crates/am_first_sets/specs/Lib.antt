@@ -1,4 +1,5 @@
 pub mod ChoiceEnds
+pub mod Looks
 pub mod Budget
 pub mod Solving
 pub mod Meeting

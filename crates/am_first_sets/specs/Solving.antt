@@ -8,9 +8,6 @@ use Rattle.am_first_sets.specs.declared.solver.Step.{Step}
 use Rattle.am_first_sets.specs.declared.solver.Step.TheVariants.{Done, Refuted, Narrow, Split}
 use Rattle.am_judged_lists.specs.Cube.{MaskedLabels, matches, permits_position}
 use Rattle.am_judged_lists.specs.Boxes.{IsInBox, HasChoice, IsOpen}
-use Rattle.am_first_sets.specs.Budget.{NodesLeft}
-use Rattle.am_first_sets.specs.declared.solver.Solved.{Solved}
-use Rattle.am_first_sets.specs.declared.solver.Solved.TheVariants.{Found, NoAnswer, UsedUp}
 
 -- No cube of some matches a choice.
 abbrev pub avoids : List (Bor MaskedLabels) → List ℕ → Bool
@@ -33,15 +30,6 @@ pub record IsAnswer (start : List (List Bool)) (cubes : List (Bor MaskedLabels))
 -- There is no answer: each choice of a box is matched by one of the cubes.
 abbrev pub NoneAvoids : List (List Bool) → List (Bor MaskedLabels) → Type 0
 NoneAvoids start cubes = (c : List ℕ) → IsInBox start c → avoids cubes c ≡ false
-
--- What a search found. If there is no answer, this is so for some of the cubes already: each choice
--- is matched by one of those that were used. It stops without an answer only if nothing is left of
--- its budget.
-abbrev pub IsSolved : List (List Bool) → List (Bor MaskedLabels) → List (Bor MaskedLabels)
-    → NodesLeft → Solved → Type 0
-IsSolved start cubes used budget (Found b) = IsAnswer start cubes b
-IsSolved start cubes used budget NoAnswer = NoneAvoids start used
-IsSolved start cubes used budget UsedUp = budget.left ≡ Some 0
 
 -- The next step for a box. `Done`: all its choices avoid the cubes. `Refuted`: the cube at an index
 -- matches all its choices. `Split`: the label is open for the cube at an index. `Narrow`: it is,

@@ -10,12 +10,17 @@
 //! pair of choices is one choice over twice as many labels.
 #![tactic(auto)]
 
-// The search for a choice that no cube of some matches, and how much it may look at.
+// The limit of a search, and how much of it is left.
 mod budget;
-mod solver;
+mod left;
+pub mod limits;
+mod used_up;
 
-pub use budget::Budget;
-pub use solver::{Solved, first_avoiding, solve, solve_within};
+pub use budget::{Budget, Unfinished};
+pub use used_up::UsedUp;
+
+// The search for a choice that no cube of some matches.
+mod solver;
 
 // The choices among which a search looks, and those of a space.
 mod possible_choices;

@@ -9,6 +9,7 @@ ghost use Rattle.am_first_sets.specs.PossibleChoices.{IsPossible, AreFound};
 ghost use Rattle.am_first_sets.specs.PossibleSets.{possible_space};
 ghost use Rattle.am_first_sets.specs.Solving.{marked};
 
+use crate::budget::{Budget, Unfinished};
 use crate::candidate::Candidate;
 use crate::possible_choices::PossibleChoices;
 use crate::possible_sets::PossibleSets;
@@ -24,35 +25,47 @@ struct Asked<'a> {
 }
 
 /// Returns the first choice of a space, in declared order, that meets the named literals, if there
-/// is one. Fails only if memory runs out.
+/// is one. Fails if the budget is used up or memory runs out.
 pub fn first_meeting(
     alloc: Global,
     possible: &PossibleSets<'_>,
     candidates: &[Candidate<'_>],
-) -> Result<Option<Choice>, AllocError>
+    budget: &mut Budget,
+) -> Result<Option<Choice>, Unfinished>
     ensures first { IfOk result (λ found. found ≡ find (λ c. meets c candidates.now)
         (all_choices (possible_space possible.now))) }
     ensures possible { IfOk result (λ found.
         IfSome found (IsChoiceOf (possible_space possible.now))) }
 {
     let asked = asked_by(alloc, candidates)?;
-    possible.first_meeting(alloc, asked.wanted.as_slice(), asked.unwanted.as_slice())
+    possible.first_meeting(
+        alloc,
+        asked.wanted.as_slice(),
+        asked.unwanted.as_slice(),
+        budget,
+    )
 }
 
 /// Returns a box with some choice, all of whose choices are possible and meet the named literals,
-/// or `None` if no possible choice meets them. Fails only if memory runs out.
+/// or `None` if no possible choice meets them. Fails if the budget is used up or memory runs out.
 pub fn some_meeting(
     alloc: Global,
     possible: &PossibleChoices,
     candidates: &[Candidate<'_>],
-) -> Result<Option<PositionBox>, AllocError>
+    budget: &mut Budget,
+) -> Result<Option<PositionBox>, Unfinished>
     ensures some { IfOk result (λ found. IfSome found
         (AreFound (IsPossible possible.now) (λ c. meets c candidates.now))) }
     ensures none { IfOk result (λ found. IfNone found
         (IsUnmet (IsPossible possible.now) candidates.now)) }
 {
     let asked = asked_by(alloc, candidates)?;
-    possible.meeting(alloc, asked.wanted.as_slice(), asked.unwanted.as_slice())
+    possible.meeting(
+        alloc,
+        asked.wanted.as_slice(),
+        asked.unwanted.as_slice(),
+        budget,
+    )
 }
 
 /// Finds out which of the named literals keep a choice from being found.
@@ -64,7 +77,8 @@ pub(crate) fn refute_meeting(
     alloc: Global,
     possible: &PossibleChoices,
     candidates: &[Candidate<'_>],
-) -> Result<Option<Vec<bool>>, AllocError>
+    budget: &mut Budget,
+) -> Result<Option<Vec<bool>>, Unfinished>
     ensures refuted { IfOk result (λ found. IfSome found (λ used. (c : List ℕ)
         → IsPossible possible.now c → meets_cubes (wanted_of candidates.now)
         (marked used.items (unwanted_of candidates.now)) c ≡ false)) }
@@ -72,7 +86,12 @@ pub(crate) fn refute_meeting(
         candidates.now)) }
 {
     let asked = asked_by(alloc, candidates)?;
-    possible.refute(alloc, asked.wanted.as_slice(), asked.unwanted.as_slice())
+    possible.refute(
+        alloc,
+        asked.wanted.as_slice(),
+        asked.unwanted.as_slice(),
+        budget,
+    )
 }
 
 /// Returns the cubes of the literals that are named. Fails only if memory runs out.

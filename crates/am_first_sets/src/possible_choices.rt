@@ -7,6 +7,7 @@ ghost use Rattle.am_judged_lists.specs.Boxes.{IsInBox};
 ghost use Rattle.am_first_sets.specs.Meeting.{all_match, meets_cubes, is_possible_by};
 ghost use Rattle.am_first_sets.specs.Solving.{avoids, marked};
 
+use crate::budget::{Budget, Unfinished};
 use crate::solver::{refute, solve};
 use am_judged_lists::{Cube, PositionBox};
 use std::alloc::{AllocError, Global};
@@ -24,13 +25,14 @@ impl PossibleChoices {
     /// Finds choices that all wanted cubes match and none of the unwanted ones.
     ///
     /// Returns a box with some choice, all of whose choices are possible and meet the cubes, or
-    /// `None` if no possible choice meets them. Fails only if memory runs out.
+    /// `None` if no possible choice meets them. Fails if the budget is used up or memory runs out.
     pub fn meeting(
         &self,
         alloc: Global,
         wanted: &[&Cube],
         unwanted: &[&Cube],
-    ) -> Result<Option<PositionBox>, AllocError>
+        budget: &mut Budget,
+    ) -> Result<Option<PositionBox>, Unfinished>
         ensures some { IfOk result (λ found. IfSome found
             (AreFound (IsPossible self.now) (meets_cubes wanted.now unwanted.now))) }
         ensures none { IfOk result (λ found. IfNone found ((c : List ℕ) → IsPossible self.now c
@@ -40,20 +42,21 @@ impl PossibleChoices {
             return Ok(None);
         };
         let cubes = self.cubes_against(alloc, unwanted)?;
-        solve(alloc, start, cubes.as_slice())
+        solve(alloc, start, cubes.as_slice(), budget)
     }
 
     /// Finds out which of the unwanted cubes keep a choice from being found.
     ///
     /// Returns for each of them whether it was used: no possible choice meets the wanted cubes and
-    /// those that were used. Returns `None` if some possible choice meets all the cubes. Fails only
-    /// if memory runs out.
+    /// those that were used. Returns `None` if some possible choice meets all the cubes. Fails if
+    /// the budget is used up or memory runs out.
     pub(crate) fn refute(
         &self,
         alloc: Global,
         wanted: &[&Cube],
         unwanted: &[&Cube],
-    ) -> Result<Option<Vec<bool>>, AllocError>
+        budget: &mut Budget,
+    ) -> Result<Option<Vec<bool>>, Unfinished>
         ensures refuted { IfOk result (λ found. IfSome found (λ used. (c : List ℕ)
             → IsPossible self.now c
             → meets_cubes wanted.now (marked used.items unwanted.now) c ≡ false)) }
@@ -64,7 +67,7 @@ impl PossibleChoices {
             return Ok(Some(Vec::new(alloc)));
         };
         let cubes = self.cubes_against(alloc, unwanted)?;
-        refute(alloc, start, cubes.as_slice())
+        refute(alloc, start, cubes.as_slice(), budget)
     }
 
     /// The choices of the box that all wanted cubes match, or `None` if there is no such choice.

@@ -13,10 +13,11 @@ ghost use Rattle.am_first_sets.specs.Reason.{AreSameLiterals, AreFewer, AreNamed
 ghost use Rattle.am_first_sets.specs.Reason.{renamed, without, named_first, kept, IsReason};
 ghost use Rattle.am_first_sets.specs.Reason.{EachFailsFirst};
 
+use crate::budget::{Budget, Unfinished};
 use crate::candidate::Candidate;
 use crate::meeting::refute_meeting;
 use crate::possible_choices::PossibleChoices;
-use std::alloc::{AllocError, Global};
+use std::alloc::Global;
 
 /// Takes the names off literals that are not needed, from a position on: first off those that a
 /// search does not use, and then off one after the other. Those that ask about few labels come
@@ -24,60 +25,63 @@ use std::alloc::{AllocError, Global};
 ///
 /// There must be no possible choice that meets the named literals, and those before the position
 /// must be named. Without any one of those that are left named behind it, some possible choice
-/// meets the others. Fails only if memory runs out; then any of the literals may have lost their
-/// names.
+/// meets the others. Fails if the budget is used up or memory runs out; then any of the literals
+/// may have lost their names.
 pub fn leave_out(
     alloc: Global,
     possible: &PossibleChoices,
     candidates: &mut [Candidate<'_>],
     from: usize,
-) -> Result<(), AllocError>
+    budget: &mut Budget,
+) -> Result<(), Unfinished>
     requires first { AreNamedBefore from candidates.old }
     requires enough { IsUnmet (IsPossible possible.now) candidates.old }
     ensures same { AreSameLiterals candidates.old candidates.new }
     ensures reason { OnOk result (IsReason (IsPossible possible.now) from candidates.new) }
 {
-    refute(alloc, possible, candidates, from)?;
+    refute(alloc, possible, candidates, from, budget)?;
     // Literals that ask about the fewest labels need no turn of their own.
     let (fewest, most) = label_counts(candidates.get(from..).unwrap_or(&[]));
     for labels in (fewest..most).rev() {
-        leave_out_those(alloc, possible, candidates, from, Some(labels + 1))?;
+        leave_out_those(alloc, possible, candidates, from, Some(labels + 1), budget)?;
     }
-    leave_out_those(alloc, possible, candidates, from, None)
+    leave_out_those(alloc, possible, candidates, from, None, budget)
 }
 
 /// Takes names off as `leave_out` does, under the same conditions, and also off each literal from
 /// the position on that is idle: no possible choice fails it *first*, after it met all literals
-/// before it. Fails only if memory runs out.
+/// before it. Fails if the budget is used up or memory runs out.
 pub fn leave_out_idle(
     alloc: Global,
     possible: &PossibleChoices,
     candidates: &mut [Candidate<'_>],
     from: usize,
-) -> Result<(), AllocError>
+    budget: &mut Budget,
+) -> Result<(), Unfinished>
     requires first { AreNamedBefore from candidates.old }
     requires enough { IsUnmet (IsPossible possible.now) candidates.old }
     ensures same { OnOk result (AreSameLiterals candidates.old candidates.new) }
     ensures reason { OnOk result (IsReason (IsPossible possible.now) from candidates.new) }
     ensures each { OnOk result (EachFailsFirst (IsPossible possible.now) from candidates.new) }
 {
-    leave_out(alloc, possible, candidates, from)?;
+    leave_out(alloc, possible, candidates, from, budget)?;
     for i in (from..candidates.len()).rev() {
-        replace_idle(alloc, possible, candidates, from, i)?;
+        replace_idle(alloc, possible, candidates, from, i, budget)?;
     }
     Ok(())
 }
 
 /// Looks for a reason without the literal at a position, if that is named; those before it may be
-/// named in its place. If there is none, nothing changes, and the literal is not idle. Fails only
-/// if memory runs out.
+/// named in its place. If there is none, nothing changes, and the literal is not idle. Fails if the
+/// budget is used up or memory runs out.
 fn replace_idle(
     alloc: Global,
     possible: &PossibleChoices,
     candidates: &mut [Candidate<'_>],
     from: usize,
     i: usize,
-) -> Result<(), AllocError>
+    budget: &mut Budget,
+) -> Result<(), Unfinished>
     requires there { i < length candidates.old }
     requires behind { from ≤ i }
     requires reason { IsReason (IsPossible possible.now) from candidates.old }
@@ -93,8 +97,8 @@ fn replace_idle(
     let others = copy.as_mut_slice();
     name_first(others, i);
     set_named(others, i, false);
-    if refute(alloc, possible, others, from)? {
-        leave_out_those(alloc, possible, others, from, None)?;
+    if refute(alloc, possible, others, from, budget)? {
+        leave_out_those(alloc, possible, others, from, None, budget)?;
         candidates.copy_from_slice(others);
     }
     Ok(())
@@ -129,7 +133,8 @@ fn leave_out_those(
     candidates: &mut [Candidate<'_>],
     from: usize,
     labels: Option<usize>,
-) -> Result<(), AllocError>
+    budget: &mut Budget,
+) -> Result<(), Unfinished>
     requires first { AreNamedBefore from candidates.old }
     requires enough { IsUnmet (IsPossible possible.now) candidates.old }
     ensures fewer { AreFewer candidates.old candidates.new }
@@ -139,14 +144,14 @@ fn leave_out_those(
         → OnOk result (IsReason (IsPossible possible.now) from candidates.new) }
 {
     for i in from..candidates.len() {
-        leave_out_at(alloc, possible, candidates, from, i, labels)?;
+        leave_out_at(alloc, possible, candidates, from, i, labels, budget)?;
     }
     Ok(())
 }
 
 /// Takes the name off the literal at a position, if it is not needed, and if it asks about a number
 /// of labels or that may be any. Then only what shows this stays named, and the first `from`. Fails
-/// only if memory runs out.
+/// if the budget is used up or memory runs out.
 fn leave_out_at(
     alloc: Global,
     possible: &PossibleChoices,
@@ -154,7 +159,8 @@ fn leave_out_at(
     from: usize,
     i: usize,
     labels: Option<usize>,
-) -> Result<(), AllocError>
+    budget: &mut Budget,
+) -> Result<(), Unfinished>
     requires there { i < length candidates.old }
     requires behind { from ≤ i }
     requires first { AreNamedBefore from candidates.old }
@@ -173,21 +179,23 @@ fn leave_out_at(
         return Ok(());
     }
     set_named(candidates, i, false);
-    if !refute(alloc, possible, candidates, from)? {
-        set_named(candidates, i, true);
+    if refute(alloc, possible, candidates, from, budget)? {
+        return Ok(());
     }
+    set_named(candidates, i, true);
     Ok(())
 }
 
 /// Looks for a possible choice that meets the named literals. Returns whether there is none. Then
 /// only the first `from` literals stay named, and what the search used. If there is one, nothing
-/// changes. Fails only if memory runs out; then nothing has changed.
+/// changes. Fails if the budget is used up or memory runs out; then nothing has changed.
 fn refute(
     alloc: Global,
     possible: &PossibleChoices,
     candidates: &mut [Candidate<'_>],
     from: usize,
-) -> Result<bool, AllocError>
+    budget: &mut Budget,
+) -> Result<bool, Unfinished>
     ensures fewer { AreFewer candidates.old candidates.new }
     ensures first { AreNamedBefore from candidates.old → AreNamedBefore from candidates.new }
     ensures enough { IfOk result (λ refuted. IsTrue refuted
@@ -195,7 +203,7 @@ fn refute(
     ensures met { IfOk result (λ refuted. IsFalse refuted
         → (candidates.new ≡ candidates.old) × IsMet (IsPossible possible.now) candidates.old) }
 {
-    match refute_meeting(alloc, possible, candidates)? {
+    match refute_meeting(alloc, possible, candidates, budget)? {
         Some(used) => {
             keep_used(candidates, from, used.as_slice());
             Ok(true)

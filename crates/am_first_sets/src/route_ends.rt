@@ -66,6 +66,6 @@ impl<'a> RouteEnds<'a> {
             return Ok(None);
         };
         self.possible
-            .first_meeting(alloc, way.wanted.as_slice(), way.unwanted.as_slice())
+            .first_of_all(alloc, way.wanted.as_slice(), way.unwanted.as_slice())
     }
 }

@@ -7,16 +7,16 @@
 //! Loveland, 1962: unit propagation and splitting.)
 
 ghost use Rattle.std.specs.Prelude.{◌≡◌, ℕ, ◌<◌, List, length, slice_index, Bool, IfOk, IfSome};
-ghost use Rattle.std.specs.Prelude.{◌↔◌, ◌⊎◌, IfNone, OnOk, IsTrue, Some};
+ghost use Rattle.std.specs.Prelude.{◌↔◌, ◌⊎◌, IfNone, IfErr, OnOk, IsTrue, Some};
 ghost use Rattle.std.specs.List.{find};
 ghost use Rattle.am_universe.specs.Universe.{sizes};
 ghost use Rattle.am_universe.specs.Choice.{IsWhole, choices};
 ghost use Rattle.am_judged_lists.specs.Boxes.{IsInBox};
-ghost use Rattle.am_first_sets.specs.Budget.{IsSpent};
+ghost use Rattle.am_first_sets.specs.Budget.{MayEnd};
 ghost use Rattle.am_first_sets.specs.Solving.{IsAnswer, NoneAvoids, IsStep, IsTestOf, IsLeast};
-ghost use Rattle.am_first_sets.specs.Solving.{avoids, marked, IsSolved};
+ghost use Rattle.am_first_sets.specs.Solving.{avoids, marked};
 
-use crate::budget::Budget;
+use crate::budget::{Budget, Unfinished};
 use am_judged_lists::{Cube, Matching, Part, PositionBox};
 use am_universe::{Choice, Position, Universe};
 use std::alloc::{AllocError, Global};
@@ -43,47 +43,20 @@ struct Open {
     labels: usize,
 }
 
-/// What a search with a budget found.
-#[derive(Drop)]
-pub enum Solved {
-    /// A box with some choice, all of whose choices are answers.
-    Found(PositionBox),
-    /// There is no answer.
-    NoAnswer,
-    /// The budget was used up.
-    UsedUp,
-}
-
 /// Finds choices of a box that none of some cubes matches.
 ///
 /// Returns a box with some choice, all of whose choices are in the given box and matched by no
-/// cube, or `None` if there is no such choice. Fails only if memory runs out.
-pub fn solve(
-    alloc: Global,
-    start: PositionBox,
-    unwanted: &[&Cube],
-) -> Result<Option<PositionBox>, AllocError>
-    ensures found { IfOk result (λ found. IfSome found (IsAnswer start unwanted.now)) }
-    ensures none { IfOk result (λ found. IfNone found (NoneAvoids start unwanted.now)) }
-{
-    match solve_within(alloc, start, unwanted, &mut Budget::unlimited())? {
-        Solved::Found(positions) => Ok(Some(positions)),
-        Solved::NoAnswer => Ok(None),
-        Solved::UsedUp => unreachable!(),
-    }
-}
-
-/// The same with a budget: each box that is looked at is taken from it.
-///
-/// The answer is `UsedUp` only if nothing is left of the budget. Fails only if memory runs out.
-pub fn solve_within(
+/// cube, or `None` if there is no such choice. Fails if the budget is used up or memory runs out.
+pub(crate) fn solve(
     alloc: Global,
     start: PositionBox,
     unwanted: &[&Cube],
     budget: &mut Budget,
-) -> Result<Solved, AllocError>
-    ensures solved { IfOk result (IsSolved start unwanted.now unwanted.now budget.new) }
-    ensures spent { IsSpent budget.old budget.new }
+) -> Result<Option<PositionBox>, Unfinished>
+    ensures found { IfOk result (λ found. IfSome found (IsAnswer start unwanted.now)) }
+    ensures none { IfOk result (λ found. IfNone found (NoneAvoids start unwanted.now)) }
+    ensures same { budget.new ≡ budget.old }
+    ensures limited { IfErr result (MayEnd budget.old) }
 {
     let mut used = vec![in alloc; false; unwanted.len()]?;
     search(alloc, start, unwanted, &mut used, budget)
@@ -92,22 +65,23 @@ pub fn solve_within(
 /// Finds out which cubes leave no choice of a box.
 ///
 /// Returns for each cube whether it was used: each choice is matched by one that was. Returns
-/// `None` if there is a choice that no cube matches. Fails only if memory runs out.
+/// `None` if there is a choice that no cube matches. Fails if the budget is used up or memory runs
+/// out.
 pub(crate) fn refute(
     alloc: Global,
     start: PositionBox,
     unwanted: &[&Cube],
-) -> Result<Option<Vec<bool>>, AllocError>
+    budget: &mut Budget,
+) -> Result<Option<Vec<bool>>, Unfinished>
     ensures refuted { IfOk result (λ found.
         IfSome found (λ used. NoneAvoids start (marked used.items unwanted.now))) }
     ensures found { IfOk result (λ found. IfNone found ((c : List ℕ)
         × IsInBox start c × IsTrue (avoids unwanted.now c))) }
 {
     let mut used = vec![in alloc; false; unwanted.len()]?;
-    match search(alloc, start, unwanted, &mut used, &mut Budget::unlimited())? {
-        Solved::Found(_) => Ok(None),
-        Solved::NoAnswer => Ok(Some(used)),
-        Solved::UsedUp => unreachable!(),
+    match search(alloc, start, unwanted, &mut used, budget)? {
+        Some(_) => Ok(None),
+        None => Ok(Some(used)),
     }
 }
 
@@ -119,22 +93,25 @@ fn search(
     unwanted: &[&Cube],
     used: &mut [bool],
     budget: &mut Budget,
-) -> Result<Solved, AllocError>
+) -> Result<Option<PositionBox>, Unfinished>
     requires { length used.old ≡ length unwanted.now }
-    ensures solved { IfOk result
-        (IsSolved start unwanted.now (marked used.new unwanted.now) budget.new) }
-    ensures spent { IsSpent budget.old budget.new }
+    ensures found { IfOk result (λ found. IfSome found (IsAnswer start unwanted.now)) }
+    ensures none { IfOk result (λ found.
+        IfNone found (NoneAvoids start (marked used.new unwanted.now))) }
+    ensures same { budget.new ≡ budget.old }
+    ensures limited { IfErr result (MayEnd budget.old) }
 {
+    let looks = mask_count(unwanted);
     let mut stack = Vec::new(alloc);
     if start.has_choice() {
         stack.push(start)?;
     }
     while let Some(mut positions) = stack.pop() {
-        if !budget.take() {
-            return Ok(Solved::UsedUp);
+        if let Err(evidence) = budget.take(looks) {
+            return Err(Unfinished::UsedUp(evidence));
         }
         match next_step(&positions, unwanted) {
-            Step::Done => return Ok(Solved::Found(positions)),
+            Step::Done => return Ok(Some(positions)),
             Step::Refuted(index) => used[index] = true,
             Step::Narrow(index, label) => {
                 used[index] = true;
@@ -150,7 +127,16 @@ fn search(
             }
         }
     }
-    Ok(Solved::NoAnswer)
+    Ok(None)
+}
+
+/// How many masks some cubes have together, and one more.
+fn mask_count(cubes: &[&Cube]) -> usize {
+    let mut count = 1_usize;
+    for cube in cubes {
+        count = count.saturating_add(cube.mask_count());
+    }
+    count
 }
 
 /// Returns the next step for a box. Takes no memory.
@@ -203,27 +189,39 @@ fn simpler_of(first: Option<Open>, second: Open) -> Open
 /// Returns the first choice of a box, in declared order, that none of some cubes matches.
 ///
 /// The choices of the box must be choices of the universe. Returns `None` if there is no such
-/// choice. Fails only if memory runs out.
-pub fn first_avoiding(
+/// choice. Fails if the budget is used up or memory runs out.
+pub(crate) fn first_avoiding(
     alloc: Global,
     universe: &Universe,
     start: PositionBox,
     unwanted: &[&Cube],
-) -> Result<Option<Choice>, AllocError>
+    budget: &mut Budget,
+) -> Result<Option<Choice>, Unfinished>
     requires { (c : List ℕ) → IsInBox start c → IsWhole (sizes universe.now) c }
     ensures first { IfOk result (λ found. (test : List ℕ → Bool)
         → IsTestOf (sizes universe.now) test start unwanted.now
         → found ≡ find test (choices (sizes universe.now))) }
+    ensures same { budget.new ≡ budget.old }
+    ensures limited { IfErr result (MayEnd budget.old) }
 {
     let cubes = meeting_cubes(alloc, &start, unwanted)?;
-    let Some(mut found) = solve(alloc, start.try_clone(alloc)?, cubes.as_slice())? else {
+    let found = solve(alloc, start.try_clone(alloc)?, cubes.as_slice(), budget)?;
+    let Some(mut found) = found else {
         return Ok(None);
     };
     let mut left = start;
     let mut choice = Choice::empty();
     for label in 0..universe.len() {
         let size = universe.size(label);
-        let position = fix_least(alloc, &mut left, &mut found, label, size, cubes.as_slice())?;
+        let position = fix_least(
+            alloc,
+            &mut left,
+            &mut found,
+            label,
+            size,
+            cubes.as_slice(),
+            budget,
+        )?;
         choice.push(position as Position);
     }
     Ok(Some(choice))
@@ -250,7 +248,8 @@ fn meeting_cubes<'a>(
 }
 
 /// Takes out all positions of a label but the least that some choice of `left` has which no cube
-/// matches, and returns it. `found` is a box of such choices, before and after.
+/// matches, and returns it. `found` is a box of such choices, before and after. Fails if the budget
+/// is used up or memory runs out.
 fn fix_least(
     alloc: Global,
     left: &mut PositionBox,
@@ -258,7 +257,8 @@ fn fix_least(
     label: usize,
     size: usize,
     unwanted: &[&Cube],
-) -> Result<usize, AllocError>
+    budget: &mut Budget,
+) -> Result<usize, Unfinished>
     requires label { label < length left.old }
     requires below { (c : List ℕ) → IsInBox left.old c → slice_index c label < size }
     requires found { IsAnswer left.old unwanted.now found.old }
@@ -267,6 +267,8 @@ fn fix_least(
     ensures fixed { IfOk result (λ position. (c : List ℕ) → IsInBox left.new c
         ↔ IsInBox left.old c × (slice_index c label ≡ position)) }
     ensures found { OnOk result (IsAnswer left.new unwanted.now found.new) }
+    ensures same { budget.new ≡ budget.old }
+    ensures limited { IfErr result (MayEnd budget.old) }
 {
     for position in 0..size {
         if found.permits(label, position) {
@@ -277,7 +279,7 @@ fn fix_least(
         if left.permits(label, position) {
             let mut fixed = left.try_clone(alloc)?;
             fixed.keep_only(label, position);
-            if let Some(answer) = solve(alloc, fixed, unwanted)? {
+            if let Some(answer) = solve(alloc, fixed, unwanted, budget)? {
                 left.keep_only(label, position);
                 *found = answer;
                 return Ok(position);

@@ -1,6 +1,6 @@
 -- What a search finds among the choices of a space, and what it says of the label sets of the space.
 use Rattle.std.proofs.Common.{◌≡◌, ◌↔◌, ℕ, List, Bool, true, false, not, Option, Some, None}
-use Rattle.std.proofs.Common.{IfSome, IfNone, refl, subst, arith}
+use Rattle.std.proofs.Common.{Result, Ok, Err, IfSome, IfNone, IfOk, refl, subst, arith}
 use Rattle.std.specs.Prelude.{◌&&◌, is_some}
 use Rattle.std.proofs.lemmas.Bool.{both_ways, cases_Bool}
 use Rattle.std.proofs.lemmas.Grind.{common_steps}
@@ -38,6 +38,12 @@ module _ (s : Space) (Is : List ℕ → Type 0) (are : (c : List ℕ) → Is c �
   no_set None none unfound set (c, choice, same) has =
       both_ways (test c) (none c ((are c).1 choice)) ((tells c choice).1 (subst Has same has))
   no_set (Some b) none unfound set is has = absurd (cc)
+
+-- what follows from what a search found, if its budget was not used up
+pub if_found : {A E F : Type 0} (P Q : A → Type 0) → ((x : A) → P x → Q x) → (found : Result A E)
+    (answer : Result A F) → IfOk answer (λ x. found ≡ Ok x) → IfOk found P → IfOk answer Q
+if_found P Q so found (Ok x) same is = so x (subst (λ r. IfOk r P) same is)
+if_found P Q so found (Err e) same is = tt
 
 -- ---- What cubes tell.
 

@@ -400,3 +400,4 @@ positions_told a s rule None is = tt
 positions_told a s rule (Some (finding_is.Idle reason)) is =
     reason_positions (MayMeet a s rule) rule reason is.1
 positions_told a s rule (Some finding_is.Unproved) is = tt
+positions_told a s rule (Some (finding_is.Undecided evidence)) is = tt

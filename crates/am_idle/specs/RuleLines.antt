@@ -47,28 +47,33 @@ idle_pieces rule (reason_is.Contradiction source target) =
 idle_pieces rule reason_is.Both = Value field_is.Reason
     (Word (codes "each two alerts that match source and target match both sides")) ∷ []
 
--- That it is not known which alerts match the two sides of a rule.
+-- What is not known of the two sides of a rule.
 -- Source: own choice.
 -- Example: `it is not known which alerts match source {team=~"\\bdb"} and target {team="web"}`.
-abbrev pub unproved_pieces : Rule → List Piece
-unproved_pieces rule =
-    Value field_is.Reason (Word (codes "it is not known which alerts match"))
+abbrev pub not_known_pieces : List ℕ → Rule → List Piece
+not_known_pieces reason rule =
+    Value field_is.Reason (Word reason)
     ∷ Words (codes " source ") ∷ Value field_is.Source (Matchers rule.source)
     ∷ Words (codes " and target ") ∷ Value field_is.Target (Matchers rule.target) ∷ []
 
--- The word for what is said of a rule, and what is said. A rule that is idle is a finding, and one
--- that is unproved a note.
+-- The word for what is said of a rule, and what is said. A rule that is idle or undecided is a
+-- finding, and one that is unproved a note.
 abbrev pub rule_kind : RuleFinding → List ℕ
 rule_kind (finding_is.Idle reason) = codes "idle"
 rule_kind finding_is.Unproved = codes "unproved"
+rule_kind (finding_is.Undecided evidence) = codes "undecided"
 
 abbrev pub rule_level : RuleFinding → Level
 rule_level (finding_is.Idle reason) = level_is.Finding
 rule_level finding_is.Unproved = level_is.Note
+rule_level (finding_is.Undecided evidence) = level_is.Finding
 
 abbrev pub finding_pieces : Rule → RuleFinding → List Piece
 finding_pieces rule (finding_is.Idle reason) = idle_pieces rule reason
-finding_pieces rule finding_is.Unproved = unproved_pieces rule
+finding_pieces rule finding_is.Unproved =
+    not_known_pieces (codes "it is not known which alerts match") rule
+finding_pieces rule (finding_is.Undecided evidence) =
+    not_known_pieces (codes "it is not known whether an alert inhibits another by") rule
 
 -- The line of the rule at a position; and the lines of a rule: none if nothing is said of it.
 -- Source: own choice.
@@ -95,6 +100,7 @@ HasPositionsIn rule reason_is.Both = ⊤
 abbrev pub HasPositions : Rule → RuleFinding → Type 0
 HasPositions rule (finding_is.Idle reason) = HasPositionsIn rule reason
 HasPositions rule finding_is.Unproved = ⊤
+HasPositions rule (finding_is.Undecided evidence) = ⊤
 
 abbrev pub HasPositionsIfAny : Rule → Option RuleFinding → Type 0
 HasPositionsIfAny rule None = ⊤

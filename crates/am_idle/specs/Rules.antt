@@ -1,6 +1,6 @@
 -- What is said of inhibition rules, and when it is true of all alerts. (This project's own.)
 use Rattle.std.specs.Prelude.{◌≡◌, ◌≢◌, ◌<◌, ℕ, List, [], ◌∷◌, length, ◌&&◌, Contains}
-use Rattle.std.specs.Prelude.{Option, Some, None}
+use Rattle.std.specs.Prelude.{Option, Some, None, true}
 use Rattle.std.specs.Prelude.{slice_get, IsTrue, IsFalse}
 use Rattle.std.specs.List.{AllByRecursion}
 use Rattle.std.specs.List.Sorted.{IsStrictlySortedBy}
@@ -13,6 +13,8 @@ use Rattle.am_config.specs.ConfigFile.{Rule}
 use Rattle.am_eval.specs.Inhibition.{have_equal, is_two_sided, inhibits}
 use Rattle.am_classes.specs.declared.alphabet.Alphabet.{Alphabet}
 use Rattle.am_every_alert.specs.EveryAlert.{IsAlertOf}
+use Rattle.am_first_sets.specs.Budget.{looks_of}
+use Rattle.am_first_sets.specs.Looks.{is_limit}
 use Rattle.am_idle.specs.declared.rules.IdleReason.{IdleReason}
 use Rattle.am_idle.specs.declared.rules.IdleReason.TheVariants as reason_is
 use Rattle.am_idle.specs.declared.rule_findings.RuleFinding.{RuleFinding}
@@ -129,7 +131,8 @@ sides_of rule = rule.source ∷ rule.target ∷ []
 
 -- What is said of a rule is true. Nothing is said if some alert inhibits another by the rule.
 -- Otherwise the rule is said to be idle, for a reason. It is unproved if it could not be computed
--- which texts of a label its matchers and the impossible lists tell apart.
+-- which texts of a label its matchers and the impossible lists tell apart. It is undecided if as
+-- many masks were looked at as a limit allows.
 -- Source: own choice.
 -- Example: a rule with `team="db"` and `team="web"` on its source side is said to be idle. One with
 -- `team=~"\bdb"` may be unproved.
@@ -138,3 +141,5 @@ IsRuleFinding a s rule None = IsIdleReason a s rule None
 IsRuleFinding a s rule (Some (finding_is.Idle reason)) = IsIdleReason a s rule (Some reason)
 IsRuleFinding a s rule (Some finding_is.Unproved) =
     IsRefusalForLists a s (sides_of rule) kinds.Unproved
+IsRuleFinding a s rule (Some (finding_is.Undecided evidence)) =
+    is_limit (looks_of evidence) ≡ true

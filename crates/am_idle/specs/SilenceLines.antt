@@ -14,20 +14,23 @@ silence_kind finding_is.Idle = codes "idle"
 silence_kind finding_is.All = codes "all"
 silence_kind finding_is.Unused = codes "unused"
 silence_kind finding_is.Unproved = codes "unproved"
+silence_kind (finding_is.Undecided evidence) = codes "undecided"
 
 abbrev pub silence_reason : SilenceFinding → List ℕ
 silence_reason finding_is.Idle = codes "no alert matches"
 silence_reason finding_is.All = codes "every ordinary alert with an alertname matches"
 silence_reason finding_is.Unused = codes "no alert of the file matches"
 silence_reason finding_is.Unproved = codes "it is not known which alerts match"
+silence_reason (finding_is.Undecided evidence) = codes "it is not known which alerts match"
 
--- A silence that hides no alert, or all of them, is a finding. One that is unused or unproved is a
--- note.
+-- A silence that hides no alert, or all of them, or that is undecided, is a finding. One that is
+-- unused or unproved is a note.
 abbrev pub silence_level : SilenceFinding → Level
 silence_level finding_is.Idle = level_is.Finding
 silence_level finding_is.All = level_is.Finding
 silence_level finding_is.Unused = level_is.Note
 silence_level finding_is.Unproved = level_is.Note
+silence_level (finding_is.Undecided evidence) = level_is.Finding
 
 -- The line of the silence at a position; and the lines of a silence: none if nothing is said of it.
 -- Source: own choice.

@@ -1,6 +1,6 @@
 -- What is said of silences, and when it is true of all alerts. (This project's own.)
 use Rattle.std.specs.Prelude.{◌≡◌, ◌⊎◌, ℕ, List, [], ◌∷◌, Bool, not, ◌&&◌, Option, Some, None}
-use Rattle.std.specs.Prelude.{IsTrue, IsFalse, slice_get, take, false}
+use Rattle.std.specs.Prelude.{IsTrue, IsFalse, slice_get, take, true, false}
 use Rattle.std.specs.List.{list_any, AllByRecursion}
 use Rattle.am_universe.specs.declared.kind.Kind.{Kind}
 use Rattle.am_universe.specs.declared.kind.Kind.TheVariants as kinds
@@ -14,6 +14,8 @@ use Rattle.am_labels.specs.Matcher.{Matcher}
 use Rattle.am_classes.specs.declared.alphabet.Alphabet.{Alphabet}
 use Rattle.am_classes.specs.declared.alphabet.Alphabet.TheVariants.{Ascii}
 use Rattle.am_every_alert.specs.EveryAlert.{IsAlertOf}
+use Rattle.am_first_sets.specs.Budget.{looks_of}
+use Rattle.am_first_sets.specs.Looks.{is_limit}
 use Rattle.am_idle.specs.declared.silences.SilenceFinding.{SilenceFinding}
 use Rattle.am_idle.specs.declared.silences.SilenceFinding.TheVariants as finding_is
 use Rattle.am_idle.specs.Lists.{StandsForLists, IsRefusalForLists}
@@ -46,7 +48,8 @@ IsNotKnown a s ms =
 -- alert that counts meets all its matchers. It is all if each ordinary alert that has an alertname
 -- does, and there is one. If some alert that counts does, and not all of these do, nothing is said,
 -- unless the silence is unused: then that is said. It is unproved if it is not known which alerts
--- do. The alerts are those of a file, if one is given.
+-- do. It is undecided if as many masks were looked at as a limit allows. The alerts are those of a
+-- file, if one is given.
 -- Source: Alertmanager documentation 0.25, "Silences". Own choice: what is said of a silence that
 -- has not begun is what will be true; if no alert is possible at all, a silence is idle.
 -- Alertmanager takes no silence whose matchers all match the empty text. So a silence that hides
@@ -67,6 +70,8 @@ IsSilenceFinding a s w alerts silence (Some finding_is.Unused) =
     × MatchesNotAll (IsNamedAlert s) silence.matchers × IsTrue (is_unused w alerts silence)
 IsSilenceFinding a s w alerts silence (Some finding_is.Unproved) =
     IsFalse (is_over w.instant silence) × IsNotKnown a s silence.matchers
+IsSilenceFinding a s w alerts silence (Some (finding_is.Undecided evidence)) =
+    IsFalse (is_over w.instant silence) × (is_limit (looks_of evidence) ≡ true)
 
 -- ---- Why none is said.
 

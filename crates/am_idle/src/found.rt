@@ -1,9 +1,11 @@
 //! What was found of rules or silences, one after another, and why it is not known.
 
-ghost use Rattle.std.specs.Prelude.{◌≡◌, ◌++◌, [], ◌∷◌, IfErr, OnOk};
+ghost use Rattle.std.specs.Prelude.{◌≡◌, ◌++◌, [], ◌∷◌, Ok, IfOk, IfErr, OnOk};
 ghost use Rattle.am_universe.specs.declared.kind.Kind.TheVariants as kinds;
 
+use am_first_sets::{Unfinished, UsedUp};
 use am_universe::Kind;
+use std::alloc::AllocError;
 
 /// Why it is not known what is wrong with rules or with silences.
 #[derive(Clone, Copy)]
@@ -29,5 +31,19 @@ pub(crate) fn push_finding<T: Drop>(
             position,
             kind: Kind::Memory,
         }),
+    }
+}
+
+/// Returns what a search found, or the evidence that its budget was used up. Fails only if memory
+/// ran out.
+pub(crate) fn found_or_used_up<T: Drop>(
+    found: Result<T, Unfinished>,
+) -> Result<Result<T, UsedUp>, AllocError>
+    ensures { IfOk result (λ answer. IfOk answer (λ item. found ≡ Ok item)) }
+{
+    match found {
+        Ok(item) => Ok(Ok(item)),
+        Err(Unfinished::UsedUp(evidence)) => Ok(Err(evidence)),
+        Err(Unfinished::Memory) => Err(AllocError),
     }
 }

@@ -14,8 +14,10 @@ ghost use Rattle.am_idle.specs.Extent.{MatchesAll, MatchesNotAll, MissesOne};
 ghost use Rattle.am_idle.specs.NamedAlerts.{HasAlertname, IsNamedAlert, named_matchers};
 
 use crate::extent::matches_all_in;
+use crate::found::found_or_used_up;
 use crate::lists::universe_for_lists;
 use am_classes::Alphabet;
+use am_first_sets::{Budget, UsedUp};
 use am_labels::{Matcher, Matchers, Op, Space};
 use am_universe::{Kind, LabelSet, Universe};
 use std::alloc::{AllocError, Global};
@@ -24,34 +26,35 @@ use std::alloc::{AllocError, Global};
 const ALERTNAME: &str = "alertname";
 
 /// Whether a list of matchers matches each ordinary alert that has an alertname, among those that
-/// no impossible list of a space matches, and there is such an alert. The space declares no label,
-/// before and after.
+/// no impossible list of a space matches, and there is such an alert. This is not known if the
+/// budget is used up. The space declares no label, before and after.
 ///
 /// Fails with `Limit`, `Unproved` and `Memory` as [`universe_for_lists`] does.
 pub(crate) fn matches_all_named(
     alloc: Global,
     space: &mut Space,
     matchers: &Matchers,
-) -> Result<bool, Kind>
+    budget: &mut Budget,
+) -> Result<Result<bool, UsedUp>, Kind>
     requires { space.old.labels ≡ [] }
-    ensures all { IfOk result (λ all. IsTrue all
-        → MatchesAll (IsNamedAlert space.old) matchers.now) }
-    ensures not_all { IfOk result (λ all. IsFalse all
-        → MatchesNotAll (IsNamedAlert space.old) matchers.now) }
+    ensures all { IfOk result (λ found. IfOk found (λ all. IsTrue all
+        → MatchesAll (IsNamedAlert space.old) matchers.now)) }
+    ensures not_all { IfOk result (λ found. IfOk found (λ all. IsFalse all
+        → MatchesNotAll (IsNamedAlert space.old) matchers.now)) }
     ensures refused { IfErr result (λ kind. kind ≢ kinds.Memory → IsRefusalForLists
         alphabets.Ascii space.old (matchers.now ∷ named_matchers ∷ []) kind) }
     ensures labels { space.new.labels ≡ [] }
     ensures impossible { space.new.impossible ≡ space.old.impossible }
 {
     if misses_example(alloc, space, matchers)? {
-        return Ok(false);
+        return Ok(Ok(false));
     }
     let named = named_matchers(alloc)?;
     let universe = universe_for_lists(alloc, Alphabet::Ascii, space, &[matchers, &named])?;
     space.declare(universe);
-    let all = matches_all_in(alloc, space, matchers, &named);
+    let all = matches_all_in(alloc, space, matchers, &named, budget);
     space.declare(Universe::empty(alloc));
-    Ok(all?)
+    Ok(found_or_used_up(all)?)
 }
 
 /// Whether a list does not match the alert that is taken as an example, though no impossible list

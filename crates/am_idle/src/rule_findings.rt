@@ -10,6 +10,7 @@ use crate::found::{FindingFault, push_finding};
 use crate::rules::{IdleReason, idle_reason};
 use am_classes::Alphabet;
 use am_config::Rule;
+use am_first_sets::{Budget, UsedUp};
 use am_labels::Space;
 use am_universe::Kind;
 use std::alloc::Global;
@@ -21,6 +22,8 @@ pub enum RuleFinding {
     Idle(IdleReason),
     /// It is not known which alerts match its sides.
     Unproved,
+    /// It is not known whether some alert inhibits another by it, because the budget was used up.
+    Undecided(UsedUp),
 }
 
 /// Finds what is wrong with each of some inhibition rules, in their order, for every alert over an
@@ -28,7 +31,8 @@ pub enum RuleFinding {
 /// inhibits another. The space declares no label, before and after.
 ///
 /// A rule is `Unproved` if no universe can be made for its matchers and the impossible lists,
-/// because it could not be computed which texts of a label these tell apart.
+/// because it could not be computed which texts of a label these tell apart. It is `Undecided` if
+/// the searches for it used up the budget.
 ///
 /// Fails for the first rule that is refused: with `Limit` if there is no room for the labels that
 /// its matchers and the impossible lists ask about; or with `Memory` for any rule.
@@ -37,6 +41,7 @@ pub fn find_rules(
     alphabet: Alphabet,
     space: &mut Space,
     rules: &[Rule],
+    budget: &mut Budget,
 ) -> Result<Vec<Option<RuleFinding>>, FindingFault>
     requires { space.old.labels ≡ [] }
     ensures found { IfOk result (λ found.
@@ -48,7 +53,7 @@ pub fn find_rules(
 {
     let mut found = Vec::new(alloc);
     for i in 0..rules.len() {
-        match find_rule(alloc, alphabet, space, &rules[i]) {
+        match find_rule(alloc, alphabet, space, &rules[i], budget) {
             Ok(finding) => push_finding(&mut found, i, finding)?,
             Err(kind) => return Err(FindingFault { position: i, kind }),
         }
@@ -62,6 +67,7 @@ fn find_rule(
     alphabet: Alphabet,
     space: &mut Space,
     rule: &Rule,
+    budget: &mut Budget,
 ) -> Result<Option<RuleFinding>, Kind>
     requires { space.old.labels ≡ [] }
     ensures found { IfOk result (IsRuleFinding alphabet space.old rule.now) }
@@ -71,9 +77,11 @@ fn find_rule(
     ensures labels { space.new.labels ≡ [] }
     ensures impossible { space.new.impossible ≡ space.old.impossible }
 {
-    match idle_reason(alloc, alphabet, space, rule) {
-        Ok(Some(reason)) => Ok(Some(RuleFinding::Idle(reason))),
-        Ok(None) => Ok(None),
+    budget.begin_item();
+    match idle_reason(alloc, alphabet, space, rule, budget) {
+        Ok(Ok(Some(reason))) => Ok(Some(RuleFinding::Idle(reason))),
+        Ok(Ok(None)) => Ok(None),
+        Ok(Err(evidence)) => Ok(Some(RuleFinding::Undecided(evidence))),
         Err(Kind::Unproved) => Ok(Some(RuleFinding::Unproved)),
         Err(kind) => Err(kind),
     }

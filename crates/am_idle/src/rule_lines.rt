@@ -5,7 +5,7 @@ ghost use Rattle.am_report_texts.specs.Line as spec;
 ghost use Rattle.am_report_texts.specs.LineView.{line_view, piece_view, pieces_view};
 ghost use Rattle.am_report_texts.specs.declared.lines.Field.TheVariants as field_is;
 ghost use Rattle.am_idle.specs.Rules.{AreWithin};
-ghost use Rattle.am_idle.specs.RuleLines.{contradiction_pieces, idle_pieces, unproved_pieces};
+ghost use Rattle.am_idle.specs.RuleLines.{contradiction_pieces, idle_pieces, not_known_pieces};
 ghost use Rattle.am_idle.specs.RuleLines.{matchers_at, rule_kind, rule_level, finding_pieces};
 ghost use Rattle.am_idle.specs.RuleLines.{rule_line, rule_lines, HasPositionsIn};
 ghost use Rattle.am_idle.specs.RuleLines.{HasPositions, HasPositionsIfAny};
@@ -65,6 +65,7 @@ fn rule_kind(finding: &RuleFinding) -> &'static str
     match finding {
         RuleFinding::Idle(_) => "idle",
         RuleFinding::Unproved => "unproved",
+        RuleFinding::Undecided(_) => "undecided",
     }
 }
 
@@ -72,7 +73,7 @@ fn rule_level(finding: &RuleFinding) -> Level
     ensures { result ≡ rule_level finding.now }
 {
     match finding {
-        RuleFinding::Idle(_) => Level::Finding,
+        RuleFinding::Idle(_) | RuleFinding::Undecided(_) => Level::Finding,
         RuleFinding::Unproved => Level::Note,
     }
 }
@@ -89,18 +90,32 @@ fn finding_pieces<'a>(
 {
     match finding {
         RuleFinding::Idle(reason) => idle_pieces(alloc, rule, reason),
-        RuleFinding::Unproved => unproved_pieces(alloc, rule),
+        RuleFinding::Unproved => not_known_pieces(
+            alloc,
+            rule,
+            "it is not known which alerts match",
+        ),
+        RuleFinding::Undecided(_) => not_known_pieces(
+            alloc,
+            rule,
+            "it is not known whether an alert inhibits another by",
+        ),
     }
 }
 
-/// Says that it is not known which alerts match the two sides of a rule.
-fn unproved_pieces<'a>(alloc: Global, rule: &'a Rule) -> Result<Vec<Piece<'a>>, AllocError>
-    ensures { IfOk result (λ pieces. pieces_view pieces.items ≡ unproved_pieces rule.now) }
+/// Says what is not known of the two sides of a rule, with all their matchers.
+fn not_known_pieces<'a>(
+    alloc: Global,
+    rule: &'a Rule,
+    reason: &'static str,
+) -> Result<Vec<Piece<'a>>, AllocError>
+    ensures { IfOk result (λ pieces.
+        pieces_view pieces.items ≡ not_known_pieces reason.now rule.now) }
 {
     let sources = Shown::Matchers(all_matchers(alloc, rule.source())?);
     let targets = Shown::Matchers(all_matchers(alloc, rule.target())?);
     Ok(vec![in alloc;
-        reason_piece("it is not known which alerts match"),
+        reason_piece(reason),
         Piece::Words(" source "),
         Piece::Value(Field::Source, sources),
         Piece::Words(" and target "),

@@ -18,7 +18,9 @@ ghost use Rattle.am_idle.specs.Rules.{SomeMeet, SomeInhibit, Matches, IsWhyNone}
 
 use crate::rules::IdleReason;
 use am_config::Rule;
-use am_first_sets::{Candidate, Pairs, PossibleChoices, Side, leave_out, some_meeting};
+use am_first_sets::{
+    Budget, Candidate, Pairs, PossibleChoices, Side, Unfinished, leave_out, some_meeting,
+};
 use am_judged_lists::Cube;
 use am_labels::Matchers;
 use am_universe::Universe;
@@ -41,13 +43,14 @@ pub(crate) fn labels_named(
 }
 
 /// Finds which matchers of the two sides of a rule contradict each other. Returns `None` if some
-/// pair of label sets matches one side each. Fails only if memory runs out.
+/// pair of label sets matches one side each. Fails if the budget is used up or memory runs out.
 pub(crate) fn why_contradicting(
     alloc: Global,
     pairs: &Pairs,
     universe: &Universe,
     rule: &Rule,
-) -> Result<Option<IdleReason>, AllocError>
+    budget: &mut Budget,
+) -> Result<Option<IdleReason>, Unfinished>
     ensures some { IfOk result (λ found. IfSome found (λ reason. (s : Space)
         → universe.now ≡ s.labels
         → ArePairsOf s (labels_named s.labels rule.now.equal) pairs.now
@@ -63,18 +66,19 @@ pub(crate) fn why_contradicting(
     push_literals(&mut literals, source.as_slice())?;
     push_literals(&mut literals, target.as_slice())?;
     let sources = rule.source().len();
-    contradiction_of(alloc, pairs.choices(), &mut literals, sources)
+    contradiction_of(alloc, pairs.choices(), &mut literals, sources, budget)
 }
 
 /// Finds which of the named literals of two sides contradict each other. The first `sources` are
 /// those of the source side. Returns `None` if some possible choice meets all that are named. Fails
-/// only if memory runs out.
+/// if the budget is used up or memory runs out.
 fn contradiction_of(
     alloc: Global,
     choices: &PossibleChoices,
     literals: &mut [Candidate<'_>],
     sources: usize,
-) -> Result<Option<IdleReason>, AllocError>
+    budget: &mut Budget,
+) -> Result<Option<IdleReason>, Unfinished>
     requires { sources ≤ length literals.old }
     ensures some { IfOk result (λ found. IfSome found (λ reason. (ks : List Candidate)
         × AreSameLiterals literals.old ks × IsReason (IsPossible choices.now) 0 ks
@@ -82,10 +86,10 @@ fn contradiction_of(
     ensures none { IfOk result (λ found. IfNone found (IsMet (IsPossible choices.now)
         literals.old)) }
 {
-    if some_meeting(alloc, choices, literals)?.is_some() {
+    if some_meeting(alloc, choices, literals, budget)?.is_some() {
         return Ok(None);
     }
-    leave_out(alloc, choices, literals, 0)?;
+    leave_out(alloc, choices, literals, 0, budget)?;
     let source = named_positions(alloc, &literals[..sources])?;
     let target = named_positions(alloc, &literals[sources..])?;
     Ok(Some(IdleReason::Contradiction { source, target }))
@@ -143,13 +147,14 @@ fn named_positions(alloc: Global, literals: &[Candidate<'_>]) -> Result<Vec<usiz
 }
 
 /// Whether some pair of label sets matches one side each, and not both of them match both sides.
-/// The cubes are those of the sides. Fails only if memory runs out.
+/// The cubes are those of the sides. Fails if the budget is used up or memory runs out.
 pub(crate) fn has_inhibiting(
     alloc: Global,
     pairs: &Pairs,
     source: &Cube,
     target: &Cube,
-) -> Result<bool, AllocError>
+    budget: &mut Budget,
+) -> Result<bool, Unfinished>
     ensures { IfOk result (λ has. (s : Space) (rule : Rule)
         → IsCubeOf s.labels rule.source source.now → IsCubeOf s.labels rule.target target.now
         → ArePairsOf s (labels_named s.labels rule.equal) pairs.now
@@ -161,10 +166,10 @@ pub(crate) fn has_inhibiting(
     let second_in_source = pairs.cube(alloc, Side::Second, source)?;
     let wanted = [&in_source, &in_target];
     let choices = pairs.choices();
-    let first = choices.meeting(alloc, &wanted, &[&first_in_target])?;
+    let first = choices.meeting(alloc, &wanted, &[&first_in_target], budget)?;
     if first.is_some() {
         return Ok(true);
     }
-    let second = choices.meeting(alloc, &wanted, &[&second_in_source])?;
+    let second = choices.meeting(alloc, &wanted, &[&second_in_source], budget)?;
     Ok(second.is_some())
 }

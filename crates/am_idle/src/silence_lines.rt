@@ -17,10 +17,10 @@ pub fn push_silence_line<'a>(
     lines: &mut Vec<Line<'a>>,
     position: usize,
     silence: &'a Silence,
-    finding: Option<SilenceFinding>,
+    finding: &Option<SilenceFinding>,
 ) -> Result<(), AllocError>
     ensures lines { OnOk result (map line_view lines.new.items
-        ≡ map line_view lines.old.items ++ silence_lines position silence.now finding) }
+        ≡ map line_view lines.old.items ++ silence_lines position silence.now finding.now) }
 {
     if let Some(finding) = finding {
         lines.push(silence_line(alloc, position, silence, finding)?)?;
@@ -32,10 +32,10 @@ fn silence_line<'a>(
     alloc: Global,
     position: usize,
     silence: &'a Silence,
-    finding: SilenceFinding,
+    finding: &SilenceFinding,
 ) -> Result<Line<'a>, AllocError>
     ensures { IfOk result (λ line.
-        line_view line ≡ silence_line position silence.now finding) }
+        line_view line ≡ silence_line position silence.now finding.now) }
 {
     let matchers = all_matchers(alloc, silence.matchers())?;
     Ok(Line {
@@ -53,34 +53,37 @@ fn silence_line<'a>(
     })
 }
 
-fn silence_kind(finding: SilenceFinding) -> &'static str
-    ensures { result.now ≡ silence_kind finding }
+fn silence_kind(finding: &SilenceFinding) -> &'static str
+    ensures { result.now ≡ silence_kind finding.now }
 {
     match finding {
         SilenceFinding::Idle => "idle",
         SilenceFinding::All => "all",
         SilenceFinding::Unused => "unused",
         SilenceFinding::Unproved => "unproved",
+        SilenceFinding::Undecided(_) => "undecided",
     }
 }
 
 /// What the line says of the alerts that match.
-fn silence_reason(finding: SilenceFinding) -> &'static str
-    ensures { result.now ≡ silence_reason finding }
+fn silence_reason(finding: &SilenceFinding) -> &'static str
+    ensures { result.now ≡ silence_reason finding.now }
 {
     match finding {
         SilenceFinding::Idle => "no alert matches",
         SilenceFinding::All => "every ordinary alert with an alertname matches",
         SilenceFinding::Unused => "no alert of the file matches",
-        SilenceFinding::Unproved => "it is not known which alerts match",
+        SilenceFinding::Unproved | SilenceFinding::Undecided(_) => {
+            "it is not known which alerts match"
+        }
     }
 }
 
-fn silence_level(finding: SilenceFinding) -> Level
-    ensures { result ≡ silence_level finding }
+fn silence_level(finding: &SilenceFinding) -> Level
+    ensures { result ≡ silence_level finding.now }
 {
     match finding {
-        SilenceFinding::Idle | SilenceFinding::All => Level::Finding,
+        SilenceFinding::Idle | SilenceFinding::All | SilenceFinding::Undecided(_) => Level::Finding,
         SilenceFinding::Unused | SilenceFinding::Unproved => Level::Note,
     }
 }

@@ -17,13 +17,14 @@ use crate::found::{FindingFault, push_finding};
 use crate::named_alerts::matches_all_named;
 use am_classes::Alphabet;
 use am_eval::World;
+use am_first_sets::{Budget, UsedUp};
 use am_labels::{Matchers, Space};
 use am_list_files::{Alerts, Silence};
 use am_universe::Kind;
 use std::alloc::{AllocError, Global};
 
 /// What is wrong with a silence that is not over, or worth a note.
-#[derive(Clone, Copy)]
+#[derive(Drop)]
 pub enum SilenceFinding {
     /// It hides no alert, at any instant.
     Idle,
@@ -33,6 +34,8 @@ pub enum SilenceFinding {
     Unused,
     /// It is not known which alerts it hides.
     Unproved,
+    /// Likewise, because the budget was used up.
+    Undecided(UsedUp),
 }
 
 /// Finds what is wrong with each silence of a world, in their order, for every alert over an
@@ -42,7 +45,8 @@ pub enum SilenceFinding {
 ///
 /// A silence is `Unproved` if no universe can be made for its matchers and the impossible lists,
 /// because it could not be computed which texts of a label these tell apart. It also is if some
-/// alert matches it, but no universe can be made for the ordinary alerts that have an alertname.
+/// alert matches it, but no universe can be made for the ordinary alerts that have an alertname. It
+/// is `Undecided` if the searches for it used up the budget.
 ///
 /// Fails for the first silence that is refused: with `Limit` if there is no room for the labels
 /// that its matchers and the impossible lists ask about; or with `Memory` for any silence. A
@@ -53,6 +57,7 @@ pub fn find_silences(
     space: &mut Space,
     world: &World,
     alerts: Option<&Alerts>,
+    budget: &mut Budget,
 ) -> Result<Vec<Option<SilenceFinding>>, FindingFault>
     requires { space.old.labels ≡ [] }
     ensures found { IfOk result (λ found. AllZip
@@ -66,7 +71,7 @@ pub fn find_silences(
     let mut found = Vec::new(alloc);
     for i in 0..world.silences().len() {
         let silence = world.silences().get(i);
-        match find_silence(alloc, alphabet, space, world, i, silence, alerts) {
+        match find_silence(alloc, alphabet, space, world, i, silence, alerts, budget) {
             Ok(finding) => push_finding(&mut found, i, finding)?,
             Err(kind) => return Err(FindingFault { position: i, kind }),
         }
@@ -83,6 +88,7 @@ fn find_silence(
     position: usize,
     silence: &Silence,
     alerts: Option<&Alerts>,
+    budget: &mut Budget,
 ) -> Result<Option<SilenceFinding>, Kind>
     requires none { space.old.labels ≡ [] }
     requires silence { slice_get world.now.silences position ≡ Some silence.now }
@@ -97,9 +103,11 @@ fn find_silence(
     if world.over(position) {
         return Ok(None);
     }
-    match matches_some(alloc, alphabet, space, silence.matchers()) {
-        Ok(true) => Ok(find_matching(alloc, space, world, position, silence, alerts)?),
-        Ok(false) => Ok(Some(SilenceFinding::Idle)),
+    budget.begin_item();
+    match matches_some(alloc, alphabet, space, silence.matchers(), budget) {
+        Ok(Ok(true)) => Ok(find_matching(alloc, space, world, position, silence, alerts, budget)?),
+        Ok(Ok(false)) => Ok(Some(SilenceFinding::Idle)),
+        Ok(Err(evidence)) => Ok(Some(SilenceFinding::Undecided(evidence))),
         Err(Kind::Unproved) => Ok(Some(SilenceFinding::Unproved)),
         Err(kind) => Err(kind),
     }
@@ -114,6 +122,7 @@ fn find_matching(
     position: usize,
     silence: &Silence,
     alerts: Option<&Alerts>,
+    budget: &mut Budget,
 ) -> Result<Option<SilenceFinding>, AllocError>
     requires none { space.old.labels ≡ [] }
     requires silence { slice_get world.now.silences position ≡ Some silence.now }
@@ -125,14 +134,15 @@ fn find_matching(
     ensures labels { space.new.labels ≡ [] }
     ensures impossible { space.new.impossible ≡ space.old.impossible }
 {
-    match matches_all_named(alloc, space, silence.matchers()) {
-        Ok(true) => Ok(Some(SilenceFinding::All)),
-        Ok(false) => {
+    match matches_all_named(alloc, space, silence.matchers(), budget) {
+        Ok(Ok(true)) => Ok(Some(SilenceFinding::All)),
+        Ok(Ok(false)) => {
             if is_unused(alloc, world, position, silence, alerts)? {
                 return Ok(Some(SilenceFinding::Unused));
             }
             Ok(None)
         }
+        Ok(Err(evidence)) => Ok(Some(SilenceFinding::Undecided(evidence))),
         Err(Kind::Memory) => Err(AllocError),
         Err(_) => Ok(Some(SilenceFinding::Unproved)),
     }

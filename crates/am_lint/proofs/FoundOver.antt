@@ -124,6 +124,9 @@ finding_shown : (a : Alphabet) (s : Space) (v : List Label) (c : Configuration) 
     → IsFurther a s v c path ordinary every
     → IsShownFinding (sizes v) (finding_by ordinary every)
 finding_shown a s v c path (arrival_is.Ends choice) every h = tt
+finding_shown a s v c path (arrival_is.Undecided evidence) every h = tt
+finding_shown a s v c path (arrival_is.HandsOn entry children) (Some (arrival_is.Undecided evidence))
+    h = tt
 finding_shown a s v c path (arrival_is.HandsOn entry children) every h = tt
 finding_shown a s v c path (arrival_is.NeverEntered reason) None h = tt
 finding_shown Ascii s v c path (arrival_is.NeverEntered reason) (Some arrival) h = absurd (cc)
@@ -133,6 +136,8 @@ finding_shown Unicode s v c path (arrival_is.NeverEntered reason)
     (Some (arrival_is.HandsOn entry children)) h = (h refl).0.0
 finding_shown Unicode s v c path (arrival_is.NeverEntered reason)
     (Some (arrival_is.NeverEntered other)) h = tt
+finding_shown Unicode s v c path (arrival_is.NeverEntered reason)
+    (Some (arrival_is.Undecided evidence)) h = tt
 
 pub found_shown : (a : Alphabet) (s : Space) (u v : List Label) (c : Configuration)
     (found : List FoundRoute) → IsConfig c

@@ -135,6 +135,7 @@ module _ (a : Alphabet) (s : Space) (c : Configuration) (h : StandsForAlerts a s
     none_so (Enters c path) (enters_told c path) so.0,
     reason_over path reason.cause reason.routes.items so.1,
   )
+  arrival_over path (arrival_is.Undecided evidence) so = so
 
   -- the same for the alerts of a space with other labels
   pub arrival_over_as : (t : Space) → t.impossible ≡ s.impossible → (path : List ℕ)

@@ -1,9 +1,11 @@
 -- How label sets arrive at a route, if only those that occur count.
-use Rattle.std.specs.Prelude.{ℕ, List}
+use Rattle.std.specs.Prelude.{◌≡◌, ℕ, List, true}
 use Rattle.am_universe.specs.Universe.{Label, sizes}
 use Rattle.am_universe.specs.Choice.{IsWhole}
 use Rattle.am_universe.specs.LabelSet.{LabelMap, label_set_of}
 use Rattle.am_config.specs.ConfigFile.{Configuration}
+use Rattle.am_first_sets.specs.Budget.{looks_of}
+use Rattle.am_first_sets.specs.Looks.{is_limit}
 use Rattle.am_lint.specs.declared.arrival.Cause.{Cause}
 use Rattle.am_lint.specs.declared.arrival.Cause.TheVariants as cause_is
 use Rattle.am_lint.specs.declared.arrival.Arrival.{Arrival}
@@ -25,7 +27,8 @@ IsReasonFor Occurs c path cause_is.Taken routes = IsTakenBy Occurs c path routes
 
 -- How label sets arrive at the route at a path. The label set of this choice ends there. Or that of
 -- the choice `entry` enters the route, none ends there, and these children take all. Or none enters
--- it, and these routes are to blame.
+-- it, and these routes are to blame. Or it is not known, since as many masks were looked at as a
+-- limit allows.
 -- Source: own choice.
 -- Example: a route whose one child has no matchers hands on to that child.
 abbrev pub IsArrival :
@@ -36,3 +39,4 @@ IsArrival u Occurs c path (arrival_is.HandsOn entry children) =
     × IsDead Occurs c path × IsHandedTo Occurs c path children.items
 IsArrival u Occurs c path (arrival_is.NeverEntered reason) =
     IsNeverEntered Occurs c path × IsReasonFor Occurs c path reason.cause reason.routes.items
+IsArrival u Occurs c path (arrival_is.Undecided evidence) = is_limit (looks_of evidence) ≡ true

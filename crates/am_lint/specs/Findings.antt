@@ -1,27 +1,26 @@
--- What `lint` says of the routes and receivers of a configuration, and when that is true of all
--- alerts.
-use Rattle.std.specs.Prelude.{◌≡◌, ℕ, List, Option, Some, None}
+-- What `lint` says of a route, and when that is true of all alerts.
+use Rattle.std.specs.Prelude.{◌≡◌, ℕ, List, Option, Some, None, true}
 use Rattle.am_universe.specs.Universe.{Label}
 use Rattle.am_universe.specs.LabelSet.{LabelMap}
 use Rattle.am_labels.specs.Space.{Space}
 use Rattle.am_config.specs.ConfigFile.{Configuration}
+use Rattle.am_first_sets.specs.Looks.{is_limit}
 use Rattle.am_classes.specs.declared.alphabet.Alphabet.{Alphabet}
 use Rattle.am_classes.specs.declared.alphabet.Alphabet.TheVariants.{Unicode, Ascii}
 use Rattle.am_every_alert.specs.EveryAlert.{IsAlertOf}
 use Rattle.am_lint.specs.declared.arrival.Cause.{Cause}
-use Rattle.am_lint.specs.declared.found.ReceiverFinding.{ReceiverFinding}
-use Rattle.am_lint.specs.declared.found.ReceiverFinding.TheVariants as receiver_is
-use Rattle.am_eval.specs.Reaching.{EndsAt, Enters, GoesTo, SomeIs, IsDead, IsNeverEntered}
-use Rattle.am_eval.specs.Reaching.{IsUnmatched}
+use Rattle.am_eval.specs.Reaching.{EndsAt, Enters, SomeIs, IsDead, IsNeverEntered}
 use Rattle.am_lint.specs.Reasons.{IsHandedTo}
 use Rattle.am_lint.specs.Arrival.{IsSeenBy, IsReasonFor}
 
 -- What is said of a route. It is dead, for this reason. Or it is unusual: no ordinary alert enters
--- it, for this reason, but the label set of this choice does. Or it hands on to these children.
+-- it, for this reason, but the label set of this choice does. Or it hands on to these children. Or
+-- it is undecided, after this many looks: it is not known whether an alert ends there.
 pub data Finding : Type 0 where
   Dead : Cause → List (List ℕ) → Finding
   Unusual : Cause → List (List ℕ) → List ℕ → Finding
   HandsOn : List (List ℕ) → Finding
+  Undecided : ℕ → Finding
 
 -- The alerts that count are those of a space over an alphabet: they may have any labels, but no
 -- impossible list matches them. The ordinary ones of these have values of printable ASCII. With
@@ -35,6 +34,7 @@ IsOrdinary s = IsAlertOf Ascii s
 -- What is said of the route at a path is true. Nothing is said if some ordinary alert ends there.
 -- The route is dead if no alert that counts enters it. It is unusual if no ordinary alert enters it
 -- but the alert that is shown does. It hands on if ordinary alerts enter it but none ends there.
+-- It is undecided only after as many looks as a limit allows.
 -- Source: own choice.
 -- Example: a route without matchers, behind a sibling with `team=~".*"` and without `continue`, is
 -- unusual. The pattern does not match a line feed, so an alert enters the route only if its team
@@ -51,17 +51,4 @@ IsRouteFinding a s u c path (Some (Unusual cause routes entry)) =
 IsRouteFinding a s u c path (Some (HandsOn children)) =
     SomeIs (IsOrdinary s) (Enters c path) × IsDead (IsOrdinary s) c path
     × IsHandedTo (IsOrdinary s) c path children
-
--- What is said of the receiver at a position is true. Nothing is said if some ordinary alert goes
--- to it. The receiver is unmatched if no alert that counts goes to it. It is unusual if one does,
--- but no ordinary one.
--- Source: own choice.
--- Example: a receiver that no route has is unmatched.
-abbrev pub IsReceiverFinding :
-    Alphabet → Space → Configuration → ℕ → Option ReceiverFinding → Type 0
-IsReceiverFinding a s c receiver None = SomeIs (IsOrdinary s) (GoesTo c receiver)
-IsReceiverFinding a s c receiver (Some receiver_is.Unmatched) =
-    IsUnmatched (IsAlertOf a s) c receiver
-IsReceiverFinding a s c receiver (Some receiver_is.Unusual) =
-    (a ≡ Unicode) × IsUnmatched (IsOrdinary s) c receiver
-    × SomeIs (IsAlertOf a s) (GoesTo c receiver)
+IsRouteFinding a s u c path (Some (Undecided looks)) = is_limit looks ≡ true

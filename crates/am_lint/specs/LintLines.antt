@@ -18,7 +18,7 @@ use Rattle.am_lint.specs.declared.arrival.Cause.{Cause}
 use Rattle.am_lint.specs.declared.arrival.Cause.TheVariants as cause_is
 use Rattle.am_lint.specs.declared.found.ReceiverFinding.{ReceiverFinding}
 use Rattle.am_lint.specs.declared.found.ReceiverFinding.TheVariants as receiver_is
-use Rattle.am_lint.specs.Findings.{Finding, Dead, Unusual, HandsOn}
+use Rattle.am_lint.specs.Findings.{Finding, Dead, Unusual, HandsOn, Undecided}
 use Rattle.am_lint.specs.Places.{is_child_of}
 
 -- A route with what is said of it.
@@ -42,6 +42,7 @@ abbrev pub kind_text : Finding → List ℕ
 kind_text (Dead cause routes) = codes "dead"
 kind_text (Unusual cause routes entry) = codes "unusual"
 kind_text (HandsOn children) = codes "hands on"
+kind_text (Undecided looks) = codes "undecided"
 
 abbrev pub kind_if_any : Option Finding → List ℕ
 kind_if_any None = []
@@ -112,24 +113,29 @@ why_pieces u c (Unusual cause routes entry) =
     reason_pieces c cause routes ++ Words (codes "; entered by ")
     ∷ Value field_is.Labels (Labels (label_pairs u entry)) ∷ []
 why_pieces u c (HandsOn children) = blame_pieces c cause_is.Taken children
+why_pieces u c (Undecided looks) =
+    Value field_is.Reason (Word (codes "it is not known whether an alert ends there")) ∷ []
 
 -- The name of the receiver at a position.
 abbrev pub receiver_name : Configuration → ℕ → List ℕ
 receiver_name c receiver = unwrap_or (slice_get c.receivers receiver) []
 
--- A route that is dead or unusual is a finding, and one that hands on a note.
--- Source: own choice: hardly anyone means a route for unusual alerts alone.
+-- A route that is dead, unusual or undecided is a finding, and one that hands on a note.
+-- Source: own choice: hardly anyone means a route for unusual alerts alone, and what was not found
+-- out may be a mistake.
 -- Example: a route behind a sibling with `team=~".*"` is a finding.
 abbrev pub level_of : Finding → Level
 level_of (Dead cause routes) = level_is.Finding
 level_of (Unusual cause routes entry) = level_is.Finding
 level_of (HandsOn children) = level_is.Note
+level_of (Undecided looks) = level_is.Finding
 
 -- The end of the line of a dead or unusual route, which says how many routes stand below it.
 abbrev pub end_pieces : List Said → List ℕ → Finding → List Piece
 end_pieces routes path (Dead cause blamed) = below_pieces (count_below routes path)
 end_pieces routes path (Unusual cause blamed entry) = below_pieces (count_below routes path)
 end_pieces routes path (HandsOn children) = []
+end_pieces routes path (Undecided looks) = []
 
 -- The line of a route, among all routes.
 -- Source: own choice.
@@ -171,6 +177,7 @@ none_words (said ∷ others) = []
 abbrev pub receiver_kind : ReceiverFinding → List ℕ
 receiver_kind receiver_is.Unmatched = codes "unmatched"
 receiver_kind receiver_is.Unusual = codes "unusual"
+receiver_kind receiver_is.Undecided = codes "undecided"
 
 -- A route hands on. The routes that have a receiver only group others: there is one, and each of
 -- them hands on.
@@ -179,6 +186,7 @@ hands_on None = false
 hands_on (Some (Dead cause routes)) = false
 hands_on (Some (Unusual cause routes entry)) = false
 hands_on (Some (HandsOn children)) = true
+hands_on (Some (Undecided looks)) = false
 
 abbrev pub has_and_keeps : ℕ → Said → Bool
 has_and_keeps receiver said = said.receiver == receiver && not (hands_on said.finding)

@@ -17,15 +17,18 @@ use crate::arrival::arrival_of;
 use crate::found::{FoundRoute, ReceiverFinding, receiver_finding};
 use crate::table::Table;
 use am_config::Config;
+use am_first_sets::Budget;
 use am_labels::Space;
 use std::alloc::{AllocError, Global};
 
 /// Finds how the label sets of a space arrive at each route of a configuration, in preorder.
-/// `every` is `None` in each. Fails only if memory runs out.
+/// `every` is `None` in each. An arrival is undecided if the budget is used up. Fails only if
+/// memory runs out.
 pub fn found_routes(
     alloc: Global,
     space: &Space,
     config: &Config,
+    budget: &mut Budget,
 ) -> Result<Vec<FoundRoute>, AllocError>
     ensures found { IfOk result (λ found. AllZip (IsFoundIn space.now (config_view config.now))
         (all_routes (config_view config.now)) found.items) }
@@ -37,7 +40,7 @@ pub fn found_routes(
         found.push(FoundRoute {
             path: route.path,
             receiver: route.receiver,
-            ordinary: arrival_of(alloc, &table, &route.path)?,
+            ordinary: arrival_of(alloc, &table, &route.path, budget)?,
             every: None,
         })?;
     }
@@ -45,13 +48,14 @@ pub fn found_routes(
 }
 
 /// For each route at which no label set of the first space ends, finds how those of another space
-/// arrive there, and sets its `every`. Fails only if memory runs out; then some of them may be
-/// set.
+/// arrive there, and sets its `every`. An arrival is undecided if the budget is used up. Fails only
+/// if memory runs out; then some of them may be set.
 pub fn look_further(
     alloc: Global,
     space: &Space,
     config: &Config,
     found: &mut [FoundRoute],
+    budget: &mut Budget,
 ) -> Result<(), AllocError>
     requires routes { AllByRecursion (λ route. IsRoute (config_view config.now) route.path)
         found.old }
@@ -61,7 +65,7 @@ pub fn look_further(
 {
     let table = Table::of(alloc, space, config)?;
     for i in 0..found.len() {
-        look_further_at(alloc, &table, &mut found[i])?;
+        look_further_at(alloc, &table, &mut found[i], budget)?;
     }
     Ok(())
 }
@@ -70,6 +74,7 @@ fn look_further_at(
     alloc: Global,
     table: &Table<'_>,
     route: &mut FoundRoute,
+    budget: &mut Budget,
 ) -> Result<(), AllocError>
     requires knows { KnowsRoutes table.now }
     requires there { IsRoute (table_config table.now) route.old.path }
@@ -77,8 +82,8 @@ fn look_further_at(
     ensures looked { OnOk result (IsLookedAt (table_space table.now) (table_config table.now)
         route.new.path route.new.ordinary route.new.every) }
 {
-    if !route.has_ordinary_end() {
-        route.every = Some(arrival_of(alloc, table, &route.path)?);
+    if route.lacks_ordinary_end() {
+        route.every = Some(arrival_of(alloc, table, &route.path, budget)?);
     }
     Ok(())
 }

@@ -2,10 +2,11 @@
 //!
 //! [`found_routes`] says how the label sets of a space arrive at each route: whether some end there
 //! or enter it, and which routes are to blame if none do. [`look_further`] looks at the same routes
-//! over another space. [`found_receivers`] says which receivers no label set reaches, and
-//! [`push_lint_lines`] adds a line for each finding and note. If one space stands for all ordinary
-//! alerts, whose values are printable ASCII, and the other for all alerts, the findings hold of all
-//! alerts. [`laws`] say that.
+//! over another space. A route is undecided if the budget of its searches is used up.
+//! [`found_receivers`] says which receivers no label set reaches, and [`push_lint_lines`] adds a
+//! line for each finding and note. If one space stands for all ordinary alerts, whose values are
+//! printable ASCII, and the other for all alerts, the findings hold of all alerts. [`laws`] say
+//! that.
 //!
 //! A [`Table`] has the routes of a configuration as cubes, and [`literals_of`] returns what an
 //! alert has to meet to end at one of them. `am_route_alerts` looks at them too.

@@ -7,9 +7,9 @@ ghost use Rattle.am_config.specs.ConfigView.{config_view};
 ghost use Rattle.am_report_texts.specs.LineView.{line_view, pieces_view, route_view};
 ghost use Rattle.am_lint.specs.FoundView.{finding_of, finding_view, said_of, IsShown};
 ghost use Rattle.am_lint.specs.FoundView.{IsShownFinding};
-ghost use Rattle.am_lint.specs.LintLines.{blame_pieces, cause_text, count_pieces, finding_line};
-ghost use Rattle.am_lint.specs.LintLines.{hands_on, having, kind_text, level_of, matchers_at};
-ghost use Rattle.am_lint.specs.LintLines.{only_group, reason_pieces, receiver_kind};
+ghost use Rattle.am_lint.specs.LintLines.{blame_pieces, cause_text, count_pieces, end_pieces};
+ghost use Rattle.am_lint.specs.LintLines.{finding_line, hands_on, having, kind_text, level_of};
+ghost use Rattle.am_lint.specs.LintLines.{matchers_at, only_group, reason_pieces, receiver_kind};
 ghost use Rattle.am_lint.specs.LintLines.{receiver_level, receiver_line, report_lines};
 ghost use Rattle.am_lint.specs.LintLines.{said_lines, shown_route, shown_said, why_pieces};
 
@@ -105,9 +105,7 @@ fn route_line<'a>(
         Piece::Words(": "),
     ]?;
     push_why(alloc, &mut pieces, universe, config, finding)?;
-    if level_of(finding) == Level::Finding {
-        push_below(&mut pieces, count_below(routes, &route.path))?;
-    }
+    push_end(&mut pieces, routes, &route.path, finding)?;
     Ok(Line {
         level: level_of(finding),
         pieces,
@@ -122,6 +120,7 @@ fn kind_text(finding: &RouteFinding<'_>) -> &'static str
         RouteFinding::Dead(_) => "dead",
         RouteFinding::Unusual(_, _) => "unusual",
         RouteFinding::HandsOn(_) => "hands on",
+        RouteFinding::Undecided(_) => "undecided",
     }
 }
 
@@ -129,7 +128,9 @@ fn level_of(finding: &RouteFinding<'_>) -> Level
     ensures { result ≡ level_of (finding_view finding.now) }
 {
     match finding {
-        RouteFinding::Dead(_) | RouteFinding::Unusual(_, _) => Level::Finding,
+        RouteFinding::Dead(_) | RouteFinding::Unusual(_, _) | RouteFinding::Undecided(_) => {
+            Level::Finding
+        }
         RouteFinding::HandsOn(_) => Level::Note,
     }
 }
@@ -158,6 +159,29 @@ fn push_why<'a>(
         RouteFinding::HandsOn(children) => {
             push_blame(alloc, pieces, config, Cause::Taken, children.as_slice())
         }
+        RouteFinding::Undecided(_) => {
+            let word = Shown::Word("it is not known whether an alert ends there");
+            pieces.push(Piece::Value(Field::Reason, word))?;
+            Ok(())
+        }
+    }
+}
+
+/// Adds how many routes stand below a route that no ordinary alert enters.
+fn push_end(
+    pieces: &mut Vec<Piece<'_>>,
+    routes: &[FoundRoute],
+    path: &Path,
+    finding: &RouteFinding<'_>,
+) -> Result<(), AllocError>
+    ensures { OnOk result (pieces_view pieces.new.items ≡ pieces_view pieces.old.items
+        ++ end_pieces (map said_of routes.now) path.now (finding_view finding.now)) }
+{
+    match finding {
+        RouteFinding::Dead(_) | RouteFinding::Unusual(_, _) => {
+            push_below(pieces, count_below(routes, path))
+        }
+        RouteFinding::HandsOn(_) | RouteFinding::Undecided(_) => Ok(()),
     }
 }
 
@@ -265,6 +289,7 @@ fn receiver_kind(finding: ReceiverFinding) -> &'static str
     match finding {
         ReceiverFinding::Unmatched => "unmatched",
         ReceiverFinding::Unusual => "unusual",
+        ReceiverFinding::Undecided => "undecided",
     }
 }
 

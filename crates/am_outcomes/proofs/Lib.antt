@@ -3,6 +3,7 @@ pub mod FirstSteps
 pub mod WayReceivers
 pub mod StepLemmas
 pub mod WalkLemmas
+pub mod MatchedPart
 pub mod WaysFound
 pub mod Gathered
 pub mod LineSteps

@@ -19,7 +19,7 @@ use Rattle.am_outcomes.specs.Configurations.{Tried}
 use Rattle.am_outcomes.specs.declared.steps.Step.{Step}
 use Rattle.am_outcomes.specs.declared.walks.Walk.{Walk}
 use Rattle.am_outcomes.specs.Steps.{AreSteps, GoesFrom, step_after}
-use Rattle.am_outcomes.specs.Walks.{is_on, IsWalk, AreBranches}
+use Rattle.am_outcomes.specs.Walks.{is_on, IsWalk, AreBranches, IsPartOf}
 use Rattle.am_outcomes.specs.Ways.{way_of}
 
 -- ---- One cube more.
@@ -81,8 +81,8 @@ is_itself : (b : Bool) → is_as b b ≡ true
 is_itself true = refl
 is_itself false = refl
 
-module _ (s : Space) (t : Tried) (steps : List Step) (walk : Walk)
-    (k : ℕ) (step : Step) (is : IsWalk s t steps walk) (next : walk.next ≡ k + 1)
+module _ (all s : Space) (t : Tried) (steps : List Step) (walk : Walk)
+    (k : ℕ) (step : Step) (is : IsWalk all s t steps walk) (next : walk.next ≡ k + 1)
     (at : slice_get steps k ≡ Some step) (are : AreSteps steps) where
   -- at the next step of a walk, the cube of the step matches its choices or does not
   record IsDecided (c : List ℕ) : Type 0 where
@@ -113,6 +113,7 @@ module _ (s : Space) (t : Tried) (steps : List Step) (walk : Walk)
     pub to : branch.next ≡ step_after step b
     pub same : (c : List ℕ) → IsChoiceOf s c
         → is_on c branch ≡ (is_on c walk && is_as b (matches step.cube c))
+    pub inside : (c : List ℕ) → is_on c branch ≡ true → is_on c walk ≡ true
     pub within : (c : List ℕ) → IsChoiceOf s c → is_on c branch ≡ true → IsInBox branch.within c
 
   -- a choice of a branch is one of the walk
@@ -130,9 +131,10 @@ module _ (s : Space) (t : Tried) (steps : List Step) (walk : Walk)
   is_nearer : (b : Bool) (branch : Walk) → IsBranch b branch → branch.next < walk.next
   is_nearer b branch it = omega (arith, nearer_if b, it.to, next)
 
-  is_walk : (b : Bool) (branch : Walk) → IsBranch b branch → IsWalk s t steps branch
+  is_walk : (b : Bool) (branch : Walk) → IsBranch b branch → IsWalk all s t steps branch
   is_walk b branch it = record {
     near = omega (arith, nearer_if b, it.to, slice_get_within steps k step at);
+    own = λ c choice on. is.own c choice (it.inside c on);
     within = it.within;
     begun = is.begun ++ b ∷ [];
     goes = λ c choice on.
@@ -144,9 +146,9 @@ module _ (s : Space) (t : Tried) (steps : List Step) (walk : Walk)
           subst (λ (n : ℕ). GoesFrom steps n c d.rest) (ap (step_after step) told.1 ∙ sym it.to)
               d.goes,
         );
-    all = λ c choice rest way.
+    every = λ c choice rest way.
         let longer = way ∙ append_assoc is.begun (b ∷ []) rest in
-        let on = is.all c choice (b ∷ rest) longer in
+        let on = is.every c choice (b ∷ rest) longer in
         let d = decided c choice on in
         let equal : matches step.cube c ∷ d.rest ≡ b ∷ rest =
         append_cancel_left is.begun (matches step.cube c ∷ d.rest) (b ∷ rest)
@@ -169,7 +171,7 @@ module _ (s : Space) (t : Tried) (steps : List Step) (walk : Walk)
   ]
 
   pub one_branch : (b : Bool) (branch : Walk) → AllAre b → IsBranch b branch
-      → AreBranches s t steps walk (branch ∷ [])
+      → AreBranches all s t steps walk (branch ∷ [])
   one_branch b branch each it = record {
     each = (is_walk b branch it, tt);
     nearer = (is_nearer b branch it, tt);
@@ -181,10 +183,11 @@ module _ (s : Space) (t : Tried) (steps : List Step) (walk : Walk)
   -- the walk goes on as it is
   pub whole_branch : (b : Bool) (branch : Walk) → AllAre b → branch.next ≡ step_after step b
       → ((c : List ℕ) → is_on c branch ≡ is_on c walk) → branch.within ≡ walk.within
-      → AreBranches s t steps walk (branch ∷ [])
+      → AreBranches all s t steps walk (branch ∷ [])
   whole_branch b branch each to same box = one_branch b branch each (record {
     to = to;
     same = λ c choice. same c ∙ all_on b each c choice;
+    inside = λ c on. sym (same c) ∙ on;
     within = λ c choice on.
         subst (λ (x : List (List Bool)). IsInBox x c) (sym box)
         (is.within c choice (sym (same c) ∙ on));
@@ -200,7 +203,7 @@ module _ (s : Space) (t : Tried) (steps : List Step) (walk : Walk)
   on_either false matched = omega arith
 
   pub both_branches : (matched unmatched : Walk) → IsBranch true matched
-      → IsBranch false unmatched → AreBranches s t steps walk (matched ∷ unmatched ∷ [])
+      → IsBranch false unmatched → AreBranches all s t steps walk (matched ∷ unmatched ∷ [])
   both_branches matched unmatched one other = record {
     each = (is_walk true matched one, (is_walk false unmatched other, tt));
     nearer = (is_nearer true matched one, (is_nearer false unmatched other, tt));
@@ -213,7 +216,7 @@ module _ (s : Space) (t : Tried) (steps : List Step) (walk : Walk)
 
   -- ---- The cube of the step is wanted, or unwanted.
 
-  module _ (cube : Bor MaskedLabels) (same : cube.now ≡ step.cube) where
+  module _ (part : IsPartOf s all) (cube : Bor MaskedLabels) (same : cube.now ≡ step.cube) where
     wanted_is : (c : List ℕ)
         → meets_cubes (walk.wanted.items ++ cube ∷ []) walk.unwanted.items c
         ≡ (is_on c walk && matches step.cube c)
@@ -240,6 +243,7 @@ module _ (s : Space) (t : Tried) (steps : List Step) (walk : Walk)
         record {
           to = to;
           same = λ c choice. on c;
+          inside = λ c there. (and_parts (is_on c walk) (matches step.cube c) (sym (on c) ∙ there)).0;
           within = λ c choice there.
               let parts = and_parts (is_on c walk) (matches step.cube c) (sym (on c) ∙ there) in
               narrower c (is.within c choice parts.0) (ap (λ m. matches m c) same ∙ parts.1);
@@ -257,6 +261,8 @@ module _ (s : Space) (t : Tried) (steps : List Step) (walk : Walk)
         record {
           to = to;
           same = λ c choice. on c;
+          inside = λ c there.
+              (and_parts (is_on c walk) (not (matches step.cube c)) (sym (on c) ∙ there)).0;
           within = λ c choice there.
               let parts = and_parts (is_on c walk) (not (matches step.cube c))
               (sym (on c) ∙ there) in
@@ -265,18 +271,18 @@ module _ (s : Space) (t : Tried) (steps : List Step) (walk : Walk)
         }
 
     -- the cube matches no choice of the walk, or each
-    pub none_matched : ((c : List ℕ) → IsChoiceOf s c
+    pub none_matched : ((c : List ℕ) → IsChoiceOf all c
         → meets_cubes (walk.wanted.items ++ cube ∷ []) walk.unwanted.items c ≡ false)
         → AllAre false
     none_matched none c choice on =
-        (λ i. sym on i && matches step.cube c) ∙ sym (wanted_is c) ∙ none c choice
+        (λ i. sym on i && matches step.cube c) ∙ sym (wanted_is c) ∙ none c (part c choice)
 
-    pub all_matched : ((c : List ℕ) → IsChoiceOf s c
+    pub all_matched : ((c : List ℕ) → IsChoiceOf all c
         → meets_cubes walk.wanted.items (walk.unwanted.items ++ cube ∷ []) c ≡ false)
         → AllAre true
     all_matched none c choice on =
         let no = (λ i. sym on i && not (matches step.cube c)) ∙ sym (unwanted_is c)
-        ∙ none c choice in
+        ∙ none c (part c choice) in
         is_true (matches step.cube c) no
       where
         is_true : (b : Bool) → not b ≡ false → b ≡ true

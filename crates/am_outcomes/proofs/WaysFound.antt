@@ -11,7 +11,7 @@ use Rattle.std.specs.Cmp.{booleans_Decides}
 use Rattle.std.specs.Cmp.Lexicographic.{pointwise, pointwise_decides, slice_cmp}
 use Rattle.std.specs.Ordering.{nat_cmp, is_lt}
 use Rattle.std.specs.declared.cmp.Ordering.{Ordering}
-use Rattle.std.proofs.lemmas.Bool.{cases_Bool}
+use Rattle.std.proofs.lemmas.Bool.{both_ways, cases_Bool}
 use Rattle.std.proofs.lemmas.Bool.Decides.{same_from_decides}
 use Rattle.std.proofs.lemmas.Cmp.{nat_list_cmp_total}
 use Rattle.std.proofs.lemmas.List.Sorted.{Contains-permutation, IsPermutation-sym, ranks_by}
@@ -22,10 +22,11 @@ use Rattle.std.proofs.lemmas.List.Sums.{sum_by-append, sum_by-cons, count_by-le-
 use Rattle.am_universe.proofs.DistinctLists.{all_pushed}
 use Rattle.am_universe.proofs.ListLemmas.{IsIn, IsIn-from_Contains, Contains-from_IsIn, IsIn-split}
 use Rattle.am_universe.proofs.ListLemmas.{AllByRecursion-each}
+use Rattle.am_universe.specs.LabelSet.{label_set_of}
+use Rattle.am_labels.specs.Matcher.{Matcher, all_hold}
 use Rattle.am_labels.specs.Space.{Space, IsChoiceOf, all_choices}
 use Rattle.am_labels.proofs.SpaceLaws.{space_choices, space_choices_sorted}
-use Rattle.am_judged_lists.specs.Boxes.{IsInBox}
-use Rattle.am_judged_lists.specs.Cube.{MaskedLabels}
+use Rattle.am_judged_lists.specs.Cube.{MaskedLabels, matches}
 use Rattle.am_search.specs.Start.{comes_before}
 use Rattle.am_search.proofs.ChoiceOrder.{Ascends, above_first, ascends_rest, not_itself, not_back}
 use Rattle.am_first_sets.specs.Meeting.{meets_cubes}
@@ -35,9 +36,11 @@ use Rattle.am_outcomes.specs.declared.limits.TheConstants.{MAX_WAYS}
 use Rattle.am_outcomes.specs.declared.steps.Step.{Step}
 use Rattle.am_outcomes.specs.declared.walks.Walk.{Walk}
 use Rattle.am_outcomes.specs.FirstsOfWays.{IsFirstOfWay, AreFirstsOfWays}
+use Rattle.am_outcomes.specs.MatchedPart.{matched_part}
 use Rattle.am_outcomes.specs.Steps.{AreSteps, GoesFrom}
-use Rattle.am_outcomes.specs.Walks.{is_on, IsWalk, AreBranches, AddsBranches}
+use Rattle.am_outcomes.specs.Walks.{is_on, IsWalk, IsPartOf, IsFirstWalk, AreBranches, AddsBranches}
 use Rattle.am_outcomes.specs.Ways.{way_of, HaveDistinctWays, HaveManyWays}
+use Rattle.am_outcomes.proofs.MatchedPart.{choice_of_part, choice_there}
 use Rattle.am_outcomes.proofs.WalkLemmas.{one_if, count_one}
 
 -- ---- Lists.
@@ -162,11 +165,18 @@ module _ (s : Space) (t : Tried) where
 
 -- ---- Walks and what they have found.
 
-module _ (s : Space) (t : Tried) (steps : List Step) where
-  -- Each choice of the space is on one of the walks, or has the way of one of those that are found,
+module _ (all : Space) (ms : List Matcher) (t : Tried) (steps : List Step) where
+  -- the walks go through the part of a space that some matchers match
+  abbrev pub s : Space
+  s = matched_part all ms
+
+  part : IsPartOf s all
+  part c choice = (choice_there all ms c choice).0
+
+  -- Each choice of the part is on one of the walks, or has the way of one of those that are found,
   -- and only once.
   pub record AreWalked (walks : List Walk) (firsts : List (List ℕ)) : Type 0 where
-    pub each : AllByRecursion (IsWalk s t steps) walks
+    pub each : AllByRecursion (IsWalk all s t steps) walks
     pub found : (first : List ℕ) → Contains firsts first → IsFirstOfWay s t first
     pub once : (c : List ℕ) → IsChoiceOf s c
         → count_by (is_on c) walks + count_by (same_way s t c) firsts ≡ 1
@@ -174,43 +184,54 @@ module _ (s : Space) (t : Tried) (steps : List Step) where
   none_there : (x : List ℕ) → Contains [] x → ⊥
   none_there x there = IsIn-from_Contains [] x there
 
-  pub not_started : ((c : List ℕ) → IsChoiceOf s c → meets_cubes [] [] c ≡ false) → AreWalked [] []
-  not_started none = record {
-    each = tt;
-    found = λ x there. absurd (none_there x there);
-    once = λ c choice. let apart : true ≡ false = none c choice in absurd cc;
-  }
+  -- a cube matches exactly the choices of the part
+  module _ (cube : MaskedLabels)
+      (exact : (c : List ℕ) → IsChoiceOf all c
+      → matches cube c ≡ all_hold (label_set_of all.labels c) ms) where
+    matched : (c : List ℕ) → IsChoiceOf s c → matches cube c ≡ true
+    matched c choice = let r = choice_there all ms c choice in exact c r.0 ∙ r.1
 
-  pub started : (walk : Walk) → walk.wanted.items ≡ [] → walk.unwanted.items ≡ []
-      → walk.next ≤ length steps → ((c : List ℕ) → IsChoiceOf s c → IsInBox walk.within c)
-      → ((c : List ℕ) → IsChoiceOf s c → GoesFrom steps walk.next c (way_of s t c))
-      → AreWalked (walk ∷ []) []
-  started walk none_wanted none_unwanted near inside goes =
-      let on : (c : List ℕ) → is_on c walk ≡ true =
-      λ c i. meets_cubes (none_wanted i) (none_unwanted i) c in
-      record {
-        each = (
-          record {
-            near = near;
-            within = λ c choice is. inside c choice;
-            begun = [];
-            goes = λ c choice is. (way_of s t c, refl, goes c choice);
-            all = λ c choice rest way. on c;
-          },
-          tt,
-        );
-        found = λ x there. absurd (none_there x there);
-        once = λ c choice.
-            let one = count_one (is_on c) walk in
-            let is : one_if (is_on c walk) ≡ 1 = ap one_if (on c) in omega (arith, one, is);
-      }
+    pub not_started : ((c : List ℕ) → IsChoiceOf all c → matches cube c ≡ false) → AreWalked [] []
+    not_started none = record {
+      each = tt;
+      found = λ x there. absurd (none_there x there);
+      once = λ c choice.
+          absurd (both_ways (matches cube c) (none c (part c choice)) (matched c choice));
+    }
+
+    pub started : (walk : Walk) → IsFirstWalk all cube (length steps) walk
+        → ((c : List ℕ) → IsChoiceOf s c → GoesFrom steps (length steps) c (way_of s t c))
+        → AreWalked (walk ∷ []) []
+    started walk is goes = record {
+      each = (
+        record {
+          near = omega (arith, is.at);
+          own = λ c choice on.
+              choice_of_part all ms c choice (sym (exact c choice) ∙ sym (is.on c) ∙ on);
+          within = λ c choice on. is.within c (part c choice) (matched c choice);
+          begun = [];
+          goes = λ c choice on. (
+            way_of s t c,
+            refl,
+            subst (λ (n : ℕ). GoesFrom steps n c (way_of s t c)) (sym is.at) (goes c choice),
+          );
+          every = λ c choice rest way. is.on c ∙ matched c choice;
+        },
+        tt,
+      );
+      found = λ x there. absurd (none_there x there);
+      once = λ c choice.
+          let one = count_one (is_on c) walk in
+          let on : one_if (is_on c walk) ≡ 1 = ap one_if (is.on c ∙ matched c choice) in
+          omega (arith, one, on);
+    }
 
   pub branched : (walks : List Walk) (walk : Walk) (branches : List Walk) (firsts : List (List ℕ))
-      → AreWalked (walks ++ walk ∷ []) firsts → AreBranches s t steps walk branches
+      → AreWalked (walks ++ walk ∷ []) firsts → AreBranches all s t steps walk branches
       → AreWalked (walks ++ branches) firsts
   branched walks walk branches firsts so_far are = record {
-    each = all_joined (IsWalk s t steps) walks branches
-        (all_pushed (IsWalk s t steps) walks walk so_far.each).0 are.each;
+    each = all_joined (IsWalk all s t steps) walks branches
+        (all_pushed (IsWalk all s t steps) walks walk so_far.each).0 are.each;
     found = so_far.found;
     once = λ c choice.
         let before = counted_both (is_on c) walks (walk ∷ []) in
@@ -222,23 +243,23 @@ module _ (s : Space) (t : Tried) (steps : List Step) where
   }
 
   pub last_walk : (walks : List Walk) (walk : Walk) (firsts : List (List ℕ))
-      → AreWalked (walks ++ walk ∷ []) firsts → IsWalk s t steps walk
-  last_walk walks walk firsts so_far = (all_pushed (IsWalk s t steps) walks walk so_far.each).1
+      → AreWalked (walks ++ walk ∷ []) firsts → IsWalk all s t steps walk
+  last_walk walks walk firsts so_far = (all_pushed (IsWalk all s t steps) walks walk so_far.each).1
 
   -- ---- The end of a walk.
 
   -- no choice is on it
   pub ended_empty : (walks : List Walk) (walk : Walk) (firsts : List (List ℕ))
-      → AreWalked (walks ++ walk ∷ []) firsts → None ≡ find (λ c. is_on c walk) (all_choices s)
+      → AreWalked (walks ++ walk ∷ []) firsts → None ≡ find (λ c. is_on c walk) (all_choices all)
       → AreWalked walks firsts
   ended_empty walks walk firsts so_far none = record {
-    each = (all_pushed (IsWalk s t steps) walks walk so_far.each).0;
+    each = (all_pushed (IsWalk all s t steps) walks walk so_far.each).0;
     found = so_far.found;
     once = λ c choice.
         let before = counted_both (is_on c) walks (walk ∷ []) in
         let one = count_one (is_on c) walk in
         let off : one_if (is_on c walk) ≡ 0 =
-        ap one_if (none_passes s (λ d. is_on d walk) none c choice) in
+        ap one_if (none_passes all (λ d. is_on d walk) none c (part c choice)) in
         let was = so_far.once c choice in
         omega (arith, before, one, off, was);
   }
@@ -248,8 +269,8 @@ module _ (s : Space) (t : Tried) (steps : List Step) where
   no_way_left c begun [] way goes e = e ∙ append-nil begun
   no_way_left c begun (b ∷ rest) way goes e = absurd (omega (arith, goes.2))
 
-  module _ (walk : Walk) (is : IsWalk s t steps walk) (at_end : walk.next ≡ 0) (x : List ℕ)
-      (first : Some x ≡ find (λ c. is_on c walk) (all_choices s)) where
+  module _ (walk : Walk) (is : IsWalk all s t steps walk) (at_end : walk.next ≡ 0) (x : List ℕ)
+      (first : Some x ≡ find (λ c. is_on c walk) (all_choices all)) where
     its_way : (c : List ℕ) → IsChoiceOf s c → is_on c walk ≡ true → way_of s t c ≡ is.begun
     its_way c choice on =
         let told = is.goes c choice on in
@@ -258,13 +279,13 @@ module _ (s : Space) (t : Tried) (steps : List Step) where
 
     found_there : IsChoiceOf s x × (is_on x walk ≡ true)
     found_there =
-        let r = is_found (λ c. is_on c walk) (all_choices s) x (sym first) in
-        ((space_choices s x).0 (Contains-from_IsIn (all_choices s) x r.0), r.1)
+        let r = is_found (λ c. is_on c walk) (all_choices all) x (sym first) in
+        (is.own x ((space_choices all x).0 (Contains-from_IsIn (all_choices all) x r.0)) r.1, r.1)
 
     on_if_same : (c : List ℕ) → IsChoiceOf s c → way_of s t x ≡ way_of s t c
         → is_on c walk ≡ true
     on_if_same c choice same =
-        is.all c choice []
+        is.every c choice []
         (sym same ∙ its_way x found_there.0 found_there.1 ∙ sym (append-nil is.begun))
 
     on_exactly : (c : List ℕ) → IsChoiceOf s c → same_way s t c x ≡ is_on c walk
@@ -279,8 +300,8 @@ module _ (s : Space) (t : Tried) (steps : List Step) where
     is_first = record {
       choice = found_there.0;
       before = λ c choice same.
-          none_before (λ d. is_on d walk) (all_choices s) x c (space_choices_sorted s) (sym first)
-          (IsIn-from_Contains (all_choices s) c ((space_choices s c).1 choice))
+          none_before (λ d. is_on d walk) (all_choices all) x c (space_choices_sorted all) (sym first)
+          (IsIn-from_Contains (all_choices all) c ((space_choices all c).1 (part c choice)))
           (on_if_same c choice (sym same));
     }
 
@@ -288,7 +309,7 @@ module _ (s : Space) (t : Tried) (steps : List Step) where
     pub ended : (walks : List Walk) (firsts : List (List ℕ))
         → AreWalked (walks ++ walk ∷ []) firsts → AreWalked walks (firsts ++ x ∷ [])
     ended walks firsts so_far = record {
-      each = (all_pushed (IsWalk s t steps) walks walk so_far.each).0;
+      each = (all_pushed (IsWalk all s t steps) walks walk so_far.each).0;
       found = λ y there. elim (IsIn-split firsts (x ∷ []) y
           (IsIn-from_Contains (firsts ++ x ∷ []) y there)) [
             | inl old ↦ so_far.found y (Contains-from_IsIn firsts y old)
@@ -313,17 +334,17 @@ module _ (s : Space) (t : Tried) (steps : List Step) where
     apart_from_it : AreWalked (walks ++ walk ∷ []) firsts
     apart_from_it = subst (λ (ws : List Walk). AreWalked ws firsts) taken so_far
 
-    pub taken_walk : IsWalk s t steps walk
+    pub taken_walk : IsWalk all s t steps walk
     taken_walk = last_walk walks walk firsts apart_from_it
 
     -- it goes on with its branches
     pub gone_on : (new : List Walk) (step : Step) → 0 < walk.next
         → step ≡ get_or steps (walk.next - 1) step → AreSteps steps
-        → AddsBranches s walks walk step new → AreWalked new firsts × (weight new < weight old)
+        → AddsBranches all walks walk step new → AreWalked new firsts × (weight new < weight old)
     gone_on new step more at are adds =
         let near = taken_walk.near in
         let k = walk.next - 1 in
-        let added = adds t steps k taken_walk (omega (arith, more))
+        let added = adds s t steps k part taken_walk (omega (arith, more))
         (slice_get_read steps (length steps) k step refl (omega (arith, more, near)) at) are in (
           subst (λ (ws : List Walk). AreWalked ws firsts) (sym added.1)
               (branched walks walk added.0 firsts apart_from_it added.2),
@@ -333,9 +354,9 @@ module _ (s : Space) (t : Tried) (steps : List Step) where
 
     module _ (wanted unwanted : List (Bor MaskedLabels)) (same : wanted ≡ walk.wanted.items)
         (too : unwanted ≡ walk.unwanted.items) (found : Option (List ℕ))
-        (is : found ≡ find (meets_cubes wanted unwanted) (all_choices s)) where
-      found_on : found ≡ find (λ c. is_on c walk) (all_choices s)
-      found_on = is ∙ (λ i. find (meets_cubes (same i) (too i)) (all_choices s))
+        (is : found ≡ find (meets_cubes wanted unwanted) (all_choices all)) where
+      found_on : found ≡ find (λ c. is_on c walk) (all_choices all)
+      found_on = is ∙ (λ i. find (meets_cubes (same i) (too i)) (all_choices all))
 
       -- it ends with the first of its choices
       pub found_one : (x : List ℕ) → found ≡ Some x → walk.next ≡ 0

@@ -3,8 +3,10 @@ pub mod Handling
 pub mod Outcomes
 pub mod Ways
 pub mod Steps
+pub mod MatchedPart
 pub mod Walks
 pub mod FirstsOfWays
+pub mod OutcomeSearch
 pub mod OutcomeLines
 pub mod Changes
 pub mod ChangeLines

@@ -4,6 +4,7 @@ use Rattle.std.specs.Prelude.{slice_get, Some, if◌then◌else◌}
 use Rattle.std.specs.List.{AllByRecursion, count_by}
 use Rattle.am_labels.specs.Space.{Space, IsChoiceOf}
 use Rattle.am_judged_lists.specs.Boxes.{IsInBox}
+use Rattle.am_judged_lists.specs.Cube.{MaskedLabels, matches}
 use Rattle.am_first_sets.specs.Meeting.{meets_cubes}
 use Rattle.am_outcomes.specs.Configurations.{Tried}
 use Rattle.am_outcomes.specs.declared.steps.Step.{Step}
@@ -15,22 +16,36 @@ use Rattle.am_outcomes.specs.Ways.{way_of}
 abbrev pub is_on : List ℕ → Walk → Bool
 is_on c walk = meets_cubes walk.wanted.items walk.unwanted.items c
 
--- The choices of a walk are those whose ways begin as the walk did. From its next step on, each
--- goes the rest of its way. All of them are in the box of the walk.
-pub record IsWalk (s : Space) (t : Tried) (steps : List Step) (walk : Walk) : Type 0 where
+-- Each choice of a space is one of another.
+abbrev pub IsPartOf : Space → Space → Type 0
+IsPartOf s all = (c : List ℕ) → IsChoiceOf s c → IsChoiceOf all c
+
+-- A walk goes through the choices of `s`, a part of the space `all`. Those that are on it are the
+-- ones whose ways begin as the walk did. From its next step on, each goes the rest of its way. All
+-- of them are in the box of the walk.
+pub record IsWalk (all s : Space) (t : Tried) (steps : List Step) (walk : Walk) : Type 0 where
   pub near : walk.next ≤ length steps
+  pub own : (c : List ℕ) → IsChoiceOf all c → IsTrue (is_on c walk) → IsChoiceOf s c
   pub within : (c : List ℕ) → IsChoiceOf s c → IsTrue (is_on c walk) → IsInBox walk.within c
   pub begun : List Bool
   pub goes : (c : List ℕ) → IsChoiceOf s c → IsTrue (is_on c walk)
       → (rest : List Bool) × (way_of s t c ≡ begun ++ rest) × GoesFrom steps walk.next c rest
-  pub all : (c : List ℕ) → IsChoiceOf s c
+  pub every : (c : List ℕ) → IsChoiceOf s c
       → (rest : List Bool) → way_of s t c ≡ begun ++ rest → IsTrue (is_on c walk)
+
+-- The first walk is at a step, and the choices on it are those that a cube matches.
+pub record IsFirstWalk (all : Space) (cube : MaskedLabels) (next : ℕ) (walk : Walk)
+    : Type 0 where
+  pub at : walk.next ≡ next
+  pub on : (c : List ℕ) → is_on c walk ≡ matches cube c
+  pub within : (c : List ℕ) → IsChoiceOf all c → IsTrue (matches cube c)
+      → IsInBox walk.within c
 
 -- A walk is followed by others, at most two, which are nearer to the end: each of its choices is on
 -- one of them, and no other choice is on any.
-pub record AreBranches (s : Space) (t : Tried) (steps : List Step) (walk : Walk)
+pub record AreBranches (all s : Space) (t : Tried) (steps : List Step) (walk : Walk)
     (branches : List Walk) : Type 0 where
-  pub each : AllByRecursion (IsWalk s t steps) branches
+  pub each : AllByRecursion (IsWalk all s t steps) branches
   pub nearer : AllByRecursion (λ branch. branch.next < walk.next) branches
   pub at_most : length branches ≤ 2
   pub split : (c : List ℕ) → IsChoiceOf s c
@@ -38,7 +53,8 @@ pub record AreBranches (s : Space) (t : Tried) (steps : List Step) (walk : Walk)
 
 -- The walks that were there are followed by the branches of one more.
 abbrev pub AddsBranches : Space → List Walk → Walk → Step → List Walk → Type 0
-AddsBranches s old walk step new =
-    (t : Tried) (steps : List Step) (k : ℕ) → IsWalk s t steps walk → walk.next ≡ k + 1
+AddsBranches all old walk step new =
+    (s : Space) (t : Tried) (steps : List Step) (k : ℕ) → IsPartOf s all
+    → IsWalk all s t steps walk → walk.next ≡ k + 1
     → slice_get steps k ≡ Some step → AreSteps steps
-    → (branches : List Walk) × (new ≡ old ++ branches) × AreBranches s t steps walk branches
+    → (branches : List Walk) × (new ≡ old ++ branches) × AreBranches all s t steps walk branches

@@ -24,9 +24,11 @@ mod ways;
 mod configs;
 mod found;
 mod handling;
+mod outcome_search;
 
 pub use configs::{ActiveSilence, Configs};
-pub use found::{Outcomes, find_outcomes};
+pub use found::Outcomes;
+pub use outcome_search::{OutcomeSearch, find_outcomes};
 
 // The lines of outcomes.
 mod outcome_lines;

@@ -7,10 +7,11 @@
 
 ghost use Rattle.std.specs.Prelude.{◌≡◌, ◌≤◌, ◌++◌, [], List, length, IfOk};
 ghost use Rattle.am_config.specs.RouteView.{route_view};
+ghost use Rattle.am_outcomes.specs.Configurations.{configurations_of, tried_of};
 ghost use Rattle.am_outcomes.specs.OutcomesView.{tried_view};
 ghost use Rattle.am_outcomes.specs.Steps.{AreSteps, GoesThrough, GoesPast};
 
-use crate::configs::ActiveSilence;
+use crate::configs::{ActiveSilence, Configs};
 use am_config::{Config, Route};
 use am_judged_lists::Cube;
 use am_universe::Universe;
@@ -27,12 +28,36 @@ pub(crate) struct Step {
     pub(crate) unmatched: usize,
 }
 
+/// Makes the steps of all that is tried for an outcome, as [`steps_of`] does.
+pub(crate) fn steps_for(
+    alloc: Global,
+    universe: &Universe,
+    configs: Configs<'_>,
+) -> Result<Vec<Step>, AllocError>
+    ensures steps { IfOk result (λ made. AreSteps made.items) }
+    ensures goes { IfOk result (λ made. GoesThrough universe.now
+        (tried_of (configurations_of configs.entry)) made.items (length made.items)) }
+{
+    match configs {
+        Configs::One(config) | Configs::Ends(config) => steps_of(alloc, universe, &[config], &[]),
+        Configs::Pair(old, new) => steps_of(alloc, universe, &[old, new], &[]),
+        Configs::Silenced(config, silences) => steps_of(alloc, universe, &[config], silences),
+        Configs::Matched(matchers) => {
+            let list = ActiveSilence {
+                position: 0,
+                matchers,
+            };
+            steps_of(alloc, universe, &[], &[list])
+        }
+    }
+}
+
 /// Makes the steps of the routes of some configurations and of some silences. From the last of them
 /// on, an alert goes its way through the routes and then through the silences.
 ///
 /// A step is named by its position plus one, and 0 is the end. What comes after a step stands
 /// before it. Fails only if memory runs out.
-pub(crate) fn steps_of(
+fn steps_of(
     alloc: Global,
     universe: &Universe,
     configs: &[&Config],

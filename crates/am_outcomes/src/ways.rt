@@ -9,43 +9,50 @@
 
 ghost use Rattle.std.specs.Prelude.{◌≡◌, List, length, IfOk, IfSome, IfNone};
 ghost use Rattle.std.specs.List.Sorted.{IsSortedBy};
+ghost use Rattle.am_labels.specs.Matcher.{Matcher};
 ghost use Rattle.am_search.specs.Start.{comes_before};
+ghost use Rattle.am_judged_lists.specs.Cube.{IsCubeOf};
 ghost use Rattle.am_first_sets.specs.PossibleSets.{possible_space};
 ghost use Rattle.am_outcomes.specs.Configurations.{Tried};
-ghost use Rattle.am_outcomes.specs.OutcomesView.{tried_view};
 ghost use Rattle.am_outcomes.specs.FirstsOfWays.{AreFirstsOfWays};
+ghost use Rattle.am_outcomes.specs.MatchedPart.{matched_part};
 ghost use Rattle.am_outcomes.specs.Steps.{AreSteps, GoesThrough};
 ghost use Rattle.am_outcomes.specs.Ways.{HaveManyWays};
 
-use crate::configs::ActiveSilence;
 use crate::limits::MAX_WAYS;
-use crate::steps::{Step, steps_of};
+use crate::steps::Step;
 use crate::walks::Walk;
-use am_config::Config;
-use am_first_sets::PossibleSets;
-use am_judged_lists::PositionBox;
-use am_labels::Space;
+use am_first_sets::{Budget, PossibleSets, Unfinished};
+use am_judged_lists::Cube;
+use am_labels::Matchers;
 use am_universe::{Choice, Universe};
-use std::alloc::{AllocError, Global};
+use std::alloc::Global;
 
-/// Finds the first choice of each way through the routes of some configurations and some silences,
-/// in declared order. Returns `None` if there are too many ways. Fails only if memory runs out.
+/// Finds the first choice of each way through some steps, in declared order. Only those choices
+/// count whose label sets match some matchers. Returns `None` if there are too many ways. Fails if
+/// the budget is used up or memory runs out.
 pub(crate) fn firsts_of_ways(
     alloc: Global,
-    space: &Space,
-    configs: &[&Config],
-    silences: &[ActiveSilence<'_>],
-) -> Result<Option<Vec<Choice>>, AllocError>
-    ensures firsts { IfOk result (λ found. IfSome found (λ firsts.
-        AreFirstsOfWays space.now (tried_view configs.now silences.now) firsts.items)) }
+    universe: &Universe,
+    possible: &PossibleSets<'_>,
+    steps: &[Step],
+    among: &Matchers,
+    budget: &mut Budget,
+) -> Result<Option<Vec<Choice>>, Unfinished>
+    requires labels { universe.now ≡ (possible_space possible.now).labels }
+    requires steps { AreSteps steps.now }
+    requires goes { (t : Tried) × GoesThrough universe.now t steps.now (length steps.now) }
+    ensures firsts { IfOk result (λ found. IfSome found (λ firsts. (t : Tried)
+        → GoesThrough universe.now t steps.now (length steps.now)
+        → AreFirstsOfWays (matched_part (possible_space possible.now) among.now) t firsts.items)) }
     ensures sorted { IfOk result (λ found. IfSome found (λ firsts.
         IsSortedBy comes_before firsts.items)) }
-    ensures many { IfOk result (λ found. IfNone found
-        (HaveManyWays space.now (tried_view configs.now silences.now))) }
+    ensures many { IfOk result (λ found. IfNone found ((t : Tried)
+        → GoesThrough universe.now t steps.now (length steps.now)
+        → HaveManyWays (matched_part (possible_space possible.now) among.now) t)) }
 {
-    let possible = PossibleSets::of(alloc, space)?;
-    let steps = steps_of(alloc, space.universe(), configs, silences)?;
-    let found = unsorted_firsts(alloc, space.universe(), &possible, steps.as_slice())?;
+    let cube = Cube::of(alloc, among, universe)?;
+    let found = unsorted_firsts(alloc, universe, possible, steps, &cube, budget)?;
     let Some(mut firsts) = found else {
         return Ok(None);
     };
@@ -53,42 +60,43 @@ pub(crate) fn firsts_of_ways(
     Ok(Some(firsts))
 }
 
-/// The same in any order, by the steps.
-fn unsorted_firsts(
+/// The same in any order, for the cube of the matchers. To the budget, each step of a walk is an
+/// item of its own.
+fn unsorted_firsts<'a>(
     alloc: Global,
     universe: &Universe,
     possible: &PossibleSets<'_>,
-    steps: &[Step],
-) -> Result<Option<Vec<Choice>>, AllocError>
+    steps: &'a [Step],
+    cube: &'a Cube,
+    budget: &mut Budget,
+) -> Result<Option<Vec<Choice>>, Unfinished>
     requires labels { universe.now ≡ (possible_space possible.now).labels }
     requires steps { AreSteps steps.now }
     requires goes { (t : Tried) × GoesThrough universe.now t steps.now (length steps.now) }
-    ensures firsts { IfOk result (λ found. IfSome found (λ firsts. (t : Tried)
+    requires cube { (ms : List Matcher) × IsCubeOf universe.now ms cube.now }
+    ensures firsts { IfOk result (λ found. IfSome found (λ firsts. (t : Tried) (ms : List Matcher)
         → GoesThrough universe.now t steps.now (length steps.now)
-        → AreFirstsOfWays (possible_space possible.now) t firsts.items)) }
-    ensures many { IfOk result (λ found. IfNone found ((t : Tried)
+        → IsCubeOf universe.now ms cube.now
+        → AreFirstsOfWays (matched_part (possible_space possible.now) ms) t firsts.items)) }
+    ensures many { IfOk result (λ found. IfNone found ((t : Tried) (ms : List Matcher)
         → GoesThrough universe.now t steps.now (length steps.now)
-        → HaveManyWays (possible_space possible.now) t)) }
+        → IsCubeOf universe.now ms cube.now
+        → HaveManyWays (matched_part (possible_space possible.now) ms) t)) }
 {
     let mut walks = Vec::new(alloc);
-    if let Some(some) = possible.some_meeting(alloc, &[], &[])? {
-        walks.push(Walk {
-            next: steps.len(),
-            wanted: Vec::new(alloc),
-            unwanted: Vec::new(alloc),
-            within: PositionBox::all(alloc, universe)?,
-            some,
-        })?;
+    if let Some(start) = Walk::first(alloc, universe, possible, cube, steps.len(), budget)? {
+        walks.push(start)?;
     }
     let mut firsts = Vec::new(alloc);
     while let Some(walk) = walks.pop() {
+        budget.begin_item();
         if walk.next > 0 {
             let step = &steps[walk.next - 1];
-            walk.push_branches(alloc, possible, step, &mut walks)?;
+            walk.push_branches(alloc, possible, step, &mut walks, budget)?;
             continue;
         }
         let (wanted, unwanted) = (walk.wanted.as_slice(), walk.unwanted.as_slice());
-        if let Some(first) = possible.first_meeting(alloc, wanted, unwanted)? {
+        if let Some(first) = possible.first_meeting(alloc, wanted, unwanted, budget)? {
             if firsts.len() >= MAX_WAYS {
                 return Ok(None);
             }

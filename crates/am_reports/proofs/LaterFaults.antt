@@ -28,6 +28,7 @@ use Rattle.am_reports.specs.RoutingLabels.{asks_of, first_place}
 use Rattle.am_reports.specs.ReportInputs.{ReportInputs, AcceptsReportInputs}
 use Rattle.am_reports.specs.CompareInputs.{CompareInputs, AcceptsCompareInputs}
 use Rattle.am_reports.specs.Made.{IsMadeRefusal, IsDeclaredRefusal}
+use Rattle.am_reports.specs.CutOff.{IsCutOff, routes_file}
 use Rattle.am_reports.specs.LaterStages.{IsOutcomesRefusal}
 use Rattle.am_reports.specs.OutcomesReport.{outcomes_promise, RefusesOutcomes}
 use Rattle.am_reports.specs.AskedReceivers.{ArePositions, IsUnknownReceiver, receivers_stage}
@@ -77,22 +78,34 @@ declared_in a s k place r found = elim found.refused [
       (first_in k undecided.0.name undecided.0.first)
 ]
 
+-- the file whose routes are named is one of the places
+cut_in : (k : Configurations) (place : Place) (r : Refusal) → IsCutOff (routes_file k) [] place r
+    → IsIn matcher_places place
+cut_in (One c) place r cut = inr (inl (sym cut.place_is))
+cut_in (Pair old new) place r cut = inr (inr (inr (inl (sym cut.place_is))))
+cut_in (Silenced c silences) place r cut = inr (inl (sym cut.place_is))
+cut_in (Ends c) place r cut = inr (inl (sym cut.place_is))
+cut_in (Matched ms) place r cut = inr (inl (sym cut.place_is))
+
 outcomes_in : (a : Alphabet) (s : Space) (k : Configurations) (place : Place) (r : Refusal)
     → IsOutcomesRefusal a s k place r → IsIn matcher_places place
 outcomes_in a s k place r (inl declared) = declared_in a s k place r declared
 outcomes_in a s k place r (inr (whole, inl made)) = made_in a s.impossible k place r made
-outcomes_in a s k place r (inr (whole, inr many)) = inl (sym many.0)
+outcomes_in a s k place r (inr (whole, inr (inl many))) = inl (sym many.0)
+outcomes_in a s k place r (inr (whole, inr (inr cut))) = cut_in k place r cut
 
 unmade_in : (a : Alphabet) (s : Space) (c : Configuration) (place : Place) (r : Refusal)
     → IsUnmadeRefusal a s c place r → IsIn matcher_places place
 unmade_in a s c place r (inl declared) = declared_in a s (One c) place r declared
-unmade_in a s c place r (inr (whole, made)) = made_in a s.impossible (One c) place r made
+unmade_in a s c place r (inr (whole, inl made)) = made_in a s.impossible (One c) place r made
+unmade_in a s c place r (inr (whole, inr cut)) = inr (inl (sym cut.1.place_is))
 
 rules_in : (a : Alphabet) (s : Space) (k : Configurations) (rules : List AlertingRule)
     (place : Place) (r : Refusal) → IsRulesRefusal a s k rules place r → IsIn matcher_places place
 rules_in a s k rules place r (inl declared) = declared_in a s k place r declared
 rules_in a s k rules place r (inr (whole, inl made)) = made_in a s.impossible k place r made
-rules_in a s k rules place r (inr (whole, inr many)) = inl (sym many.0)
+rules_in a s k rules place r (inr (whole, inr (inl many))) = inl (sym many.0)
+rules_in a s k rules place r (inr (whole, inr (inr cut))) = cut_in k place r cut
 
 reach_in : (a : Alphabet) (s : Space) (c : Configuration) (alerting : Option (List AlertingRule))
     (place : Place) (r : Refusal) → IsReachRefusal a s c alerting place r

@@ -69,7 +69,7 @@ module _ (a : Alphabet) (lists : List (List Matcher)) (k : Configurations) (u : 
           kept = many.kept;
           narrows = rule.2;
           many = subst
-              (λ (t : Space). HaveManyWays (space_of t.impossible (narrowed t.labels many.kept)) (tried_of k))
+              (λ (t : Space). HaveManyWays (narrowed t many.kept) (tried_of k))
               is many.many;
           refusal = refusal;
         }

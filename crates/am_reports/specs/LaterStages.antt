@@ -1,5 +1,5 @@
 -- What may be refused after the inputs are read, if outcomes are found. (This project's own.)
-use Rattle.std.specs.Prelude.{◌≡◌, ◌⊎◌, List}
+use Rattle.std.specs.Prelude.{◌≡◌, ◌⊎◌, List, []}
 use Rattle.am_universe.specs.declared.kind.Kind.TheVariants as kinds
 use Rattle.am_universe.specs.declared.place.Place.{Place}
 use Rattle.am_universe.specs.declared.place.Place.TheVariants as places
@@ -11,6 +11,7 @@ use Rattle.am_classes.specs.declared.alphabet.Alphabet.{Alphabet}
 use Rattle.am_every_alert.specs.Deciding.{space_of}
 use Rattle.am_outcomes.specs.Ways.{HaveManyWays}
 use Rattle.am_outcomes.specs.Configurations.{Configurations, tried_of}
+use Rattle.am_reports.specs.CutOff.{IsCutOff, routes_file}
 use Rattle.am_reports.specs.Made.{StandsForAll, IsDeclaredRefusal, IsMadeRefusal, AreDeclaredWhole}
 
 -- A universe can be made, but with it there are more ways through the routes than there is room
@@ -27,7 +28,8 @@ pub record TooManyWaysFor (a : Alphabet) (lists : List (List Matcher)) (k : Conf
   pub refusal : r ≡ refusal_here kinds.Limit
 
 -- What is said is refused at this place for a label that the universe file declares; or no such
--- label lacks a value, and no universe can be made, or there are too many ways.
+-- label lacks a value, and no universe can be made, or there are too many ways, or the search for
+-- them was cut off.
 -- Source: own choice.
 -- Example: if the universe file lacks a value of a label, and there is no room for the labels that
 -- the routes ask about, the refusal is `incomplete`.
@@ -36,4 +38,5 @@ IsOutcomesRefusal a s k place r =
     IsDeclaredRefusal a s k place r
     ⊎ (AreDeclaredWhole a s k s.labels
     × (IsMadeRefusal a s.impossible k place r
-    ⊎ ((place ≡ places.Universe) × TooManyWaysFor a s.impossible k r)))
+    ⊎ (((place ≡ places.Universe) × TooManyWaysFor a s.impossible k r)
+    ⊎ IsCutOff (routes_file k) [] place r)))

@@ -1,3 +1,4 @@
+pub mod CutOff
 pub mod RoutingLabels
 pub mod RulesFile
 pub mod ReportInputs

@@ -1,6 +1,7 @@
 -- What `routes` owes. (This project's own.)
 use Rattle.std.specs.Prelude.{◌⊎◌, ℕ, List, ◌∷◌, ◌++◌, Option, ⊤}
 use Rattle.am_universe.specs.declared.place.Place.{Place}
+use Rattle.am_universe.specs.declared.place.Place.TheVariants as places
 use Rattle.am_labels.specs.Space.{Space}
 use Rattle.am_json.specs.Pointer.{Refusal}
 use Rattle.am_config.specs.ConfigFile.{Configuration}
@@ -16,6 +17,7 @@ use Rattle.am_route_alerts.specs.RouteAlerts.{RouteAlerts, AreRouteAlerts}
 use Rattle.am_route_alerts.specs.RouteLines.{routes_report}
 use Rattle.am_reports.specs.ReportInputs.{ReportInputs, AcceptsReportInputs, report_input_stages}
 use Rattle.am_reports.specs.AskedReceivers.{AreAsked, receivers_stage}
+use Rattle.am_reports.specs.CutOff.{IsCutOff}
 use Rattle.am_reports.specs.Made.{AreDeclaredWhole, IsDeclaredRefusal, IsMadeRefusal}
 
 -- The text is a report of which alerts end at each route, for the alerts of a space over an
@@ -47,14 +49,16 @@ pub record ReportsRoutes (inputs : ReportInputs) (names : List (List ℕ)) (repo
   pub reports : IsEndsReport inputs.alphabet space configuration names inputs.form report
 
 -- What is said is refused at this place for a label that the universe file declares; or no such
--- label lacks a value, and no universe can be made.
+-- label lacks a value, and no universe can be made, or the search was cut off at a route.
 -- Source: own choice.
 -- Example: if the universe file lacks a value of a label, and there is no room for the labels that
 -- the routes ask about, the refusal is `incomplete`.
 abbrev pub IsUnmadeRefusal : Alphabet → Space → Configuration → Place → Refusal → Type 0
 IsUnmadeRefusal a s c place r =
     IsDeclaredRefusal a s (One c) place r
-    ⊎ (AreDeclaredWhole a s (One c) s.labels × IsMadeRefusal a s.impossible (One c) place r)
+    ⊎ (AreDeclaredWhole a s (One c) s.labels
+    × (IsMadeRefusal a s.impossible (One c) place r
+    ⊎ ((path : List ℕ) × IsCutOff places.Config path place r)))
 
 -- The inputs are accepted, and what they say is refused at this place.
 abbrev pub RefusesRoutes : ReportInputs → Place → Refusal → Type 0

@@ -1,6 +1,6 @@
 -- The outcomes of the alerts of alerting rules that count, and why there are none. (This project's
 -- own.)
-use Rattle.std.specs.Prelude.{◌≡◌, ◌⊎◌, ℕ, List, map, Option, Some, option_map, Contains}
+use Rattle.std.specs.Prelude.{◌≡◌, ◌⊎◌, ℕ, List, [], map, Option, Some, option_map, Contains}
 use Rattle.am_universe.specs.declared.kind.Kind.TheVariants as kinds
 use Rattle.am_universe.specs.declared.place.Place.{Place}
 use Rattle.am_universe.specs.declared.place.Place.TheVariants as places
@@ -16,6 +16,7 @@ use Rattle.am_outcomes.specs.Ways.{HaveManyWays}
 use Rattle.am_rule_outcomes.specs.Narrowing.{narrowed, rule_narrowing}
 use Rattle.am_rule_outcomes.specs.Narrowed.{Narrowed, narrowed_outcomes}
 use Rattle.am_reports.specs.RoutingLabels.{labels_of_routes}
+use Rattle.am_reports.specs.CutOff.{IsCutOff, routes_file}
 use Rattle.am_reports.specs.Made.{StandsForAll, IsDeclaredRefusal, IsMadeRefusal, AreDeclaredWhole}
 
 -- The outcomes of rules are found over a universe that stands for every alert, and is narrowed to
@@ -40,11 +41,12 @@ pub record TooManyWaysForRule (a : Alphabet) (lists : List (List Matcher)) (k : 
   pub one : Contains rules rule
   pub kept : List (Option ℕ)
   pub narrows : rule_narrowing a (labels_of_routes k lists) labels rule ≡ Some kept
-  pub many : HaveManyWays (space_of lists (narrowed labels kept)) (tried_of k)
+  pub many : HaveManyWays (narrowed (space_of lists labels) kept) (tried_of k)
   pub refusal : r ≡ refusal_here kinds.Limit
 
 -- What is said is refused at this place for a label that the universe file declares; or no such
--- label lacks a value, and no universe can be made, or there are too many ways for a rule.
+-- label lacks a value, and no universe can be made, or there are too many ways for a rule, or the
+-- search for them was cut off.
 -- Source: own choice.
 -- Example: if the universe file lacks a value of a label, and there is no room for the labels that
 -- the routes ask about, the refusal is `incomplete`.
@@ -54,4 +56,5 @@ IsRulesRefusal a s k rules place r =
     IsDeclaredRefusal a s k place r
     ⊎ (AreDeclaredWhole a s k s.labels
     × (IsMadeRefusal a s.impossible k place r
-    ⊎ ((place ≡ places.Universe) × TooManyWaysForRule a s.impossible k rules r)))
+    ⊎ (((place ≡ places.Universe) × TooManyWaysForRule a s.impossible k rules r)
+    ⊎ IsCutOff (routes_file k) [] place r)))

@@ -6,7 +6,7 @@
 //! choice is an alert. The labels are in the order in which the files first ask about them, the
 //! old configuration before the new one.
 
-ghost use Rattle.std.specs.Prelude.{◌≡◌, ◌≢◌, IfOk, IfErr, OnOk};
+ghost use Rattle.std.specs.Prelude.{◌≡◌, ◌≢◌, ◌⊎◌, [], IfOk, IfErr, OnOk};
 ghost use Rattle.am_universe.specs.declared.kind.Kind.TheVariants as kinds;
 ghost use Rattle.am_universe.specs.declared.place.Place.TheVariants as places;
 ghost use Rattle.am_json.specs.Pointer.{refusal_here};
@@ -16,10 +16,13 @@ ghost use Rattle.am_outcomes.specs.Outcomes.{outcomes_of};
 ghost use Rattle.am_outcomes.specs.Ways.{HaveManyWays};
 ghost use Rattle.am_reports.specs.Made.{AreDeclaredWhole};
 ghost use Rattle.am_reports.specs.AllOutcomes.{AreAllOutcomes};
+ghost use Rattle.am_reports.specs.CutOff.{IsCutOff, routes_file};
 ghost use Rattle.am_reports.specs.LaterStages.{IsOutcomesRefusal};
 
+use crate::cut_off::routes_cut_off;
 use crate::made::{check_declared, universe_for_routes};
 use am_classes::Alphabet;
+use am_first_sets::{Budget, Unfinished};
 use am_labels::Space;
 use am_outcomes::{Configs, Outcomes, find_outcomes};
 use am_universe::{Fault, Kind, Place, Universe};
@@ -30,7 +33,8 @@ use std::alloc::Global;
 /// have the outcomes.
 ///
 /// Fails as [`check_declared`] and [`universe_for_routes`] do; then with `Limit`, at `Universe`, if
-/// there are more ways through the routes than there is room for; and with `Memory`.
+/// there are more ways through the routes than there is room for, or with the pointer of the
+/// top-level route, if the search was cut off; and with `Memory`.
 pub(crate) fn all_outcomes(
     alloc: Global,
     alphabet: Alphabet,
@@ -55,7 +59,7 @@ pub(crate) fn all_outcomes(
 /// Finds the outcomes of the choices of a space.
 ///
 /// Fails with `Limit`, at `Universe`, if there are more ways through the routes than there is room
-/// for, and with `Memory`.
+/// for, or with the pointer of the top-level route, if the search was cut off; and with `Memory`.
 fn outcomes_of_choices(
     alloc: Global,
     space: &Space,
@@ -64,13 +68,16 @@ fn outcomes_of_choices(
     ensures outcomes { IfOk result (λ outcomes.
         outcomes ≡ outcomes_of space.now (configurations_of configs.entry)) }
     ensures refused { IfErr result (λ fault. fault.kind ≢ kinds.Memory
-        → (fault.place ≡ places.Universe)
+        → ((fault.place ≡ places.Universe)
         × HaveManyWays space.now (tried_of (configurations_of configs.entry))
-        × (refusal_of fault ≡ refusal_here kinds.Limit)) }
+        × (refusal_of fault ≡ refusal_here kinds.Limit))
+        ⊎ IsCutOff (routes_file (configurations_of configs.entry)) [] fault.place
+        (refusal_of fault)) }
 {
-    match find_outcomes(alloc, space, configs) {
+    match find_outcomes(alloc, space, configs, &mut Budget::limited()) {
         Ok(Some(found)) => Ok(found),
         Ok(None) => Err(Fault::at(alloc, Kind::Limit, Place::Universe)),
-        Err(_) => Err(Fault::memory(alloc)),
+        Err(Unfinished::Memory) => Err(Fault::memory(alloc)),
+        Err(Unfinished::UsedUp(evidence)) => Err(routes_cut_off(alloc, configs, &evidence)),
     }
 }

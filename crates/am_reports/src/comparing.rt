@@ -25,6 +25,7 @@ use crate::rules_outcomes::outcomes_of_all_rules;
 use am_alerting_rules::AlertingRule;
 use am_classes::Alphabet;
 use am_config::Config;
+use am_first_sets::Budget;
 use am_labels::Space;
 use am_outcomes::{Configs, ShownChange, compare_changes, shown_changes};
 use am_report_texts::{Form, written};
@@ -55,8 +56,8 @@ use std::alloc::{AllocError, Global};
 /// - at `Rules`, those of `read_alerting_rules`;
 /// - what [`outcomes`](crate::outcomes()) refuses after reading its files, with a route of the old
 ///   configuration at `Old` and one of the new configuration at `New`; if routes of both ask about
-///   a label, the old configuration asks about it first; with alerting rules, the ways are those of
-///   the alerts of one rule;
+///   a label, the old configuration asks about it first; a search that is cut off is refused at
+///   `New`; with alerting rules, the ways are those of the alerts of one rule;
 /// - `Write`.
 ///
 /// `Memory` may come at any point. After any fault but `Write` the sink is unchanged; after `Write`
@@ -151,7 +152,9 @@ fn comparison_of_rules(
         → IsRulesRefusal alphabet space.old (Pair (config_view old.now) (config_view new.now))
         rules.now fault.place (refusal_of fault)) }
 {
-    let found = outcomes_of_all_rules(alloc, alphabet, space, Configs::Pair(old, new), rules)?;
+    let mut budget = Budget::limited();
+    let configs = Configs::Pair(old, new);
+    let found = outcomes_of_all_rules(alloc, alphabet, space, configs, rules, &mut budget)?;
     let Ok(changes) = changes_of_rules(alloc, old, new, rules, &found) else {
         return Err(Fault::memory(alloc));
     };

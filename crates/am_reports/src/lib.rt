@@ -22,6 +22,7 @@ pub use world_inputs::WorldInputs;
 // The universes that stand for the alerts, and the outcomes.
 mod all_outcomes;
 mod configs;
+mod cut_off;
 mod made;
 
 // The receivers that are asked about, the silences that are active, and the outcomes of rules.

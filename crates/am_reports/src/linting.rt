@@ -27,6 +27,7 @@ use am_alerting_rules::AlertingRule;
 use am_classes::Alphabet;
 use am_eval::World;
 use am_firing::{Reached, Whose, push_firing_lines, push_unreached};
+use am_first_sets::Budget;
 use am_idle::{RuleFinding, SilenceFinding};
 use am_labels::Space;
 use am_lint::{count_pieces, push_lint_lines};
@@ -64,6 +65,8 @@ use std::alloc::{AllocError, Global};
 ///   `Silences` and with the pointer of the first such silence that is not over;
 /// - `Limit`, at `Universe` and with no pointer, if for the alerts of an alerting rule there are
 ///   more ways through the routes than there is room for;
+/// - `Limit`, at `Config` and with the pointer of the top-level route, if the search for where the
+///   alerts of alerting rules end was cut off;
 /// - `Write`.
 ///
 /// `Memory` may come at any point. After any fault but `Write` the sink is unchanged; after `Write`
@@ -121,10 +124,12 @@ fn lint_report(
 {
     check_declared(alloc, alphabet, space, Configs::One(world.config()))?;
     space.undeclare(alloc);
-    let routes = route_findings(alloc, alphabet, space, world.config())?;
-    let rules = rule_findings(alloc, alphabet, space, world.config().rules())?;
-    let silences = silence_findings(alloc, alphabet, space, world, alerts)?;
-    let reached = reached_if_any(alloc, alphabet, space, world.config(), alerting)?;
+    let mut budget = Budget::limited();
+    let budget = &mut budget;
+    let routes = route_findings(alloc, alphabet, space, world.config(), budget)?;
+    let rules = rule_findings(alloc, alphabet, space, world.config().rules(), budget)?;
+    let silences = silence_findings(alloc, alphabet, space, world, alerts, budget)?;
+    let reached = reached_if_any(alloc, alphabet, space, world.config(), alerting, budget)?;
     let found = Findings {
         routes,
         rules,

@@ -22,6 +22,7 @@ use am_classes::Alphabet;
 use am_complete::Origin;
 use am_config::Rule;
 use am_eval::World;
+use am_first_sets::Budget;
 use am_idle::{
     RuleFinding, SilenceFinding, find_rules, find_silences, push_rule_line, push_silence_line,
 };
@@ -41,6 +42,7 @@ pub(crate) fn rule_findings(
     alphabet: Alphabet,
     space: &mut Space,
     rules: &[Rule],
+    budget: &mut Budget,
 ) -> Result<Vec<Option<RuleFinding>>, Fault>
     requires { space.old.labels ≡ [] }
     ensures found { IfOk result (λ found.
@@ -50,7 +52,7 @@ pub(crate) fn rule_findings(
     ensures refused { IfErr result (λ fault. fault.kind ≢ kinds.Memory
         → IsRulesRefusal alphabet space.old rules.now fault.place (refusal_of fault)) }
 {
-    match find_rules(alloc, alphabet, space, rules) {
+    match find_rules(alloc, alphabet, space, rules, budget) {
         Ok(found) => Ok(found),
         Err(fault) => Err(fault_at(
             alloc,
@@ -91,6 +93,7 @@ pub(crate) fn silence_findings(
     space: &mut Space,
     world: &World,
     alerts: Option<&Alerts>,
+    budget: &mut Budget,
 ) -> Result<Vec<Option<SilenceFinding>>, Fault>
     requires { space.old.labels ≡ [] }
     ensures found { IfOk result (λ found. AllZip
@@ -101,7 +104,7 @@ pub(crate) fn silence_findings(
     ensures refused { IfErr result (λ fault. fault.kind ≢ kinds.Memory
         → IsSilencesRefusal alphabet space.old world.now fault.place (refusal_of fault)) }
 {
-    match find_silences(alloc, alphabet, space, world, alerts) {
+    match find_silences(alloc, alphabet, space, world, alerts, budget) {
         Ok(found) => Ok(found),
         Err(fault) => Err(fault_at(
             alloc,
@@ -124,14 +127,14 @@ pub(crate) fn push_silences<'a>(
         ≡ map line_view lines.old.items ++ each_lines silence_lines silences.now found.now) }
 {
     for (i, finding) in found.iter().enumerate() {
-        push_silence_line(alloc, lines, i, silences.get(i), *finding)?;
+        push_silence_line(alloc, lines, i, silences.get(i), finding)?;
     }
     Ok(())
 }
 
-/// The fault of matchers for which there is no room in a universe. It is `Memory` if `kind` is not
-/// `Limit`, or if memory runs out here.
-fn fault_at(alloc: Global, kind: Kind, place: Place, origin: &Origin) -> Fault
+/// The fault of a limit at what asks about labels. It is `Memory` if `kind` is not `Limit`, or if
+/// memory runs out here.
+pub(crate) fn fault_at(alloc: Global, kind: Kind, place: Place, origin: &Origin) -> Fault
     ensures refusal { result.kind ≢ kinds.Memory → (result.place ≡ place)
         × (refusal_of result ≡ record { kind = kind; pointer = origin_pointer origin.now }) }
     ensures kind { result.kind ≢ kinds.Memory → kind ≢ kinds.Memory }

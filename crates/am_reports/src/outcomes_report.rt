@@ -32,6 +32,8 @@ use std::alloc::Global;
 ///   about a label, if the classes of the label could not be computed;
 /// - `Limit`, at `Universe` and with no pointer, if there are more ways through the routes than
 ///   there is room for;
+/// - `Limit`, at `Config` and with the pointer of the top-level route, if the search for them was
+///   cut off: it looked at as many masks as the limits of am_first_sets allow;
 /// - `Write`.
 ///
 /// `Memory` may come at any point. After any fault but `Write` the sink is unchanged; after `Write`

@@ -20,6 +20,7 @@ ghost use Rattle.am_reports.specs.Made.{alphabet_over};
 use crate::made::universe_for_routes;
 use am_classes::Alphabet;
 use am_config::Config;
+use am_first_sets::Budget;
 use am_labels::Space;
 use am_lint::{FoundRoute, ReceiverFinding, found_receivers, found_routes, look_further};
 use am_outcomes::Configs;
@@ -42,6 +43,7 @@ pub(crate) fn route_findings(
     alphabet: Alphabet,
     space: &mut Space,
     config: &Config,
+    budget: &mut Budget,
 ) -> Result<RouteFindings, Fault>
     requires { space.old.labels ≡ [] }
     ensures says { IfOk result (λ found. SaysOfAllRoutes alphabet space.old
@@ -60,7 +62,7 @@ pub(crate) fn route_findings(
 {
     let every = every_universe(alloc, alphabet, space, config)?;
     let ordinary = universe_for_routes(alloc, Alphabet::Ascii, space, Configs::One(config))?;
-    match findings_over(alloc, space, config, ordinary, every) {
+    match findings_over(alloc, space, config, ordinary, every, budget) {
         Ok(found) => Ok(found),
         Err(_) => Err(Fault::memory(alloc)),
     }
@@ -98,6 +100,7 @@ fn findings_over(
     config: &Config,
     ordinary: Universe,
     every: Option<Universe>,
+    budget: &mut Budget,
 ) -> Result<RouteFindings, AllocError>
     requires ordinary { StandsForAll Ascii space.old.impossible (One (config_view config.now))
         ordinary }
@@ -115,10 +118,10 @@ fn findings_over(
     ensures impossible { space.new.impossible ≡ space.old.impossible }
 {
     space.declare(ordinary);
-    let mut routes = found_routes(alloc, space, config)?;
+    let mut routes = found_routes(alloc, space, config, budget)?;
     if let Some(universe) = every {
         space.declare(universe);
-        look_further(alloc, space, config, &mut routes)?;
+        look_further(alloc, space, config, &mut routes, budget)?;
     }
     let receivers = found_receivers(alloc, config, routes.as_slice())?;
     Ok(RouteFindings {

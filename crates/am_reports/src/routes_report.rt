@@ -2,8 +2,9 @@
 //!
 //! The space is made in memory, as for `outcomes`, and stands for every alert.
 
-ghost use Rattle.std.specs.Prelude.{◌≡◌, ◌≢◌, map, option_copied, IfOk, IfErr, OnOk};
+ghost use Rattle.std.specs.Prelude.{◌≡◌, ◌≢◌, ℕ, List, map, option_copied, IfOk, IfErr, OnOk};
 ghost use Rattle.am_universe.specs.declared.kind.Kind.TheVariants as kinds;
+ghost use Rattle.am_universe.specs.declared.place.Place.TheVariants as places;
 ghost use Rattle.am_json.specs.Reading.{refusal_of};
 ghost use Rattle.am_config.specs.ConfigView.{config_view};
 ghost use Rattle.am_files.specs.Promise.{IsKept};
@@ -11,20 +12,23 @@ ghost use Rattle.am_outcomes.specs.Configurations.{One};
 ghost use Rattle.am_every_alert.specs.EveryAlert.{IsAlertOf};
 ghost use Rattle.am_route_alerts.specs.RouteAlerts.{AreRouteAlerts};
 ghost use Rattle.am_route_alerts.specs.FoundView.{route_alerts_view};
+ghost use Rattle.am_reports.specs.CutOff.{IsCutOff};
 ghost use Rattle.am_reports.specs.Made.{AreDeclaredWhole};
 ghost use Rattle.am_reports.specs.RoutesReport.{routes_promise, IsUnmadeRefusal};
 
 use crate::ReportInputs;
+use crate::cut_off::cut_off;
 use crate::made::{check_declared, universe_for_routes};
 use crate::receivers::receiver_positions;
 use crate::report_inputs::read_inputs;
 use am_classes::Alphabet;
 use am_config::Config;
+use am_first_sets::Budget;
 use am_labels::Space;
 use am_outcomes::Configs;
 use am_report_texts::written;
-use am_route_alerts::{RouteAlerts, alerts_of_routes, routes_report};
-use am_universe::{Fault, Sink, Universe, answer_of_write, put_str};
+use am_route_alerts::{RouteAlerts, RoutesFault, alerts_of_routes, routes_report};
+use am_universe::{Fault, Place, Sink, Universe, answer_of_write, put_str};
 use std::alloc::Global;
 
 /// Writes which alerts end at each route of a configuration, for every possible alert.
@@ -42,7 +46,8 @@ use std::alloc::Global;
 /// - at `Config`, those of `read_config`;
 /// - `UnknownReceiver`, at `Question` and with no pointer, if a name is that of no receiver;
 /// - what [`outcomes`](crate::outcomes()) refuses after reading its files, except that there may be
-///   any number of ways through the routes;
+///   any number of ways through the routes, and that a search that is cut off is refused with the
+///   pointer of its route;
 /// - `Write`.
 ///
 /// `Memory` may come at any point. After any fault but `Write` the sink is unchanged; after `Write`
@@ -79,7 +84,8 @@ pub fn routes<W: Sink>(
 /// universe file declares are checked first. Then the space gets the universe that stands for the
 /// alerts.
 ///
-/// Fails as [`check_declared`] and [`universe_for_routes`] do, and with `Memory`.
+/// Fails as [`check_declared`] and [`universe_for_routes`] do; then with `Limit`, at `Config` and
+/// with the pointer of the first route at which the search was cut off; and with `Memory`.
 fn alerts_of_all_routes<'a>(
     alloc: Global,
     alphabet: Alphabet,
@@ -101,8 +107,19 @@ fn alerts_of_all_routes<'a>(
     space.declare(Universe::empty(alloc));
     let universe = universe_for_routes(alloc, alphabet, space, configs)?;
     space.declare(universe);
-    match alerts_of_routes(alloc, space, config, receivers) {
+    match alerts_of_routes(alloc, space, config, receivers, &mut Budget::limited()) {
         Ok(found) => Ok(found),
-        Err(_) => Err(Fault::memory(alloc)),
+        Err(fault) => Err(fault_of(alloc, &fault)),
+    }
+}
+
+/// The fault of a search for the alerts of routes that ended without an answer.
+fn fault_of(alloc: Global, fault: &RoutesFault) -> Fault
+    ensures refusal { result.kind ≢ kinds.Memory → (path : List ℕ)
+        × IsCutOff places.Config path result.place (refusal_of result) }
+{
+    match fault {
+        RoutesFault::Memory => Fault::memory(alloc),
+        RoutesFault::UsedUp(path, evidence) => cut_off(alloc, Place::Config, path, evidence),
     }
 }

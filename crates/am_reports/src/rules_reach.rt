@@ -26,6 +26,7 @@ use am_alerting_rules::AlertingRule;
 use am_classes::Alphabet;
 use am_config::{Config, Rule};
 use am_firing::Reached;
+use am_first_sets::Budget;
 use am_labels::{Matchers, Space};
 use am_outcomes::{Configs, Outcomes, list_at};
 use am_rule_outcomes::RuleOutcomes;
@@ -59,6 +60,7 @@ pub(crate) fn reached_if_any(
     space: &mut Space,
     config: &Config,
     alerting: Option<&[AlertingRule]>,
+    budget: &mut Budget,
 ) -> Result<Option<Reached>, Fault>
     requires labels { space.old.labels ≡ [] }
     requires names { IfSome (option_copied alerting) (AllByRecursion HasNames) }
@@ -70,7 +72,10 @@ pub(crate) fn reached_if_any(
         fault.place (refusal_of fault)) }
 {
     match alerting {
-        Some(rules) => Ok(Some(reached_by_rules(alloc, alphabet, space, config, rules)?)),
+        Some(rules) => match reached_by_rules(alloc, alphabet, space, config, rules, budget) {
+            Ok(reached) => Ok(Some(reached)),
+            Err(fault) => Err(fault),
+        },
         None => Ok(None),
     }
 }
@@ -84,6 +89,7 @@ fn reached_by_rules(
     space: &mut Space,
     config: &Config,
     rules: &[AlertingRule],
+    budget: &mut Budget,
 ) -> Result<Reached, Fault>
     requires labels { space.old.labels ≡ [] }
     requires names { AllByRecursion HasNames rules.now }
@@ -94,10 +100,11 @@ fn reached_by_rules(
         → IsRulesRefusal alphabet space.old (Ends (config_view config.now)) rules.now fault.place
         (refusal_of fault)) }
 {
-    let Ok(sides) = sides_matched(alloc, alphabet, space, config.rules(), rules) else {
+    let Ok(sides) = sides_matched(alloc, alphabet, space, config.rules(), rules, budget) else {
         return Err(Fault::memory(alloc));
     };
-    let found = outcomes_of_all_rules(alloc, alphabet, space, Configs::Ends(config), rules)?;
+    let configs = Configs::Ends(config);
+    let found = outcomes_of_all_rules(alloc, alphabet, space, configs, rules, budget)?;
     match reached_in(alloc, config, &found, sides) {
         Ok(reached) => Ok(reached),
         Err(_) => Err(Fault::memory(alloc)),
@@ -155,7 +162,7 @@ fn some_goes(found: &RuleOutcomes, receiver: usize) -> bool
 {
     for i in 0..found.of_rules.len() {
         if let Some(narrowed) = found.of_rule(i) {
-            if one_goes(&narrowed.outcomes, receiver) {
+            if one_goes(narrowed.outcomes, receiver) {
                 return true;
             }
         }
@@ -184,7 +191,7 @@ fn ends_in(alloc: Global, found: &RuleOutcomes) -> Result<IndexSet<Vec<usize>>, 
     let mut ends = IndexSet::new(alloc);
     for i in 0..found.of_rules.len() {
         if let Some(narrowed) = found.of_rule(i) {
-            add_outcomes(alloc, &mut ends, &narrowed.outcomes)?;
+            add_outcomes(alloc, &mut ends, narrowed.outcomes)?;
         }
     }
     Ok(ends)
@@ -233,6 +240,7 @@ fn sides_matched(
     space: &mut Space,
     inhibition: &[Rule],
     rules: &[AlertingRule],
+    budget: &mut Budget,
 ) -> Result<Vec<(bool, bool)>, AllocError>
     requires labels { space.old.labels ≡ [] }
     requires names { AllByRecursion HasNames rules.now }
@@ -244,8 +252,8 @@ fn sides_matched(
 {
     let mut found = Vec::with_capacity(alloc, inhibition.len())?;
     for rule in inhibition {
-        let source = is_matched(alloc, alphabet, space, rule.source(), rules)?;
-        let target = is_matched(alloc, alphabet, space, rule.target(), rules)?;
+        let source = is_matched(alloc, alphabet, space, rule.source(), rules, budget)?;
+        let target = is_matched(alloc, alphabet, space, rule.target(), rules, budget)?;
         found.push((source, target))?;
     }
     Ok(found)
@@ -259,6 +267,7 @@ fn is_matched(
     space: &mut Space,
     matchers: &Matchers,
     rules: &[AlertingRule],
+    budget: &mut Budget,
 ) -> Result<bool, AllocError>
     requires labels { space.old.labels ≡ [] }
     requires names { AllByRecursion HasNames rules.now }
@@ -268,7 +277,7 @@ fn is_matched(
     ensures impossible { space.new.impossible ≡ space.old.impossible }
 {
     let configs = Configs::Matched(matchers);
-    let found = outcomes_of_all_rules(alloc, alphabet, space, configs, rules);
+    let found = outcomes_of_all_rules(alloc, alphabet, space, configs, rules, budget);
     space.undeclare(alloc);
     match found {
         // A list that matches gives an outcome with the one item 0.

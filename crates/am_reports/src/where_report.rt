@@ -19,6 +19,7 @@ use crate::receivers::receiver_positions;
 use crate::rules_file::rules_if_any;
 use crate::rules_outcomes::outcomes_of_all_rules;
 use crate::world_inputs::read_world_inputs;
+use am_first_sets::Budget;
 use am_outcomes::Configs;
 use am_report_texts::written;
 use am_rule_outcomes::where_report;
@@ -73,7 +74,9 @@ pub fn where_alerts_go<W: Sink>(
     };
     let configs = Configs::Silenced(config, silences.as_slice());
     let rules = rules_if_any(&read.rules).unwrap_or(&[]);
-    let found = outcomes_of_all_rules(alloc, inputs.alphabet, &mut read.space, configs, rules)?;
+    let (alphabet, space) = (inputs.alphabet, &mut read.space);
+    let mut budget = Budget::limited();
+    let found = outcomes_of_all_rules(alloc, alphabet, space, configs, rules, &mut budget)?;
     let Ok(report) = where_report(alloc, config, rules, &found, asked) else {
         return Err(Fault::memory(alloc));
     };

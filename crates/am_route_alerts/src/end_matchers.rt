@@ -18,11 +18,11 @@ use crate::implied::leave_out_implied;
 use crate::matcher_cubes::{MatcherCube, cubes_about};
 use crate::shortened::shortened;
 use am_config::Path;
-use am_first_sets::{Candidate, some_meeting};
+use am_first_sets::{Budget, Candidate, Unfinished, some_meeting};
 use am_labels::Matcher;
 use am_lint::{Table, literals_of};
 use am_universe::Universe;
-use std::alloc::{AllocError, Global};
+use std::alloc::Global;
 
 /// Which alerts end at a route: those that match all the matchers, and none of the lists.
 #[derive(Drop)]
@@ -32,15 +32,16 @@ pub struct EndMatchers<'a> {
 }
 
 /// Finds which label sets of a space end at the route at a path. Returns `None` if none does. The
-/// universe should be that of the space: the search may take longer with another one. Fails only if
-/// memory runs out.
+/// universe should be that of the space: the search may take longer with another one. Fails if the
+/// budget is used up or memory runs out.
 pub(crate) fn end_matchers<'a>(
     alloc: Global,
     universe: &Universe,
     table: &Table<'_>,
     cubes: &[Vec<MatcherCube<'a>>],
     path: &Path,
-) -> Result<Option<EndMatchers<'a>>, AllocError>
+    budget: &mut Budget,
+) -> Result<Option<EndMatchers<'a>>, Unfinished>
     requires knows { KnowsRoutes table.now }
     requires cubes { AreCubesOfRoutes (table_space table.now).labels (table_config table.now)
         cubes.now }
@@ -52,28 +53,29 @@ pub(crate) fn end_matchers<'a>(
     let on_way = literals.on_way;
     let all = literals.all.as_mut_slice();
     let possible = table.possible.choices();
-    let Some(found) = some_meeting(alloc, possible, all)? else {
+    let Some(found) = some_meeting(alloc, possible, all, budget)? else {
         return Ok(None);
     };
     let hints = hints_of(alloc, universe, &found)?;
-    leave_out_implied(alloc, possible, all, on_way, hints.as_slice())?;
+    leave_out_implied(alloc, possible, all, on_way, hints.as_slice(), budget)?;
     let (way, others) = all.split_at(on_way);
     let on_way = cubes_about(alloc, cubes, way)?;
-    let matchers = shortened(alloc, &table.possible, &[], on_way.as_slice())?;
-    let unless = kept_lists(alloc, table, cubes, way, others)?;
+    let matchers = shortened(alloc, &table.possible, &[], on_way.as_slice(), budget)?;
+    let unless = kept_lists(alloc, table, cubes, way, others, budget)?;
     Ok(Some(EndMatchers { matchers, unless }))
 }
 
 /// Returns for each named literal the matchers of the route that it is about, without those that
-/// follow from the others, for the label sets that meet given literals. Fails only if memory runs
-/// out.
+/// follow from the others, for the label sets that meet given literals. Fails if the budget is used
+/// up or memory runs out.
 fn kept_lists<'a>(
     alloc: Global,
     table: &Table<'_>,
     cubes: &[Vec<MatcherCube<'a>>],
     given: &[Candidate<'_>],
     literals: &[Candidate<'_>],
-) -> Result<Vec<Vec<&'a Matcher>>, AllocError>
+    budget: &mut Budget,
+) -> Result<Vec<Vec<&'a Matcher>>, Unfinished>
     requires cubes { AreCubesOfRoutes (table_space table.now).labels (table_config table.now)
         cubes.now }
     requires named { AreNamedBefore (length given.now) given.now }
@@ -84,7 +86,8 @@ fn kept_lists<'a>(
     for i in 0..literals.len() {
         if literals[i].named {
             let list = cubes_about(alloc, cubes, &literals[i..i + 1])?;
-            lists.push(shortened(alloc, &table.possible, given, list.as_slice())?)?;
+            let list = list.as_slice();
+            lists.push(shortened(alloc, &table.possible, given, list, budget)?)?;
         }
     }
     Ok(lists)

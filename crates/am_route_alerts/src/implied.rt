@@ -11,9 +11,9 @@ ghost use Rattle.am_first_sets.specs.Reason.{AreFewer, AreNamedBefore};
 ghost use Rattle.am_route_alerts.specs.Implied.{negated, IsSameFor, IsEachNeeded};
 
 use crate::hints::Hint;
-use am_first_sets::{Candidate, PossibleChoices, some_meeting};
+use am_first_sets::{Budget, Candidate, PossibleChoices, Unfinished, some_meeting};
 use am_judged_lists::Cube;
-use std::alloc::{AllocError, Global};
+use std::alloc::Global;
 
 /// Takes the names off the literals that follow from the others, from a position on, the last one
 /// first.
@@ -21,14 +21,16 @@ use std::alloc::{AllocError, Global};
 /// The literals before the position must be named. A possible choice meets the named literals
 /// exactly if it met those that were named before, and some possible choice fails each of those
 /// that are left behind the position and meets the others. Hints change only how long it takes.
-/// Fails only if memory runs out; then any of the literals may have lost their names.
+/// Fails if the budget is used up or memory runs out; then any of the literals may have lost their
+/// names.
 pub(crate) fn leave_out_implied(
     alloc: Global,
     possible: &PossibleChoices,
     literals: &mut [Candidate<'_>],
     from: usize,
     hints: &[Hint],
-) -> Result<(), AllocError>
+    budget: &mut Budget,
+) -> Result<(), Unfinished>
     requires within { from ≤ length literals.old }
     ensures fewer { OnOk result (AreFewer literals.old literals.new) }
     ensures first { OnOk result (AreNamedBefore from literals.old
@@ -37,15 +39,15 @@ pub(crate) fn leave_out_implied(
     ensures needed { OnOk result (IsEachNeeded (IsPossible possible.now) from literals.new) }
 {
     for i in (from..literals.len()).rev() {
-        if literals[i].named && is_implied(alloc, possible, literals, from, i, hints)? {
+        if literals[i].named && is_implied(alloc, possible, literals, from, i, hints, budget)? {
             literals[i].named = false;
         }
     }
     Ok(())
 }
 
-/// Whether the named literal at a position follows from the other named ones. Fails only if memory
-/// runs out.
+/// Whether the named literal at a position follows from the other named ones. Fails if the budget
+/// is used up or memory runs out.
 fn is_implied(
     alloc: Global,
     possible: &PossibleChoices,
@@ -53,7 +55,8 @@ fn is_implied(
     from: usize,
     i: usize,
     hints: &[Hint],
-) -> Result<bool, AllocError>
+    budget: &mut Budget,
+) -> Result<bool, Unfinished>
     requires there { i < length literals.now }
     requires behind { from ≤ i }
     ensures implied { IfOk result (λ implied. IsTrue implied
@@ -69,26 +72,27 @@ fn is_implied(
     // Most lists have no alert in common with the way to a route, which a short search shows.
     let mut few = literals[..from].to_vec(alloc)?;
     few.push(other)?;
-    if some_meeting(alloc, possible, few.as_slice())?.is_none() {
+    if some_meeting(alloc, possible, few.as_slice(), budget)?.is_none() {
         return Ok(true);
     }
     let mut all = literals.to_vec(alloc)?;
     all[i] = other;
-    if is_met_near(alloc, possible, all.as_slice(), other.cube, hints)? {
+    if is_met_near(alloc, possible, all.as_slice(), other.cube, hints, budget)? {
         return Ok(false);
     }
-    Ok(some_meeting(alloc, possible, all.as_slice())?.is_none())
+    Ok(some_meeting(alloc, possible, all.as_slice(), budget)?.is_none())
 }
 
 /// Whether a possible choice meets the named literals, and fits the hints that a cube fits. If not,
-/// another choice may meet the literals. Fails only if memory runs out.
+/// another choice may meet the literals. Fails if the budget is used up or memory runs out.
 fn is_met_near<'h>(
     alloc: Global,
     possible: &PossibleChoices,
     literals: &[Candidate<'h>],
     cube: &Cube,
     hints: &'h [Hint],
-) -> Result<bool, AllocError>
+    budget: &mut Budget,
+) -> Result<bool, Unfinished>
     ensures met { IfOk result (λ met. IsTrue met → IsMet (IsPossible possible.now) literals.now) }
 {
     if hints.is_empty() {
@@ -105,5 +109,5 @@ fn is_met_near<'h>(
             })?;
         }
     }
-    Ok(some_meeting(alloc, possible, near.as_slice())?.is_some())
+    Ok(some_meeting(alloc, possible, near.as_slice(), budget)?.is_some())
 }

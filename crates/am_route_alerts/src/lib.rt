@@ -20,7 +20,7 @@ mod end_matchers;
 mod found;
 
 pub use end_matchers::EndMatchers;
-pub use found::{RouteAlerts, alerts_of_routes};
+pub use found::{RouteAlerts, RoutesFault, alerts_of_routes};
 
 // The lines.
 mod lines;

@@ -9,19 +9,20 @@ ghost use Rattle.am_route_alerts.specs.Shortened.{IsShortened};
 
 use crate::implied::leave_out_implied;
 use crate::matcher_cubes::KnownMatcher;
-use am_first_sets::{Candidate, PossibleSets};
+use am_first_sets::{Budget, Candidate, PossibleSets, Unfinished};
 use am_labels::Matcher;
 use std::alloc::{AllocError, Global};
 
 /// Returns matchers without those that follow from the others, for the label sets of a space that
-/// meet given literals. Of two that say the same, the first one stays. Fails only if memory runs
-/// out.
+/// meet given literals. Of two that say the same, the first one stays. Fails if the budget is used
+/// up or memory runs out.
 pub(crate) fn shortened<'a, 'c>(
     alloc: Global,
     possible: &PossibleSets<'_>,
     given: &[Candidate<'c>],
     matchers: &[KnownMatcher<'c, 'a>],
-) -> Result<Vec<&'a Matcher>, AllocError>
+    budget: &mut Budget,
+) -> Result<Vec<&'a Matcher>, Unfinished>
     requires cubes { AreEachCubes (possible_space possible.now).labels matchers.now }
     requires named { AreNamedBefore (length given.now) given.now }
     ensures shortened { IfOk result (λ kept.
@@ -43,8 +44,9 @@ pub(crate) fn shortened<'a, 'c>(
         literals.as_mut_slice(),
         given.len(),
         &[],
+        budget,
     )?;
-    named_matchers(alloc, &literals[given.len()..], matchers)
+    Ok(named_matchers(alloc, &literals[given.len()..], matchers)?)
 }
 
 /// Returns the matchers whose literals are named. Fails only if memory runs out.

@@ -1,4 +1,4 @@
-pub mod NarrowedUniverses
+pub mod KeptMatchers
 pub mod LabelTexts
 pub mod NarrowingLemmas
 pub mod ReceiverOutcomes

@@ -1,31 +1,31 @@
--- Universes that are narrowed, and the texts that their labels have then.
-use Rattle.std.proofs.Common.{◌≡◌, ◌⊎◌, ◌≤◌, ◌<◌, ℕ, get_or, Bool, true, false, cond, length, List, [], ◌∷◌}
-use Rattle.std.proofs.Common.{map, Option, Some, None, option_map, refl, sym, ap, ◌∙◌, subst, inl, inr, arith, slice_get}
-use Rattle.std.specs.Prelude.{unwrap_or, nat_lt, IfSome}
-use Rattle.std.specs.List.{AllByRecursion, AllZip, find, position_or_len}
+-- The labels of a universe that is narrowed: what is kept of them, and choices that have it.
+use Rattle.std.proofs.Common.{◌≡◌, ◌⊎◌, ◌≤◌, ◌<◌, ℕ, zero, suc, get_or, Bool, true, false, cond, length, List, [], ◌∷◌}
+use Rattle.std.proofs.Common.{Option, Some, None, option_map, refl, sym, ap, ◌∙◌, subst, inl, inr, arith, slice_get}
+use Rattle.std.specs.Prelude.{option_and_then, unwrap_or, nat_lt, IfSome}
+use Rattle.std.specs.List.{AllZip, find, position_or_len}
 use Rattle.std.specs.Cmp.Lexicographic.{bytes_decides}
-use Rattle.std.proofs.lemmas.Bool.{cases_Bool}
+use Rattle.std.proofs.lemmas.Bool.{and_from, and_parts, cases_Bool, lt-ltb}
 use Rattle.std.proofs.lemmas.Bool.Decides.{nat_tests}
 use Rattle.std.proofs.lemmas.Grind.{common_steps}
 use Rattle.std.proofs.lemmas.List.Quantifiers.{position-Some}
-use Rattle.std.proofs.lemmas.Option.{slice_get-map, slice_get-get_or}
+use Rattle.std.proofs.lemmas.Option.{slice_get-map, slice_get-get_or, slice_get_within}
 use Rattle.am_universe.specs.Text.{same_text}
-use Rattle.am_universe.specs.Universe.{Label, Values}
-use Rattle.am_universe.proofs.ListLemmas.{IsIn, AllByRecursion-at}
-use Rattle.am_universe.proofs.Members.{in_at}
+use Rattle.am_universe.specs.Universe.{Label, sizes}
+use Rattle.am_universe.specs.Choice.{admits, IsWhole}
+use Rattle.am_universe.specs.LabelSet.{value_at}
+use Rattle.am_universe.proofs.ListLemmas.{IsIn}
+use Rattle.am_labels.specs.declared.op.Op.TheVariants.{Equal}
 use Rattle.am_labels.specs.Matcher.{Matcher}
-use Rattle.am_classes.specs.declared.alphabet.Alphabet.{Alphabet}
-use Rattle.am_classes.specs.Alphabet.{IsOver}
 use Rattle.am_classes.specs.Alike.{AreAlike}
 use Rattle.am_classes.specs.Truths.{alike}
 use Rattle.am_classes.proofs.AlikeLemmas.{is_alike}
 use Rattle.am_complete.specs.AskedLabel.{AskedLabel}
-use Rattle.am_complete.specs.Complete.{label_texts, texts_of_label}
-use Rattle.am_complete.specs.Covering.{HasTextsOver}
+use Rattle.am_complete.specs.Complete.{texts_of_label}
+use Rattle.am_complete.specs.LabelState.{is_declared}
 use Rattle.am_complete.proofs.LabelTexts.{found_in, finds_in}
 use Rattle.am_rule_outcomes.specs.Narrowing.{matchers_on, fixed_text, alike_position, narrowing_at}
-use Rattle.am_rule_outcomes.specs.Narrowing.{kept_before, narrowing, absence_stands, only_value}
-use Rattle.am_rule_outcomes.specs.Narrowing.{narrowed_values, narrowed_label, narrowed}
+use Rattle.am_rule_outcomes.specs.Narrowing.{kept_before, narrowing, absence_stands, kept_matcher}
+use Rattle.am_rule_outcomes.specs.Narrowing.{kept_matchers}
 use Rattle.am_rule_outcomes.proofs.ShownSets.{Texts, HaveOwnNames}
 
 -- ---- The text of a label that is fixed.
@@ -97,28 +97,30 @@ kept_value ms text label i e = by (slice_get label.values i) refl
 
 narrowed_fixed : (ms : List Matcher) (text : List ℕ) (label : Label) (kept : Option ℕ)
     → narrowing_at ms (Some text) label ≡ Some kept
-    → (v : Option (List ℕ)) × (narrowed_values label.values kept ≡ v ∷ [])
-    × AreAlike ms (unwrap_or v []) text
+    → (j : ℕ) × (kept ≡ Some j) × (j < length label.values)
+    × AreAlike ms (unwrap_or (value_at label j) []) text
 narrowed_fixed ms text label kept = by (alike_position ms text label) refl
   where
     by : (o : Option ℕ) → alike_position ms text label ≡ o → option_map (λ i. Some i) o ≡ Some kept
-        → (v : Option (List ℕ)) × (narrowed_values label.values kept ≡ v ∷ [])
-        × AreAlike ms (unwrap_or v []) text
+        → (j : ℕ) × (kept ≡ Some j) × (j < length label.values)
+        × AreAlike ms (unwrap_or (value_at label j) []) text
     by None e same = absurd (cc)
-    by (Some i) e same =
-        let at : Some i ≡ kept = cc in
-        let r = kept_value ms text label i e in (
-          r.0,
-          subst (λ k. narrowed_values label.values k ≡ r.0 ∷ []) at (ap (only_value label.values) r.1),
-          r.2,
+    by (Some j) e same =
+        let r = kept_value ms text label j e in (
+          j,
+          cc,
+          slice_get_within label.values j r.0 r.1,
+          subst (λ (o : Option (Option (List ℕ))). AreAlike ms (unwrap_or (option_and_then (λ v. v) o) []) text)
+              (sym r.1) r.2,
         )
 
-narrowed_free : (ms : List Matcher) (label : Label) (kept : Option ℕ)
-    → narrowing_at ms None label ≡ Some kept → narrowed_label label kept ≡ label
-narrowed_free ms label kept e =
-    let none : None ≡ kept = cc in subst (λ k. narrowed_label label k ≡ label) none refl
-
 -- ---- Each label of a universe is narrowed.
+
+-- a choice, with the positions that are kept in place of its own
+abbrev pub moved : List (Option ℕ) → List ℕ → List ℕ
+moved [] c = c
+moved (k ∷ ks) [] = []
+moved (k ∷ ks) (p ∷ c) = unwrap_or k p ∷ moved ks c
 
 module _ (asked : List AskedLabel) (fixed : Texts) where
   abbrev narrowing_of : Label → Option (Option ℕ)
@@ -177,63 +179,126 @@ module _ (asked : List AskedLabel) (fixed : Texts) where
     | inr later ↦ let r = not_narrowed u later in (r.0, inr r.1, r.2, r.3, r.4)
   ]
 
-  -- ---- The texts of the labels of a narrowed universe.
+  -- ---- What is kept of a label.
 
-  pub texts_free : (u : List Label) (ks : List (Option ℕ)) (name : List ℕ)
-      → AllZip IsNarrowed u ks → fixed_text fixed name ≡ None
-      → label_texts (narrowed u ks) name ≡ label_texts u name
-  texts_free [] ks name each none = refl
-  texts_free (l ∷ u) [] name each none = absurd each
-  texts_free (l ∷ u) (k ∷ ks) name each none = elim (cases_Bool (same_text l.name name)) [
-    | inl same ↦
-        let free = ap (fixed_text fixed) ((bytes_decides l.name name).0 same) ∙ none in
-        rw same (ap (λ m. texts_of_label (Some m)) (narrowed_free (matchers_on asked l.name) l k
-        (subst (λ o. narrowing_at (matchers_on asked l.name) o l ≡ Some k) free each.0)))
-    | inr apart ↦ rw apart (texts_free u ks name each.1 none)
-  ]
+  -- a label that is fixed keeps a text that is alike to its own, and any other label keeps all
+  pub kept_fixed : (l : Label) (k : Option ℕ) (text : List ℕ) → IsNarrowed l k
+      → fixed_text fixed l.name ≡ Some text
+      → (j : ℕ) × (k ≡ Some j) × (j < length l.values)
+      × AreAlike (matchers_on asked l.name) (unwrap_or (value_at l j) []) text
+  kept_fixed l k text is e =
+      narrowed_fixed (matchers_on asked l.name) text l k
+      (subst (λ o. narrowing_at (matchers_on asked l.name) o l ≡ Some k) e is)
 
-  pub texts_fixed : (u : List Label) (ks : List (Option ℕ)) (name text : List ℕ)
+  pub kept_free : (l : Label) (k : Option ℕ) → IsNarrowed l k → fixed_text fixed l.name ≡ None
+      → k ≡ None
+  kept_free l k is e =
+      let free = subst (λ o. narrowing_at (matchers_on asked l.name) o l ≡ Some k) e is in cc
+
+  -- so what is kept is there
+  pub kept_within : (l : Label) (k : Option ℕ) → IsNarrowed l k → IfSome k (λ j. j < length l.values)
+  kept_within l k is = by (fixed_text fixed l.name) refl
+    where
+      by : (o : Option (List ℕ)) → fixed_text fixed l.name ≡ o → IfSome k (λ j. j < length l.values)
+      by None e = subst (λ o. IfSome o (λ j. j < length l.values)) (sym (kept_free l k is e)) tt
+      by (Some text) e =
+          let r = kept_fixed l k text is e in
+          subst (λ o. IfSome o (λ j. j < length l.values)) (sym r.1) r.2
+
+  more_kept : (l : Label) (k : Option ℕ) (u : List Label) (ks : List (Option ℕ)) (m : Matcher)
+      → IsIn (kept_matchers u ks) m → IsIn (kept_matchers (l ∷ u) (k ∷ ks)) m
+  more_kept l None u ks m i = i
+  more_kept l (Some j) u ks m i = inr i
+
+  first_kept : (l : Label) (k : Option ℕ) (j : ℕ) (u : List Label) (ks : List (Option ℕ))
+      → k ≡ Some j → IsIn (kept_matchers (l ∷ u) (k ∷ ks)) (kept_matcher l j)
+  first_kept l k j u ks is =
+      subst (λ k. IsIn (kept_matchers (l ∷ u) (k ∷ ks)) (kept_matcher l j)) (sym is) (inl refl)
+
+  -- a text that is alike to that of a label, and the matcher that asks for it; an undeclared label
+  -- has none, and is absent
+  pub record KeptText (u : List Label) (ks : List (Option ℕ)) (name text : List ℕ) : Type 0 where
+    pub kept : List ℕ
+    pub alike : AreAlike (matchers_on asked name) kept text
+    pub asks : IsIn (kept_matchers u ks) (record { name = name; op = Equal; value = kept })
+        ⊎ ((is_declared u name ≡ false) × (kept ≡ []))
+
+  pub kept_text : (u : List Label) (ks : List (Option ℕ)) (name text : List ℕ)
       → AllZip IsNarrowed u ks → fixed_text fixed name ≡ Some text
-      → absence_stands asked u (name, text) ≡ true
-      → (x : List ℕ) × (label_texts (narrowed u ks) name ≡ x ∷ [])
-      × AreAlike (matchers_on asked name) x text
-  texts_fixed [] ks name text each is stands = ([], refl, is_alike (matchers_on asked name) [] text stands)
-  texts_fixed (l ∷ u) [] name text each is stands = absurd each
-  texts_fixed (l ∷ u) (k ∷ ks) name text each is stands = elim (cases_Bool (same_text l.name name)) [
+      → absence_stands asked u (name, text) ≡ true → KeptText u ks name text
+  kept_text [] ks name text each is stands = record {
+    kept = [];
+    alike = is_alike (matchers_on asked name) [] text stands;
+    asks = inr (refl, refl);
+  }
+  kept_text (l ∷ u) [] name text each is stands = absurd each
+  kept_text (l ∷ u) (k ∷ ks) name text each is stands = elim (cases_Bool (same_text l.name name)) [
     | inl same ↦
         let named = (bytes_decides l.name name).0 same in
-        let r = narrowed_fixed (matchers_on asked l.name) text l k
-        (subst (λ o. narrowing_at (matchers_on asked l.name) o l ≡ Some k)
-        (ap (fixed_text fixed) named ∙ is) each.0) in (
-          unwrap_or r.0 [],
-          rw same (ap (map (λ v. unwrap_or v [])) r.1),
-          subst (λ n. AreAlike (matchers_on asked n) (unwrap_or r.0 []) text) named r.2,
-        )
+        let r = kept_fixed l k text each.0 (ap (fixed_text fixed) named ∙ is) in
+        let x = unwrap_or (value_at l r.0) [] in
+        record {
+          kept = x;
+          alike = subst (λ n. AreAlike (matchers_on asked n) x text) named r.3;
+          asks = inl (subst (λ n. IsIn (kept_matchers (l ∷ u) (k ∷ ks))
+              (record { name = n; op = Equal; value = x })) named (first_kept l k r.0 u ks r.1));
+        }
     | inr apart ↦
-        let r = texts_fixed u ks name text each.1 is (rw apart at stands) in
-        (r.0, rw apart r.1, r.2)
+        let r = kept_text u ks name text each.1 is (rw apart at stands) in
+        record {
+          kept = r.kept;
+          alike = r.alike;
+          asks = elim r.asks [
+            | inl there ↦ inl (more_kept l k u ks _ there)
+            | inr none ↦ inr (rw apart none.0, none.1)
+          ];
+        }
   ]
 
--- ---- The texts of a narrowed universe are over the alphabet.
+  -- ---- Choices with what is kept.
 
-abbrev AreOver : Alphabet → Values → Type 0
-AreOver a values = AllByRecursion (λ v. IfSome v (IsOver a)) values
+  below : (k : Option ℕ) (p n : ℕ) → IfSome k (λ j. j < n) → nat_lt p n ≡ true
+      → nat_lt (unwrap_or k p) n ≡ true
+  below None p n within there = there
+  below (Some j) p n within there = lt-ltb j n within
 
-only_over : (a : Alphabet) (values : Values) (o : Option (Option (List ℕ))) → AreOver a values
-    → ((v : Option (List ℕ)) → o ≡ Some v → IsIn values v) → AreOver a (only_value values o)
-only_over a values None over there = over
-only_over a values (Some v) over there =
-    (AllByRecursion-at (λ w. IfSome w (IsOver a)) values v over (there v refl), tt)
+  pub moved_whole : (u : List Label) (ks : List (Option ℕ)) (c : List ℕ) → AllZip IsNarrowed u ks
+      → IsWhole (sizes u) c → IsWhole (sizes u) (moved ks c)
+  moved_whole [] [] c each whole = whole
+  moved_whole [] (k ∷ ks) c each whole = absurd each
+  moved_whole (l ∷ u) [] c each whole = absurd each
+  moved_whole (l ∷ u) (k ∷ ks) [] each whole = absurd (omega (arith, whole.1))
+  moved_whole (l ∷ u) (k ∷ ks) (p ∷ c) each whole =
+      let both = and_parts (nat_lt p (length l.values)) (admits (sizes u) c) whole.0 in
+      let rest = moved_whole u ks c each.1 (both.1, omega (arith, whole.1)) in (
+        and_from (nat_lt (unwrap_or k p) (length l.values)) (admits (sizes u) (moved ks c))
+            (below k p (length l.values) (kept_within l k each.0) both.0) rest.0,
+        ap suc rest.1,
+      )
 
-values_over : (a : Alphabet) (values : Values) (kept : Option ℕ) → AreOver a values
-    → AreOver a (narrowed_values values kept)
-values_over a values None over = over
-values_over a values (Some i) over =
-    only_over a values (slice_get values i) over (λ v e. in_at values i v e)
+  -- the position of a label, and what is kept of it
+  pub moved_at : (u : List Label) (ks : List (Option ℕ)) (c : List ℕ) (i : ℕ) (l : Label) (p : ℕ)
+      → AllZip IsNarrowed u ks → slice_get u i ≡ Some l → slice_get c i ≡ Some p
+      → (k : Option ℕ) × IsNarrowed l k × (slice_get ks i ≡ Some k)
+      × (slice_get (moved ks c) i ≡ Some (unwrap_or k p))
+  moved_at [] ks c i l p each at there = absurd (cc)
+  moved_at (m ∷ u) [] c i l p each at there = absurd each
+  moved_at (m ∷ u) (k ∷ ks) [] i l p each at there = absurd (cc)
+  moved_at (m ∷ u) (k ∷ ks) (q ∷ c) zero l p each at there =
+      let same : m ≡ l = cc in
+      let is : q ≡ p = cc in
+      (k, subst (λ (n : Label). IsNarrowed n k) same each.0, refl, ap (λ n. Some (unwrap_or k n)) is)
+  moved_at (m ∷ u) (k ∷ ks) (q ∷ c) (suc i) l p each at there =
+      moved_at u ks c i l p each.1 at there
 
-pub over_narrowed : (a : Alphabet) (u : List Label) (ks : List (Option ℕ)) → HasTextsOver a u
-    → HasTextsOver a (narrowed u ks)
-over_narrowed a [] ks over = tt
-over_narrowed a (l ∷ u) [] over = over
-over_narrowed a (l ∷ u) (k ∷ ks) over =
-    (values_over a l.values k over.0, over_narrowed a u ks over.1)
+-- the label for which a matcher asks, and the position of its text
+pub matcher_there : (u : List Label) (ks : List (Option ℕ)) (m : Matcher) → IsIn (kept_matchers u ks) m
+    → (i : ℕ) × (l : Label) × (j : ℕ) × (slice_get u i ≡ Some l) × (slice_get ks i ≡ Some (Some j))
+    × (kept_matcher l j ≡ m)
+matcher_there [] ks m i = absurd i
+matcher_there (l ∷ u) [] m i = absurd i
+matcher_there (l ∷ u) (None ∷ ks) m i =
+    let r = matcher_there u ks m i in (suc r.0, r.1, r.2, r.3, r.4, r.5)
+matcher_there (l ∷ u) (Some j ∷ ks) m (inl same) = (zero, l, j, refl, refl, same)
+matcher_there (l ∷ u) (Some j ∷ ks) m (inr i) =
+    let r = matcher_there u ks m i in (suc r.0, r.1, r.2, r.3, r.4, r.5)

@@ -61,14 +61,11 @@ module _ (a : Alphabet) (s : Space) (u : List Label) (asked : List AskedLabel) (
         (absence_there a s u h.matchers h.stands asked h.labels fixed own named alert is)) ∙ e)
 
     module _ (ks : List (Option ℕ)) (narrows : rule_narrowing a asked u r ≡ Some ks) where
-      abbrev left : List Label
-      left = narrowed u ks
-
       abbrev made : Space
-      made = space_of s.impossible left
+      made = narrowed (space_of s.impossible u) ks
 
       abbrev show : List ℕ → List (List ℕ × List ℕ)
-      show c = shown_labels fixed left c
+      show c = shown_labels fixed u c
 
       passed : (are_over a fixed ≡ true) × (list_all (absence_stands asked u) fixed ≡ true)
           × (narrowing asked fixed u ≡ Some ks)
@@ -83,7 +80,7 @@ module _ (a : Alphabet) (s : Space) (u : List Label) (asked : List AskedLabel) (
           let named = fixed_named r names in (
             shown_has_fixed a s u h.matchers h.stands asked h.labels fixed own named ks passed.2
                 passed.1 passed.0 (fixed_utf8 r texts) c choice,
-            h.told (label_set_of left c) (labels_of (show c))
+            h.told (label_set_of u c) (labels_of (show c))
                 (shown_meets a s u h.matchers h.stands asked h.labels fixed own named ks passed.2
                 passed.1 c choice),
           )
@@ -93,7 +90,7 @@ module _ (a : Alphabet) (s : Space) (u : List Label) (asked : List AskedLabel) (
       choice_of alert is =
           let c = choice_of_rule_alert a s u h.matchers h.stands asked h.labels fixed
           (fixed_distinct r) (fixed_named r names) ks passed.2 passed.1 alert is in
-          (c.0, c.1, h.told (label_set_of left c.0) alert c.2)
+          (c.0, c.1, h.told (label_set_of u c.0) alert c.2)
 
     pub outcomes_of_rule : AreOutcomesOf (IsRuleAlert a s r) k labels_of
         (rule_outcomes_shown r (found_outcomes (rule_narrowing a asked u r)))

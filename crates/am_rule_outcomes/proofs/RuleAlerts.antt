@@ -1,23 +1,23 @@
--- The alerts that have some fixed labels, and the choices of a universe that is narrowed to them:
+-- The alerts that have some fixed labels, and the choices of a space that is narrowed to them:
 -- each such alert meets the same matchers as some choice, and for each choice what is shown is such
 -- an alert, which meets the same matchers.
 use Rattle.std.proofs.Common.{◌≡◌, ◌≢◌, ◌<◌, ℕ, zero, suc, true, false, ◌++◌, length, List, [], ◌∷◌}
 use Rattle.std.proofs.Common.{map, Option, Some, None, refl, sym, ap, ◌∙◌, subst, inl, inr, arith, slice_get, IsUtf8, nat_lt}
 use Rattle.std.specs.Prelude.{unwrap_or, option_and_then, Contains}
 use Rattle.std.specs.FinMap.{get}
-use Rattle.std.specs.List.{AllByRecursion, find, list_all}
+use Rattle.std.specs.List.{AllByRecursion, AllZip, find, list_all}
 use Rattle.std.specs.Cmp.Lexicographic.{bytes_decides}
 use Rattle.std.proofs.lemmas.Bool.{both_ways, cases_Bool, and_parts}
 use Rattle.std.proofs.lemmas.Bool.Decides.{nat_tests}
 use Rattle.am_universe.specs.Text.{same_text}
 use Rattle.am_universe.specs.Universe.{Label, Values, IsUniverse, names, sizes}
 use Rattle.am_universe.specs.Choice.{admits, IsWhole}
-use Rattle.am_universe.specs.LabelSet.{LabelMap, value_of, label_set_of}
+use Rattle.am_universe.specs.LabelSet.{LabelMap, value_at, value_of, label_set_of}
 use Rattle.am_universe.proofs.LabelSetLemmas.{value_of_declared, value_of_undeclared}
 use Rattle.am_universe.proofs.ListLemmas.{IsIn, IsIn-unmap, IsIn-from_Contains, Contains-from_IsIn}
 use Rattle.am_universe.proofs.ListLemmas.{AllByRecursion-at, AllByRecursion-each}
 use Rattle.am_universe.proofs.Members.{at_in}
-use Rattle.am_labels.specs.Matcher.{Matcher, holds, condition_holds}
+use Rattle.am_labels.specs.Matcher.{Matcher, all_hold, holds, condition_holds}
 use Rattle.am_labels.specs.Space.{Space, IsChoiceOf}
 use Rattle.am_labels.proofs.Passing.{any_in, in_any}
 use Rattle.am_list_files.specs.AlertsFile.{labels_of}
@@ -36,20 +36,20 @@ use Rattle.am_complete.proofs.AskedLabels.{not_asked, on_name}
 use Rattle.am_complete.proofs.LabelTexts.{declared_texts, found_in, has_name, unnamed_texts}
 use Rattle.am_complete.proofs.SameMatchers.{alike_among, same_by}
 use Rattle.am_differences.proofs.ListTests.{each_passes, all_pass}
+use Rattle.am_outcomes.proofs.MatchedPart.{choice_of_part, choice_there}
 use Rattle.am_every_alert.specs.EveryAlert.{IsAlert, IsAlertOf, MeetsTheSame}
 use Rattle.am_every_alert.specs.Deciding.{StandsFor, space_of}
 use Rattle.am_every_alert.proofs.SpaceAlerts.{space_choice}
-use Rattle.am_every_alert.proofs.StandingChoice.{standing_choice}
 use Rattle.am_every_alert.proofs.TreatedAlike.{front_met, rest_met, same_possible}
 use Rattle.am_every_alert.proofs.UniverseAlerts.{universe_alert}
 use Rattle.am_rule_outcomes.specs.Narrowing.{matchers_on, fixed_text, narrowing, absence_stands}
-use Rattle.am_rule_outcomes.specs.Narrowing.{are_over, narrowed}
+use Rattle.am_rule_outcomes.specs.Narrowing.{are_over, kept_matchers, narrowed}
 use Rattle.am_rule_outcomes.specs.ShownLabels.{shown_labels}
 use Rattle.am_rule_outcomes.specs.ShownLabels as shown
 use Rattle.am_rule_outcomes.proofs.ShownSets.{Texts, HaveOwnNames, shown_alone, value_fixed, value_other}
-use Rattle.am_rule_outcomes.proofs.NarrowedLabels.{each_narrowed, fixed_there, there_fixed}
-use Rattle.am_rule_outcomes.proofs.NarrowedLabels.{not_narrowed, over_narrowed, texts_fixed, texts_free}
-use Rattle.am_rule_outcomes.proofs.NarrowedUniverses.{narrowed_is_universe}
+use Rattle.am_rule_outcomes.proofs.NarrowedLabels.{IsNarrowed, each_narrowed, fixed_there, there_fixed}
+use Rattle.am_rule_outcomes.proofs.NarrowedLabels.{kept_fixed, kept_free, kept_text, matcher_there}
+use Rattle.am_rule_outcomes.proofs.NarrowedLabels.{moved, moved_at, moved_whole, not_narrowed}
 
 -- ---- The texts of choices.
 
@@ -215,99 +215,185 @@ module _ (a : Alphabet) (s : Space) (u : List Label) (ms : List Matcher)
 
   module _ (ks : List (Option ℕ)) (is : narrowing asked fixed u ≡ Some ks)
       (absent : list_all (absence_stands asked u) fixed ≡ true) where
-    abbrev pub left : List Label
-    left = narrowed u ks
+    abbrev pub left : Space
+    left = narrowed (space_of s.impossible u) ks
 
     abbrev pub set_of : List ℕ → LabelMap
-    set_of c = label_set_of left c
+    set_of c = label_set_of u c
 
-    left_universe : IsUniverse left
-    left_universe = narrowed_is_universe u ks stands.universe
+    each_kept : AllZip (IsNarrowed asked fixed) u ks
+    each_kept = each_narrowed asked fixed u ks is
 
     -- each label that is fixed has one text there, which is alike to its own
-    one_text : (l : List ℕ × List ℕ) → IsIn fixed l
-        → (x : List ℕ) × (label_texts left l.0 ≡ x ∷ []) × AreAlike (about l.0 deciding) x l.1
+    record OneText (l : List ℕ × List ℕ) : Type 0 where
+      pub text : List ℕ
+      pub alike : AreAlike (about l.0 deciding) text l.1
+      pub there : (c : List ℕ) → IsChoiceOf left c → value_of (set_of c) l.0 ≡ text
+
+    one_text : (l : List ℕ × List ℕ) → IsIn fixed l → OneText l
     one_text l i =
-        let r = texts_fixed asked fixed u ks l.0 l.1 (each_narrowed asked fixed u ks is)
-        (there_fixed fixed l own i) (each_passes (absence_stands asked u) fixed absent l i) in (
-          r.0,
-          r.1,
-          alike_among (about l.0 deciding) (matchers_on asked l.0) r.0 l.1 (same_on_fixed l i).back r.2,
-        )
+        let r = kept_text asked fixed u ks l.0 l.1 each_kept (there_fixed fixed l own i)
+        (each_passes (absence_stands asked u) fixed absent l i) in
+        record {
+          text = r.kept;
+          alike = alike_among (about l.0 deciding) (matchers_on asked l.0) r.kept l.1
+              (same_on_fixed l i).back r.alike;
+          there = λ c choice. elim r.asks [
+            | inl asks ↦
+                (bytes_decides (value_of (set_of c) l.0) r.kept).0
+                (each_passes (condition_holds (set_of c)) (kept_matchers u ks)
+                (choice_there (space_of s.impossible u) (kept_matchers u ks) c choice).1 _ asks)
+            | inr none ↦ value_of_undeclared u c l.0 (not_named u l.0 none.0) ∙ sym none.1
+          ];
+        }
 
     -- ---- Each alert has a choice.
 
-    left_alike : (alert : LabelMap) → HasFixed alert → (name : List ℕ)
-        → HasAlike left deciding name (value_of alert name)
-    left_alike alert has name = by (fixed_text fixed name) refl
-      where
-        by : (o : Option (List ℕ)) → fixed_text fixed name ≡ o
-            → HasAlike left deciding name (value_of alert name)
-        by None e =
-            subst (λ texts. HasAlikeIn (about name deciding) texts (value_of alert name))
-            (sym (texts_free asked fixed u ks name (each_narrowed asked fixed u ks is) e))
-            (alert_alike alert has.0 name)
-        by (Some text) e =
-            let l = fixed_there fixed name text e in
-            let value = AllByRecursion-at (λ k. value_of alert k.0 ≡ k.1) fixed l.0 has.1 l.1 in
-            let one = one_text l.0 l.1 in
-            let on_fixed : HasAlike left deciding l.0.0 (value_of alert l.0.0) = (
-              one.0,
-              rw one.1 (Contains-from_IsIn (one.0 ∷ []) one.0 (inl refl)),
-              subst (AreAlike (about l.0.0 deciding) one.0) (sym value) one.2,
-            ) in
-            subst (λ n. HasAlike left deciding n (value_of alert n)) l.2 on_fixed
+    module _ (alert : LabelMap) (has : HasFixed alert) where
+      -- a choice that meets the same of all matchers, and the one with the texts that are kept
+      met : (c : List ℕ) × IsWhole (sizes u) c × MeetsTheSame deciding (set_of c) alert
+      met = space_choice a (space_of s.impossible u) deciding alert stands.universe stands.complete has.0
 
-    pub choice_of_rule_alert : (alert : LabelMap) → HasFixed alert
-        → (c : List ℕ) × IsChoiceOf (space_of s.impossible left) c × MeetsTheSame ms (set_of c) alert
-    choice_of_rule_alert alert has =
-        let lists = impossible_matchers s.impossible in
-        let r = standing_choice left deciding alert left_universe
-        (λ m i. left_alike alert has m.name) in
-        let set = set_of r.0 in
-        let possible = same_possible set alert s.impossible (rest_met set alert ms lists r.2) in
-        (r.0, (r.1, possible ∙ has.0.1), front_met set alert ms lists r.2)
+      abbrev kept : List ℕ
+      kept = moved ks met.0
+
+      kept_whole : IsWhole (sizes u) kept
+      kept_whole = moved_whole asked fixed u ks met.0 each_kept met.1
+
+      -- the text of a label there
+      record TextAt (i : ℕ) (l : Label) : Type 0 where
+        pub position : ℕ
+        pub before : value_of (set_of met.0) l.name ≡ unwrap_or (value_at l position) []
+        pub one : Option ℕ
+        pub narrows : IsNarrowed asked fixed l one
+        pub at : slice_get ks i ≡ Some one
+        pub now : value_of (set_of kept) l.name ≡ unwrap_or (value_at l (unwrap_or one position)) []
+
+      text_at : (i : ℕ) (l : Label) → slice_get u i ≡ Some l → TextAt i l
+      text_at i l at =
+          let p = whole_at u met.0 i l met.1 at in
+          let k = moved_at asked fixed u ks met.0 i l p.0 each_kept at p.1 in
+          record {
+            position = p.0;
+            before = value_of_declared u met.0 i l p.0 stands.universe at p.1;
+            one = k.0;
+            narrows = k.1;
+            at = k.2;
+            now = value_of_declared u kept i l (unwrap_or k.0 p.0) stands.universe at k.3;
+          }
+
+      -- it is alike to that of the alert
+      declared_met : (m : Matcher) → IsIn deciding m → (i : ℕ) (l : Label) → slice_get u i ≡ Some l
+          → l.name ≡ m.name → condition_holds (set_of kept) m ≡ condition_holds alert m
+      declared_met m among i l at named = by (fixed_text fixed l.name) refl
+        where
+          t : TextAt i l
+          t = text_at i l at
+
+          by : (o : Option (List ℕ)) → fixed_text fixed l.name ≡ o
+              → condition_holds (set_of kept) m ≡ condition_holds alert m
+          by None e =
+              let free = kept_free asked fixed l t.one t.narrows e in
+              let same : value_of (set_of kept) l.name ≡ value_of (set_of met.0) l.name =
+              t.now ∙ ap (λ k. unwrap_or (value_at l (unwrap_or k t.position)) []) free ∙ sym t.before in
+              ap (holds m.op m.value)
+              (subst (λ n. value_of (set_of kept) n ≡ value_of (set_of met.0) n) named same)
+              ∙ AllByRecursion-at (λ n. condition_holds (set_of met.0) n ≡ condition_holds alert n)
+              deciding m met.2 among
+          by (Some text) e =
+              let r = kept_fixed asked fixed l t.one text t.narrows e in
+              let f = fixed_there fixed l.name text e in
+              let value = AllByRecursion-at (λ k. value_of alert k.0 ≡ k.1) fixed f.0 has.1 f.1 in
+              let of_alert : value_of alert m.name ≡ text =
+              ap (value_of alert) (sym named ∙ sym f.2) ∙ value ∙ f.3 in
+              let of_kept : value_of (set_of kept) m.name ≡ unwrap_or (value_at l r.0) [] =
+              ap (value_of (set_of kept)) (sym named) ∙ t.now
+              ∙ ap (λ k. unwrap_or (value_at l (unwrap_or k t.position)) []) r.1 in
+              let alike = alike_among (about l.name deciding) (matchers_on asked l.name)
+              (unwrap_or (value_at l r.0) []) text
+              (subst (λ n. HaveSameMatchers (matchers_on asked n) (about n deciding)) f.2
+              (same_on_fixed f.0 f.1)).back r.3 in
+              ap (holds m.op m.value) of_kept
+              ∙ AllByRecursion-at
+              (λ n. holds n.op n.value (unwrap_or (value_at l r.0) []) ≡ holds n.op n.value text)
+              (about l.name deciding) m alike (is_about l.name deciding m among (sym named))
+              ∙ ap (holds m.op m.value) (sym of_alert)
+
+      all_met : MeetsTheSame deciding (set_of kept) alert
+      all_met =
+          AllByRecursion-each (λ m. condition_holds (set_of kept) m ≡ condition_holds alert m) deciding
+          (λ m among. elim (cases_Bool (is_declared u m.name)) [
+            | inl some ↦
+                let l = any_in (λ (l : Label). same_text l.name m.name) u some in
+                let at = at_in u l.0 l.1 in
+                declared_met m among at.0 l.0 at.1 ((bytes_decides l.0.name m.name).0 l.2)
+            | inr none ↦
+                let fresh = not_named u m.name none in
+                ap (holds m.op m.value)
+                (value_of_undeclared u kept m.name fresh ∙ sym (value_of_undeclared u met.0 m.name fresh))
+                ∙ AllByRecursion-at (λ n. condition_holds (set_of met.0) n ≡ condition_holds alert n)
+                deciding m met.2 among
+          ])
+
+      -- it has the texts that are kept
+      has_kept : all_hold (set_of kept) (kept_matchers u ks) ≡ true
+      has_kept =
+          all_pass (condition_holds (set_of kept)) (kept_matchers u ks) (λ m among.
+          let r = matcher_there u ks m among in
+          let t = text_at r.0 r.1 r.3 in
+          let same : Some t.one ≡ Some (Some r.2) = sym t.at ∙ r.4 in
+          let is : t.one ≡ Some r.2 = cc in
+          let value : value_of (set_of kept) r.1.name ≡ unwrap_or (value_at r.1 r.2) [] =
+          t.now ∙ ap (λ k. unwrap_or (value_at r.1 (unwrap_or k t.position)) []) is in
+          subst (λ n. condition_holds (set_of kept) n ≡ true) r.5
+          ((bytes_decides (value_of (set_of kept) r.1.name) (unwrap_or (value_at r.1 r.2) [])).1 value))
+
+      pub choice_of_rule_alert : (c : List ℕ) × IsChoiceOf left c × MeetsTheSame ms (set_of c) alert
+      choice_of_rule_alert =
+          let lists = impossible_matchers s.impossible in
+          let possible = same_possible (set_of kept) alert s.impossible
+          (rest_met (set_of kept) alert ms lists all_met) in (
+            kept,
+            choice_of_part (space_of s.impossible u) (kept_matchers u ks) kept
+                (kept_whole, possible ∙ has.0.1) has_kept,
+            front_met (set_of kept) alert ms lists all_met,
+          )
 
     -- ---- What is shown for a choice is an alert that has the labels that are fixed.
 
     abbrev pub shown_of : List ℕ → LabelMap
-    shown_of c = labels_of (shown_labels fixed left c)
+    shown_of c = labels_of (shown_labels fixed u c)
 
     fixed_value : (c : List ℕ) (l : List ℕ × List ℕ) → IsIn fixed l → value_of (shown_of c) l.0 ≡ l.1
-    fixed_value c l i = value_fixed fixed left c l own i
+    fixed_value c l i = value_fixed fixed u c l own i
 
-    shown_alike : (c : List ℕ) → IsWhole (sizes left) c → (m : Matcher) → IsIn deciding m
+    shown_alike : (c : List ℕ) → IsChoiceOf left c → (m : Matcher) → IsIn deciding m
         → condition_holds (set_of c) m ≡ condition_holds (shown_of c) m
-    shown_alike c whole m i = elim (cases_Bool (shown.has_name fixed m.name)) [
+    shown_alike c choice m i = elim (cases_Bool (shown.has_name fixed m.name)) [
       | inl some ↦
           let l = any_in (λ k. same_text k.0 m.name) fixed some in
           let named_so = (bytes_decides l.0.0 m.name).0 l.2 in
           let one = one_text l.0 l.1 in
-          let value = only one.0 (value_of (set_of c) l.0.0)
-          (Contains-from_IsIn (one.0 ∷ []) (value_of (set_of c) l.0.0)
-          (subst (λ texts. IsIn texts (value_of (set_of c) l.0.0)) one.1
-          (choice_text left c l.0.0 left_universe whole))) in
-          let same : holds m.op m.value one.0 ≡ holds m.op m.value l.0.1 =
-          AllByRecursion-at (λ n. holds n.op n.value one.0 ≡ holds n.op n.value l.0.1)
-          (about l.0.0 deciding) m one.2 (is_about l.0.0 deciding m i (sym named_so)) in
+          let same : holds m.op m.value one.text ≡ holds m.op m.value l.0.1 =
+          AllByRecursion-at (λ n. holds n.op n.value one.text ≡ holds n.op n.value l.0.1)
+          (about l.0.0 deciding) m one.alike (is_about l.0.0 deciding m i (sym named_so)) in
           subst (λ n. holds m.op m.value (value_of (set_of c) n) ≡ holds m.op m.value (value_of (shown_of c) n))
           named_so
-          (ap (holds m.op m.value) (sym value) ∙ same
+          (ap (holds m.op m.value) (one.there c choice) ∙ same
           ∙ ap (holds m.op m.value) (sym (fixed_value c l.0 l.1)))
       | inr none ↦
           ap (holds m.op m.value)
-          (sym (value_other fixed left c m.name left_universe.distinct none))
+          (sym (value_other fixed u c m.name stands.universe.distinct none))
     ]
 
-    shown_met : (c : List ℕ) → IsWhole (sizes left) c → MeetsTheSame deciding (set_of c) (shown_of c)
-    shown_met c whole =
+    shown_met : (c : List ℕ) → IsChoiceOf left c → MeetsTheSame deciding (set_of c) (shown_of c)
+    shown_met c choice =
         AllByRecursion-each (λ m. condition_holds (set_of c) m ≡ condition_holds (shown_of c) m)
-        deciding (shown_alike c whole)
+        deciding (shown_alike c choice)
 
-    pub shown_meets : (c : List ℕ) → IsChoiceOf (space_of s.impossible left) c
-        → MeetsTheSame ms (set_of c) (shown_of c)
-    shown_meets c is_choice =
-        front_met (set_of c) (shown_of c) ms (impossible_matchers s.impossible) (shown_met c is_choice.0)
+    pub shown_meets : (c : List ℕ) → IsChoiceOf left c → MeetsTheSame ms (set_of c) (shown_of c)
+    shown_meets c choice =
+        front_met (set_of c) (shown_of c) ms (impossible_matchers s.impossible) (shown_met c choice)
 
     module _ (over : are_over a fixed ≡ true) (utf8 : AllByRecursion (λ l. IsUtf8 l.1) fixed) where
       shown_is_alert : (c : List ℕ) → IsAlert a (shown_of c)
@@ -323,19 +409,19 @@ module _ (a : Alphabet) (s : Space) (u : List Label) (ms : List Matcher)
                   (each_passes (λ k. is_over a k.1) fixed over l.0 l.1)),
             )
         | inr none ↦
-            universe_alert a left c left_universe (over_narrowed a u ks stands.over) name text
+            universe_alert a u c stands.universe stands.over name text
             (some_got (get (set_of c) name) text
-            (sym (value_other fixed left c name left_universe.distinct none)
+            (sym (value_other fixed u c name stands.universe.distinct none)
             ∙ ap (λ o. unwrap_or o []) e)
-            (λ empty. shown_alone fixed left c name (e ∙ ap Some empty)))
+            (λ empty. shown_alone fixed u c name (e ∙ ap Some empty)))
       ]
 
-      pub shown_has_fixed : (c : List ℕ) → IsChoiceOf (space_of s.impossible left) c
-          → HasFixed (shown_of c)
-      shown_has_fixed c is_choice =
+      pub shown_has_fixed : (c : List ℕ) → IsChoiceOf left c → HasFixed (shown_of c)
+      shown_has_fixed c choice =
           let lists = impossible_matchers s.impossible in
+          let there = (choice_there (space_of s.impossible u) (kept_matchers u ks) c choice).0 in
           let possible = same_possible (set_of c) (shown_of c) s.impossible
-          (rest_met (set_of c) (shown_of c) ms lists (shown_met c is_choice.0)) in (
-            (shown_is_alert c, sym possible ∙ is_choice.1),
+          (rest_met (set_of c) (shown_of c) ms lists (shown_met c choice)) in (
+            (shown_is_alert c, sym possible ∙ there.1),
             AllByRecursion-each (λ l. value_of (shown_of c) l.0 ≡ l.1) fixed (fixed_value c),
           )

@@ -1,19 +1,20 @@
 -- Rules, each with its outcomes: the one at a position, one more of them, and one more of the
 -- outcomes of one.
-use Rattle.std.proofs.Common.{◌≡◌, ℕ, zero, suc, ◌+◌, List, [], ◌∷◌, ◌++◌, length, take, Option, Some}
+use Rattle.std.proofs.Common.{◌≡◌, ℕ, zero, suc, ◌+◌, List, [], ◌∷◌, ◌++◌, length, take, Option, Some, None}
 use Rattle.std.proofs.Common.{Bool, true, false, cond, map, append_assoc, option_map, refl, sym, ap}
 use Rattle.std.proofs.Common.{◌∙◌, arith}
 use Rattle.std.specs.Prelude.{slice_get}
-use Rattle.std.specs.List.{count_by, filter, flat_map}
+use Rattle.std.specs.List.{AllByRecursion, count_by, filter, flat_map}
 use Rattle.std.proofs.lemmas.List.{length-map, map-append, flat_map_more}
 use Rattle.std.proofs.lemmas.List.Elements.{filter-append}
 use Rattle.std.proofs.lemmas.List.Sums.{sum_by_push}
 use Rattle.std.proofs.lemmas.Option.{slice_get-map}
+use Rattle.am_universe.proofs.LabelPairLemmas.{at_place}
 use Rattle.am_complete.proofs.Pushed.{one_longer}
 use Rattle.am_alerting_rules.specs.RulesFile.{AlertingRule}
 use Rattle.am_rule_outcomes.specs.declared.rule_outcomes.RuleOutcomes.{RuleOutcomes}
-use Rattle.am_rule_outcomes.specs.Narrowed.{Narrowed}
-use Rattle.am_rule_outcomes.specs.NarrowingView.{narrowed_of, rule_outcomes_view}
+use Rattle.am_rule_outcomes.specs.Narrowed.{HaveWholeChoices, Narrowed}
+use Rattle.am_rule_outcomes.specs.NarrowingView.{narrowed_in, narrowed_of, rule_outcomes_view}
 use Rattle.am_rule_outcomes.specs.RuleOutcomes.{rule_outcomes_shown, with_rule_outcomes}
 
 as_many : (rules : List AlertingRule) (found : List (Option Narrowed))
@@ -37,16 +38,22 @@ module _ (rules : List AlertingRule) (found : RuleOutcomes) where
       → length (with_rule_outcomes rules (rule_outcomes_view found)) ≡ length rules
   found_length same =
       as_many rules (rule_outcomes_view found)
-      (length-map found.of_rules.items (narrowed_of found.each.items) ∙ same)
+      (length-map found.of_rules.items (narrowed_of (narrowed_in found)) ∙ same)
 
   pub found_at : (i : ℕ) (r : AlertingRule) (position : Option ℕ) → slice_get rules i ≡ Some r
       → slice_get found.of_rules.items i ≡ Some position
       → slice_get (with_rule_outcomes rules (rule_outcomes_view found)) i
-      ≡ Some (r, rule_outcomes_shown r (narrowed_of found.each.items position))
+      ≡ Some (r, rule_outcomes_shown r (narrowed_of (narrowed_in found) position))
   found_at i r position at there =
-      at_position rules (rule_outcomes_view found) i r (narrowed_of found.each.items position) at
-      (slice_get-map (narrowed_of found.each.items) found.of_rules.items i
-      ∙ ap (option_map (narrowed_of found.each.items)) there)
+      at_position rules (rule_outcomes_view found) i r (narrowed_of (narrowed_in found) position) at
+      (slice_get-map (narrowed_of (narrowed_in found)) found.of_rules.items i
+      ∙ ap (option_map (narrowed_of (narrowed_in found))) there)
+
+-- the choices of the outcomes of a rule are whole
+pub whole_of : (each : List Narrowed) → AllByRecursion HaveWholeChoices each → (position : Option ℕ)
+    (n : Narrowed) → narrowed_of each position ≡ Some n → HaveWholeChoices n
+whole_of each whole None n at = absurd cc
+whole_of each whole (Some i) n at = at_place HaveWholeChoices each i n whole at
 
 -- lists that are joined, and items that are counted, with one more
 pub joined_more : {X Y : Type 0} (f : X → List Y) (xs : List X) (i : ℕ) (x : X)

@@ -6,23 +6,24 @@ use Rattle.std.specs.List.{AllByRecursion, AllZip}
 use Rattle.std.specs.Global.{Vec}
 use Rattle.std.proofs.lemmas.Bool.{and_parts}
 use Rattle.std.proofs.lemmas.Grind.{common_steps}
+use Rattle.std.proofs.lemmas.List.{length-map}
 use Rattle.std.proofs.lemmas.List.Quantifiers.{position-Some}
 use Rattle.std.proofs.lemmas.Option.{slice_get-map, slice_get-get_or, slice_get_within}
 use Rattle.std.proofs.lemmas.Slice.Zip.{all_zipped_more}
 use Rattle.std.specs.Cmp.Lexicographic.{pointwise}
 use Rattle.std.specs.Option.{option_eq}
-use Rattle.am_universe.specs.Universe.{sizes}
+use Rattle.am_universe.specs.Universe.{Label, sizes}
 use Rattle.am_universe.specs.Choice.{IsWhole}
 use Rattle.am_universe.proofs.ListLemmas.{AllByRecursion-each}
 use Rattle.am_universe.proofs.Members.{at_in}
 use Rattle.am_labels.specs.Space.{Space}
-use Rattle.am_every_alert.specs.Deciding.{space_of}
 use Rattle.am_outcomes.specs.Configurations.{Configurations}
 use Rattle.am_outcomes.specs.Outcomes.{outcomes_of}
 use Rattle.am_outcomes.proofs.LineSteps.{whole_at}
 use Rattle.am_rule_outcomes.specs.Narrowing.{narrowed}
-use Rattle.am_rule_outcomes.specs.Narrowed.{Narrowed, HaveWholeChoices, narrowed_outcomes}
-use Rattle.am_rule_outcomes.specs.NarrowingView.{narrowed_of, narrowing_view}
+use Rattle.am_rule_outcomes.specs.Narrowed.{Narrowed, HaveWholeChoices, left_outcomes}
+use Rattle.am_rule_outcomes.specs.Narrowed.{narrowed_outcomes}
+use Rattle.am_rule_outcomes.specs.NarrowingView.{narrowed_each, narrowed_of, narrowed_with, narrowing_view}
 use Rattle.am_rule_outcomes.proofs.RulesFound.{shown_more}
 
 abbrev pub Key : Type 0
@@ -33,14 +34,15 @@ Key = Bor (List (Option ℕ))
 narrowed_whole : (s : Space) (k : Configurations) (kept : List (Option ℕ))
     → HaveWholeChoices (narrowed_outcomes s k kept)
 narrowed_whole s k kept =
-    let t = space_of s.impossible (narrowed s.labels kept) in
+    let t = narrowed s kept in
     AllByRecursion-each (λ (o : List (List ℕ) × List ℕ). IsWhole (sizes t.labels) o.1) (outcomes_of t k)
     (λ o i.
     let at = at_in (outcomes_of t k) o i in
     whole_at t k (outcomes_of t k) t.labels at.0 o refl refl at.1)
 
 pub all_whole_of : (s : Space) (k : Configurations) (keys : List Key)
-    → AllByRecursion HaveWholeChoices (map (λ kept. narrowed_outcomes s k kept.now) keys)
+    → AllByRecursion HaveWholeChoices
+    (narrowed_each s.labels (map (λ kept. left_outcomes s k kept.now) keys))
 all_whole_of s k [] = tt
 all_whole_of s k (kept ∷ keys) = (narrowed_whole s k kept.now, all_whole_of s k keys)
 
@@ -64,21 +66,24 @@ same_narrowing (x ∷ xs) (y ∷ ys) e =
     λ i. same_position x y both.0 i ∷ same_narrowing xs ys both.1 i
 
 module _ (s : Space) (k : Configurations) where
-  abbrev outcomes_of_key : Key → Narrowed
-  outcomes_of_key kept = narrowed_outcomes s k kept.now
+  abbrev Found : Type 0
+  Found = List (List (List ℕ) × List ℕ)
+
+  abbrev outcomes_of_key : Key → Found
+  outcomes_of_key kept = left_outcomes s k kept.now
 
   -- the outcomes of a narrowing that was seen are at its position
   pub seen_at : (eq : Key → Key → Bool) → ((x y : Key) → eq x y ≡ same_kept x.now y.now)
-      → (keys : List Key) (each : List Narrowed) (kept : Key) (i : ℕ)
+      → (keys : List Key) (each : List Found) (kept : Key) (i : ℕ)
       → each ≡ map outcomes_of_key keys → position (eq kept) keys ≡ Some i
-      → slice_get each i ≡ Some (narrowed_outcomes s k kept.now)
+      → slice_get each i ≡ Some (left_outcomes s k kept.now)
   seen_at eq compares keys each kept i are at =
       let found = position-Some (eq kept) keys i kept at in
       let same = same_narrowing kept.now (get_or keys i kept).now
       (sym (compares kept (get_or keys i kept)) ∙ found.1) in
       ap (λ ns. slice_get ns i) are ∙ slice_get-map outcomes_of_key keys i
       ∙ ap (option_map outcomes_of_key) (slice_get-get_or keys i kept found.0)
-      ∙ ap (λ kept. Some (narrowed_outcomes s k kept)) (sym same)
+      ∙ ap (λ kept. Some (left_outcomes s k kept)) (sym same)
 
 pub kept_in_front : {X : Type 0} (xs : List X) (x : X) (i : ℕ) → i < length xs
     → slice_get (xs ++ x ∷ []) i ≡ slice_get xs i
@@ -104,6 +109,15 @@ position_stays before after kept None position is = is
 position_stays before after kept (Some n) None is = absurd cc
 position_stays before after kept (Some n) (Some i) is =
     kept i (slice_get_within before i n is) ∙ is
+
+-- so do those with labels
+pub labelled_stay : (u : List Label) (before after : List (List (List (List ℕ) × List ℕ)))
+    → ((i : ℕ) → i < length before → slice_get after i ≡ slice_get before i)
+    → KeepsItems (narrowed_each u before) (narrowed_each u after)
+labelled_stay u before after kept i within =
+    slice_get-map (narrowed_with u) after i
+    ∙ ap (option_map (narrowed_with u)) (kept i (omega (arith, within, length-map before (narrowed_with u))))
+    ∙ sym (slice_get-map (narrowed_with u) before i)
 
 pub positions_stay : (before after : List Narrowed) → KeepsItems before after
     → (ns : List (Option Narrowed)) (positions : List (Option ℕ))

@@ -1,18 +1,22 @@
 -- Universes narrowed to the alerts of a rule: a label that these alerts have with one text alone
 -- keeps one value, which the matchers cannot tell from that text. (This project's own.)
-use Rattle.std.specs.Prelude.{ℕ, List, [], ◌∷◌, Bool, Option, Some, None, option_map, slice_get}
-use Rattle.std.specs.Prelude.{find, position, if◌then◌else◌, ◌&&◌, ◌||◌}
+use Rattle.std.specs.Prelude.{ℕ, List, [], ◌∷◌, Bool, Option, Some, None, option_map}
+use Rattle.std.specs.Prelude.{find, position, unwrap_or, if◌then◌else◌, ◌&&◌, ◌||◌}
 use Rattle.std.specs.Option.{option_map_or}
 use Rattle.std.specs.List.{list_all}
 use Rattle.am_universe.specs.Text.{same_text}
-use Rattle.am_universe.specs.Universe.{Label, Values}
+use Rattle.am_universe.specs.LabelSet.{value_at}
+use Rattle.am_universe.specs.Universe.{Label}
+use Rattle.am_labels.specs.declared.op.Op.TheVariants.{Equal}
 use Rattle.am_labels.specs.Matcher.{Matcher}
+use Rattle.am_labels.specs.Space.{Space}
 use Rattle.am_classes.specs.declared.alphabet.Alphabet.{Alphabet}
 use Rattle.am_classes.specs.Alphabet.{is_over}
 use Rattle.am_classes.specs.Truths.{alike}
 use Rattle.am_complete.specs.AskedLabel.{AskedLabel}
 use Rattle.am_complete.specs.Complete.{texts_of_label}
 use Rattle.am_complete.specs.LabelState.{is_declared}
+use Rattle.am_outcomes.specs.MatchedPart.{matched_part}
 use Rattle.am_alerting_rules.specs.RulesFile.{AlertingRule}
 use Rattle.am_alerting_rules.specs.RuleAlerts.{fixed_labels}
 
@@ -73,20 +77,20 @@ rule_narrowing a asked u r =
     if are_over a (fixed_labels r) && list_all (absence_stands asked u) (fixed_labels r)
     then narrowing asked (fixed_labels r) u else None
 
--- The narrowed universe: each label keeps the value at its position, if it has one, and else all
--- its values.
-abbrev pub only_value : Values → Option (Option (List ℕ)) → Values
-only_value values None = values
-only_value values (Some v) = v ∷ []
+-- The matchers that narrow a universe: for each label that keeps one value, that which asks for its
+-- text, where absence is the empty text.
+-- Source: own choice.
+-- Example: if `team` keeps `db`, and `env` keeps absence, they are `team="db"` and `env=""`.
+abbrev pub kept_matcher : Label → ℕ → Matcher
+kept_matcher label i =
+    record { name = label.name; op = Equal; value = unwrap_or (value_at label i) [] }
 
-abbrev pub narrowed_values : Values → Option ℕ → Values
-narrowed_values values None = values
-narrowed_values values (Some i) = only_value values (slice_get values i)
+abbrev pub kept_matchers : List Label → List (Option ℕ) → List Matcher
+kept_matchers [] kept = []
+kept_matchers (label ∷ u) [] = []
+kept_matchers (label ∷ u) (None ∷ kept) = kept_matchers u kept
+kept_matchers (label ∷ u) (Some i ∷ kept) = kept_matcher label i ∷ kept_matchers u kept
 
-abbrev pub narrowed_label : Label → Option ℕ → Label
-narrowed_label label kept = record label { values = narrowed_values label.values kept }
-
-abbrev pub narrowed : List Label → List (Option ℕ) → List Label
-narrowed [] kept = []
-narrowed (label ∷ u) [] = label ∷ u
-narrowed (label ∷ u) (k ∷ kept) = narrowed_label label k ∷ narrowed u kept
+-- A space that is narrowed: the label sets that have these texts.
+abbrev pub narrowed : Space → List (Option ℕ) → Space
+narrowed s kept = matched_part s (kept_matchers s.labels kept)

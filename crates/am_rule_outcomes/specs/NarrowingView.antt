@@ -15,11 +15,12 @@ use Rattle.am_alerting_rules.specs.RulesFile.{AlertingRule}
 use Rattle.am_alerting_rules.specs.RuleAlerts.{fixed_labels}
 use Rattle.am_rule_outcomes.specs.declared.label_texts.LabelTexts.{LabelTexts}
 use Rattle.am_rule_outcomes.specs.declared.receiver_outcomes.ReceiverOutcome.{ReceiverOutcome}
+use Rattle.am_rule_outcomes.specs.declared.rule_outcomes.NarrowedOutcomes.{NarrowedOutcomes}
 use Rattle.am_rule_outcomes.specs.declared.rule_outcomes.RuleOutcomes.{RuleOutcomes}
 use Rattle.am_rule_outcomes.specs.declared.where_lines.NarrowedReceivers.{NarrowedReceivers}
 use Rattle.am_rule_outcomes.specs.Narrowing.{alike_position, matchers_on}
 use Rattle.am_rule_outcomes.specs.declared.rule_outcomes.Shared.{Shared}
-use Rattle.am_rule_outcomes.specs.Narrowed.{Narrowed, narrowed_outcomes}
+use Rattle.am_rule_outcomes.specs.Narrowed.{Narrowed, left_outcomes}
 use Rattle.am_rule_outcomes.specs.ReceiverOutcomes as spec
 use Rattle.am_rule_outcomes.specs.ReceiverOutcomes.{with_shown}
 use Rattle.am_rule_outcomes.specs.RuleOutcomes.{RuleOutcome}
@@ -60,17 +61,29 @@ narrowed_receivers_view n = (n.universe.now, map receiver_outcome_view n.outcome
 abbrev pub HaveWholeFirsts : List Label × List (spec.ReceiverOutcome (List ℕ)) → Type 0
 HaveWholeFirsts n = AllByRecursion (λ o. IsWhole (sizes n.0) o.first) n.1
 
--- For each rule, the narrowed universe and its outcomes, if the rule has alerts.
+-- Outcomes of choices of a universe; and for each rule the outcomes of its alerts, if it has any.
+abbrev pub narrowed_with : List Label → List (List (List ℕ) × List ℕ) → Narrowed
+narrowed_with u outcomes = record { labels = u; outcomes = outcomes }
+
+abbrev pub narrowed_view : NarrowedOutcomes → Narrowed
+narrowed_view n = narrowed_with n.universe.now n.outcomes.now
+
+abbrev pub narrowed_each : List Label → List (List (List (List ℕ) × List ℕ)) → List Narrowed
+narrowed_each u each = map (narrowed_with u) each
+
 abbrev pub narrowed_of : List Narrowed → Option ℕ → Option Narrowed
 narrowed_of each position = option_and_then (slice_get each) position
 
+abbrev pub narrowed_in : RuleOutcomes → List Narrowed
+narrowed_in found = narrowed_each found.universe found.each.items
+
 abbrev pub rule_outcomes_view : RuleOutcomes → List (Option Narrowed)
-rule_outcomes_view found = map (narrowed_of found.each.items) found.of_rules.items
+rule_outcomes_view found = map (narrowed_of (narrowed_in found)) found.of_rules.items
 
 -- The outcomes of narrowings, each at the position of its narrowing.
 abbrev pub AreShared : Space → Configurations → Shared → Type 0
 AreShared s k shared =
-    shared.each.items ≡ map (λ kept. narrowed_outcomes s k kept.now) shared.seen.keys
+    shared.each.items ≡ map (λ kept. left_outcomes s k kept.now) shared.seen.keys
 
 -- The outcomes of a rule as its lines show them, with labels in place of choices.
 abbrev pub outcomes_shown : AlertingRule

@@ -8,7 +8,8 @@ ghost use Rattle.am_report_texts.specs.LineView.{line_view, pieces_view, report_
 ghost use Rattle.am_alerting_rules.specs.RuleView.{pairs_view};
 ghost use Rattle.am_rule_outcomes.specs.Narrowed.{HaveWholeChoices};
 ghost use Rattle.am_rule_outcomes.specs.NarrowingView.{HaveWholeFirsts, narrowed_receivers_view};
-ghost use Rattle.am_rule_outcomes.specs.NarrowingView.{outcomes_shown, rule_outcomes_view};
+ghost use Rattle.am_rule_outcomes.specs.NarrowingView.{narrowed_in, outcomes_shown};
+ghost use Rattle.am_rule_outcomes.specs.NarrowingView.{rule_outcomes_view};
 ghost use Rattle.am_rule_outcomes.specs.ReceiverOutcomes.{receiver_outcomes};
 ghost use Rattle.am_rule_outcomes.specs.RuleOutcomes.{RuleOutcome, with_outcomes};
 ghost use Rattle.am_rule_outcomes.specs.WhereLines.{is_asked, last_pieces, no_alert_line};
@@ -16,7 +17,7 @@ ghost use Rattle.am_rule_outcomes.specs.WhereLines.{rule_lines, rule_pieces, sil
 ghost use Rattle.am_rule_outcomes.specs.WhereLines.{where_line, where_report};
 
 use crate::receiver_outcomes::{ReceiverOutcome, Silenced, receiver_outcomes};
-use crate::rule_outcomes::{NarrowedOutcomes, RuleOutcomes, item_at};
+use crate::rule_outcomes::{RuleOutcomes, item_at};
 use crate::shown_labels::{fixed_shown, shown_labels};
 use am_alerting_rules::AlertingRule;
 use am_config::Config;
@@ -24,7 +25,7 @@ use am_report_texts::{Field, Level, Line, Piece, Report, Shown, plural, receiver
 use am_universe::Universe;
 use std::alloc::{AllocError, Global};
 
-/// The receivers of the choices of a narrowed universe.
+/// The receivers of the outcomes of a narrowing, and the universe of their choices.
 #[derive(Drop)]
 struct NarrowedReceivers<'a> {
     universe: &'a Universe,
@@ -42,12 +43,12 @@ pub fn where_report<'a>(
     asked: Option<&[usize]>,
 ) -> Result<Report<'a>, AllocError>
     requires each { length found.now.of_rules.items ≡ length rules.now }
-    requires whole { AllByRecursion HaveWholeChoices found.now.each.items }
+    requires whole { AllByRecursion HaveWholeChoices (narrowed_in found.now) }
     ensures report { IfOk result (λ report. report_view report
         ≡ where_report (config_view config.now) (option_copied asked.entry)
         (with_outcomes rules.now (rule_outcomes_view found.now))) }
 {
-    let each = narrowed_receivers(alloc, found.each.as_slice())?;
+    let each = narrowed_receivers(alloc, found)?;
     let mut lines = Vec::new(alloc);
     let mut shown = 0;
     for i in 0..rules.len() {
@@ -62,22 +63,23 @@ pub fn where_report<'a>(
     Ok(Report { lines, last })
 }
 
-/// Returns the receivers of the choices of each narrowed universe.
+/// Returns the receivers of the outcomes of each narrowing.
 fn narrowed_receivers<'a>(
     alloc: Global,
-    each: &'a [NarrowedOutcomes],
+    found: &'a RuleOutcomes,
 ) -> Result<Vec<NarrowedReceivers<'a>>, AllocError>
-    ensures { IfOk result (λ found. map narrowed_receivers_view found.items
-        ≡ map (λ n. (n.labels, receiver_outcomes n.outcomes)) each.now) }
+    ensures { IfOk result (λ each. map narrowed_receivers_view each.items
+        ≡ map (λ outcomes. (found.now.universe, receiver_outcomes outcomes))
+        found.now.each.items) }
 {
-    let mut found = Vec::with_capacity(alloc, each.len())?;
-    for narrowed in each {
-        found.push(NarrowedReceivers {
-            universe: &narrowed.universe,
-            outcomes: receiver_outcomes(alloc, &narrowed.outcomes)?,
+    let mut each = Vec::with_capacity(alloc, found.each.len())?;
+    for outcomes in &found.each {
+        each.push(NarrowedReceivers {
+            universe: &found.universe,
+            outcomes: receiver_outcomes(alloc, outcomes)?,
         })?;
     }
-    Ok(found)
+    Ok(each)
 }
 
 /// Adds the lines of a rule that narrows a universe to one that has these receivers.

@@ -43,31 +43,31 @@ pub returns-in_err-refute-clause-first : goal.returns-in_err-refute-clause-first
 returns-in_err-refute-clause-first c =
     first_after (goal.at.returns-in_err-refute-clause-first c).After-refute
 
-pub returns-else-not-branch-clause-fewer : goal.returns-else-not-branch-clause-fewer
-returns-else-not-branch-clause-fewer c =
-    fewer_after (goal.at.returns-else-not-branch-clause-fewer c).After-refute
+pub returns-then-branch-clause-fewer : goal.returns-then-branch-clause-fewer
+returns-then-branch-clause-fewer c =
+    fewer_after (goal.at.returns-then-branch-clause-fewer c).After-refute
 
-pub returns-else-not-branch-clause-first : goal.returns-else-not-branch-clause-first
-returns-else-not-branch-clause-first c =
-    first_after (goal.at.returns-else-not-branch-clause-first c).After-refute
+pub returns-then-branch-clause-first : goal.returns-then-branch-clause-first
+returns-then-branch-clause-first c =
+    first_after (goal.at.returns-then-branch-clause-first c).After-refute
 
-pub returns-else-not-branch-clause-needed : goal.returns-else-not-branch-clause-needed
-returns-else-not-branch-clause-needed c = λ all k at named.
+pub returns-then-branch-clause-needed : goal.returns-then-branch-clause-needed
+returns-then-branch-clause-needed c = λ all k at named.
     unnamed_at c.args.i c.args.candidates.now c.refute.new.candidates k
     (subst (λ (ls : List Candidate). AreFewer ls c.refute.new.candidates) c.set_named.ensures
     c.refute.ensures.fewer) at named
 
 -- some choice is found, so the name is put back
-pub returns-then-not-branch : goal.returns-then-not-branch
-returns-then-not-branch c =
+pub returns : goal.returns
+returns c =
     let Is = IsPossible c.args.possible.now in
     let ks = c.args.candidates.now in
     let i = c.args.i in
     let k = get_or ks i c.index-candidates-i.result in
-    let met = c.in_ok-refute.ensures.met c.if-not-branch.true in
+    let met = c.in_ok-refute.ensures.met c.if-branch.false in
     let less : c.refute.new.candidates ≡ without i ks = met.0 ∙ c.set_named.ensures in
-    let back : c.set_named-then-not-branch.new.candidates ≡ ks =
-    c.set_named-then-not-branch.ensures ∙ ap (renamed i true) less
+    let back : c.set_named-2.new.candidates ≡ ks =
+    c.set_named-2.ensures ∙ ap (renamed i true) less
     ∙ restored i ks k (slice_get-get_or ks i c.index-candidates-i.result c.requires.there)
     c.if-not-candidates-i.false in
     rw back (record {

@@ -8,15 +8,13 @@ use Rattle.am_first_sets.specs.Solving.{IsAnswer, NoneAvoids, IsLeast}
 use Rattle.am_first_sets.proofs.SolverLemmas.{fixed_more, labels_left, below_size, first_found, first_nowhere}
 use Rattle.am_first_sets.proofs.solver.first_avoiding.Goals as goal
 
-pub returns-in_default : goal.returns-in_default
-returns-in_default c = record {
-  first = λ test is.
-      first_nowhere (sizes c.args.universe.now) c.args.start c.in_ok-cubes.cubes.items
-      c.args.unwanted.now test c.in_ok-cubes.ensures.same
-      (subst₂ NoneAvoids c.in_ok-try_clone.ensures.same c.as_slice.ensures.value
-      (rw c.in_default.is at c.in_ok-found.ensures.none))
-      is;
-}
+pub returns-in_default-clause-first : goal.returns-in_default-clause-first
+returns-in_default-clause-first c = λ test is.
+    first_nowhere (sizes c.args.universe.now) c.args.start c.in_ok-cubes.cubes.items
+    c.args.unwanted.now test c.in_ok-cubes.ensures.same
+    (subst₂ NoneAvoids c.in_ok-try_clone.ensures.same c.as_slice.ensures.value
+    (rw c.in_default.is at c.in_ok-found.ensures.none))
+    is
 
 pub fix_least-requires-clause-label : goal.fix_least-requires-clause-label
 fix_least-requires-clause-label c =
@@ -42,6 +40,7 @@ loop-label-preserved c =
     let long = c.loop-label.invariant.long in
     let p = c.in_ok-position.position in
     rw c.push.ensures.added (record {
+      same = c.fix_least.ensures.same ∙ c.loop-label.invariant.same;
       long = length_push c.loop-label.choice p ∙ ap (λ n. n + 1) long;
       fixed = fixed_more c.args.start c.loop-label.left c.fix_least.new.left cubes c.loop-label.found
           c.fix_least.new.found c.loop-label.choice p c.loop-label.invariant.fixed
@@ -52,19 +51,17 @@ loop-label-preserved c =
           c.as_slice-in-loop-label.ensures.value c.in_ok-position.ensures.found);
     })
 
-pub returns : goal.returns
-returns c = record {
-  first = λ test is.
-      first_found (sizes c.args.universe.now) c.args.start c.loop-label.left
-      c.in_ok-cubes.cubes.items c.args.unwanted.now c.loop-label.found c.loop-label.choice test
-      c.requires c.in_ok-cubes.ensures.same c.loop-label.invariant.fixed
-      (omega (
-        arith,
-        c.loop-label.invariant.long,
-        c.loop-label-test.false,
-        c.loop-label.auto.label-end,
-        c.len-label-end.ensures.len,
-        length-map c.args.universe.now (λ (l : Label). length l.values),
-      ))
-      is;
-}
+pub returns-clause-first : goal.returns-clause-first
+returns-clause-first c = λ test is.
+    first_found (sizes c.args.universe.now) c.args.start c.loop-label.left
+    c.in_ok-cubes.cubes.items c.args.unwanted.now c.loop-label.found c.loop-label.choice test
+    c.requires c.in_ok-cubes.ensures.same c.loop-label.invariant.fixed
+    (omega (
+      arith,
+      c.loop-label.invariant.long,
+      c.loop-label-test.false,
+      c.loop-label.auto.label-end,
+      c.len-label-end.ensures.len,
+      length-map c.args.universe.now (λ (l : Label). length l.values),
+    ))
+    is

@@ -6,5 +6,6 @@ use Rattle.am_first_sets.proofs.solver.first_avoiding.Given as goal
 abbrev pub invariant-loop-label : goal.invariant-loop-label
 invariant-loop-label l = record {
   long : length l.choice ≡ l.label;
+  same : l.budget ≡ l.fn.budget;
   fixed : AreFixed l.initial.left l.left l.cubes.items l.found l.choice;
 }

@@ -10,4 +10,5 @@ invariant-loop-position l = record {
   least : IsLeast l.left l.unwanted l.label l.position;
   left : l.left ≡ l.fn.left;
   same : l.found ≡ l.fn.found;
+  budget : l.budget ≡ l.fn.budget;
 }

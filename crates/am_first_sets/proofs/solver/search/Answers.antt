@@ -5,7 +5,6 @@ use Rattle.am_judged_lists.specs.declared.mask.Part.TheVariants.{Within, Outside
 use Rattle.am_judged_lists.specs.Cube.{MaskedLabels}
 use Rattle.am_judged_lists.specs.Boxes.{IsOpen, HasChoice, count_positions}
 use Rattle.am_first_sets.specs.Solving.{marked}
-use Rattle.am_first_sets.proofs.BudgetLemmas.{spent_itself, spent_more}
 use Rattle.am_first_sets.proofs.SolverLemmas.{AreLeft, IsKept, left_start, left_nothing, left_done, left_refuted, left_narrowed, left_split, left_marked, marked_at, refuted_by, weight, lighter_none, lighter_one, lighter_two}
 use Rattle.am_first_sets.proofs.solver.search.Goals.{then-has_choice+in_ok-push, else-has_choice}
 use Rattle.am_first_sets.proofs.solver.search.Goals as goal
@@ -17,7 +16,7 @@ loop-positions-init c = elim c.if-has_choice.branch [
         long = c.requires;
         left = left_start c.args.start (marked c.args.used.now c.args.unwanted.now)
             (c.has_choice.ensures.0 w.if-has_choice.true);
-        spent = spent_itself c.args.budget.now;
+        same = refl;
       })
   | else-has_choice w ↦
       rw (w.stack-is, c.new-stack.ensures.items) (record {
@@ -25,12 +24,12 @@ loop-positions-init c = elim c.if-has_choice.branch [
         left = left_nothing c.args.start (marked c.args.used.now c.args.unwanted.now) (λ some.
             let apart : true ≡ false = sym (c.has_choice.ensures.1 some) ∙ w.if-has_choice.false in
             cc);
-        spent = spent_itself c.args.budget.now;
+        same = refl;
       })
 ]
 
-pub returns-in-Done-clause-solved : goal.returns-in-Done-clause-solved
-returns-in-Done-clause-solved c =
+pub returns-in-Done-clause-found : goal.returns-in-Done-clause-found
+returns-in-Done-clause-found c =
     let used = marked c.loop-positions.used c.args.unwanted.now in
     left_done c.args.start used c.args.unwanted.now c.pop.new.self.items c.in-Some.positions
     (subst (AreLeft c.args.start used) c.in-Some.ensures.items c.loop-positions.invariant.left)
@@ -69,8 +68,7 @@ loop-positions-preserved-in-Refuted-1 c =
           (refuted_by used cubes c.in-Some.positions k
           (omega (arith, c.in-Refuted.ensures.0, c.loop-positions.invariant.long))
           c.in-Refuted.ensures.0 c.in-Refuted.ensures.1);
-      spent = spent_more c.args.budget.now c.loop-positions.budget c.take.new.self
-          c.loop-positions.invariant.spent c.take.ensures.spent;
+      same = c.take.ensures.same ∙ c.loop-positions.invariant.same;
     }
 
 pub loop-positions-preserved-in-Continue-branch-2 :
@@ -95,8 +93,7 @@ loop-positions-preserved-in-Continue-branch-2 c =
           (λ d. marked_at used cubes k cube d
           (omega (arith, c.in-Narrow.ensures.0, c.loop-positions.invariant.long)) at)
           c.keep.ensures.some c.keep.ensures.choices (c.in-Narrow.ensures.1 cube at).1);
-      spent = spent_more c.args.budget.now c.loop-positions.budget c.take.new.self
-          c.loop-positions.invariant.spent c.take.ensures.spent;
+      same = c.take.ensures.same ∙ c.loop-positions.invariant.same;
     }
 
 pub keep-requires-in-Split : goal.keep-requires-in-Split
@@ -160,6 +157,5 @@ loop-positions-preserved c =
           c.keep-in-Split-2.ensures.some
           (subst (λ (x : Bor MaskedLabels). IsKept b o x.now label Outside) same
           c.keep-in-Split-2.ensures.choices));
-      spent = spent_more c.args.budget.now c.loop-positions.budget c.take.new.self
-          c.loop-positions.invariant.spent c.take.ensures.spent;
+      same = c.take.ensures.same ∙ c.loop-positions.invariant.same;
     }

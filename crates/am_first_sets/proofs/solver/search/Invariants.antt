@@ -1,15 +1,14 @@
 use Rattle.std.proofs.Common.{◌≡◌, length}
-use Rattle.am_first_sets.specs.Budget.{IsSpent}
 use Rattle.am_first_sets.specs.Solving.{marked}
 use Rattle.am_first_sets.proofs.SolverLemmas.{AreLeft, weight}
 use Rattle.am_first_sets.proofs.solver.search.Given as goal
 
--- what the boxes on the stack leave to look at, and what was looked at so far
+-- what the boxes on the stack leave to look at
 abbrev pub invariant-loop-positions : goal.invariant-loop-positions
 invariant-loop-positions l = record {
   long : length l.used ≡ length l.unwanted;
   left : AreLeft l.fn.start (marked l.used l.unwanted) l.stack.items;
-  spent : IsSpent l.fn.budget l.budget;
+  same : l.budget ≡ l.fn.budget;
 }
 
 -- a box is replaced by others with fewer positions

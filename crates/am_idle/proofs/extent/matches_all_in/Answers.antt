@@ -72,8 +72,8 @@ pub returns-then-is_some-clause-not_all : goal.returns-then-is_some-clause-not_a
 returns-then-is_some-clause-not_all c = λ is.
     let at = (goal.at.returns-then-is_some-clause-not_all c).In_ok-among in
     let r = some_set c.args.space.now (IsPossible c.choices-choices.result.now) (choices_are at)
-    (asks_missed at) (Missed at) (missed_tells at) c.in_ok-meeting.field-0
-    c.in_ok-meeting.ensures.some (sym c.is_some.ensures ∙ c.if-is_some.true) in
+    (asks_missed at) (Missed at) (missed_tells at) c.in_ok-missed.missed
+    c.in_ok-missed.ensures.some (sym c.is_some.ensures ∙ c.if-is_some.true) in
     inl (r.0, (r.1, r.2.0), r.2.1)
 
 pub returns-clause-all : goal.returns-clause-all
@@ -86,7 +86,7 @@ returns-clause-all c = λ is.
       (r.0, (r.1, r.2.0), r.2.1),
       λ set of. true_from_ne_false (all_hold set c.args.matchers.now) (λ missed.
           no_set s (IsPossible c.choices-choices.result.now) (choices_are at) (asks_missed at)
-          (Missed at) (missed_tells at) c.in_ok-meeting.field-0 c.in_ok-meeting.ensures.none
+          (Missed at) (missed_tells at) c.in_ok-missed.missed c.in_ok-missed.ensures.none
           (sym c.is_some.ensures ∙ c.if-is_some.false) set of.0 (of.1, missed)),
     )
 

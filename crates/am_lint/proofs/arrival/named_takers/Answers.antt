@@ -2,7 +2,6 @@
 use Rattle.std.proofs.Common.{ap, ◌∙◌, arith}
 use Rattle.am_labels.specs.Space.{IsChoiceOf}
 use Rattle.am_first_sets.specs.PossibleChoices.{IsPossible}
-use Rattle.am_first_sets.proofs.MeetingLemmas.{if_ok_more}
 use Rattle.am_first_sets.proofs.ReasonLemmas.{reason_alike}
 use Rattle.am_lint.specs.Literals.{named_paths}
 use Rattle.am_lint.specs.Table.{table_space}
@@ -24,17 +23,17 @@ returns c =
     let ks = c.leave_out_idle.new.candidates in
     let n = c.args.fixed in
     record {
-      takers = if_ok_more c.named_routes.result _ _ (λ found is. (
+      takers = (
         (
           ks,
           c.in_ok-leave_out_idle.ensures.same,
           reason_alike (IsPossible c.choices.result.now)
               (IsChoiceOf (table_space c.args.table.now)) n ks c.choices.ensures
               c.in_ok-leave_out_idle.ensures.reason,
-          is ∙ ap (named_paths routes) (left n ks),
+          c.in_ok-named_routes.ensures ∙ ap (named_paths routes) (left n ks),
         ),
         λ i k at behind named.
             let f = c.in_ok-leave_out_idle.ensures.each i k at behind named in
             (f.0, (c.choices.ensures f.0).0 f.1, f.2, f.3),
-      )) c.named_routes.ensures;
+      );
     }

@@ -15,3 +15,7 @@ returns-in_ok-push-in-Unusual-2 c =
       c.in_ok-push_reason-in-Unusual.ensures,
       c.in_ok-labels-in-Unusual.ensures.labels,
     ) (simp append_assoc)
+
+pub returns-in_ok-push-in-Undecided : goal.returns-in_ok-push-in-Undecided
+returns-in_ok-push-in-Undecided c =
+    rw (c.in-Undecided.is, c.in_ok-push-in-Undecided.ensures.items, map-append piece_view)

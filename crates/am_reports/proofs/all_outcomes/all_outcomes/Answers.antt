@@ -56,20 +56,22 @@ returns-clause-refused c =
     let at = goal.at.returns-clause-refused c in
     IfErr-weaker c.outcomes_of_choices.result _ _
     (λ fault told remembered.
-    let refused = told remembered in
     inr (
       c.in_ok-check_declared.ensures.whole,
-      inr (
-        refused.0,
-        record {
-          labels = c.in_ok-universe.universe;
-          stands = stands at.After-declare-2;
-          many = subst
-              (λ (t : Space). HaveManyWays t (tried_of (configurations_of c.args.configs)))
-              (made at.After-declare-2) refused.1;
-          refusal = refused.2;
-        },
-      ),
+      inr (elim (told remembered) [
+        | inl refused ↦ inl (
+          refused.0,
+          record {
+            labels = c.in_ok-universe.universe;
+            stands = stands at.After-declare-2;
+            many = subst
+                (λ (t : Space). HaveManyWays t (tried_of (configurations_of c.args.configs)))
+                (made at.After-declare-2) refused.1;
+            refusal = refused.2;
+          },
+        )
+        | inr cut ↦ inr cut
+      ]),
     )) c.outcomes_of_choices.ensures.refused
 
 pub returns-clause-whole : goal.returns-clause-whole

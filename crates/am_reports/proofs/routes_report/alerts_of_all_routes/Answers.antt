@@ -45,8 +45,12 @@ returns-in_err-universe-clause-refused c =
     c.from_residual-in_err-universe.ensures.1
     (λ remembered. inr (
       c.in_ok-check_declared.ensures.whole,
-      rw c.declare.ensures.impossible at (c.in_err-universe.ensures.refused remembered),
+      inl (rw c.declare.ensures.impossible at (c.in_err-universe.ensures.refused remembered)),
     ))
+
+pub returns-in-Err-clause-refused : goal.returns-in-Err-clause-refused
+returns-in-Err-clause-refused c = λ remembered.
+    inr (c.in_ok-check_declared.ensures.whole, inr (c.fault_of.ensures.refusal remembered))
 
 pub returns-in-Ok-clause-are : goal.returns-in-Ok-clause-are
 returns-in-Ok-clause-are c =

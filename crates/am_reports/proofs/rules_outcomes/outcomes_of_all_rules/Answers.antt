@@ -71,12 +71,16 @@ returns-in-Ok-None-clause-refused c = λ remembered.
     λ i. record { kind = c.at.ensures.kind i; pointer = c.at.ensures.pointer i } in
     inr (
       c.in_ok-check_declared.ensures.whole,
-      inr (
+      inr (inl (
         search rules,
         too_many_for c.args.alphabet c.args.space.now.impossible (configurations_of c.args.configs)
             c.in_ok-universe.universe (stands at) c.args.rules.now
             (map narrowing_view c.in-Ok.narrowings.items) (narrowed_so at) c.declare-2.new.self
             (made at) (refusal_of c.at.result)
             (rw c.in-Ok-None.field-0-is at c.in-Ok-None.ensures.none) limit,
-      ),
+      )),
     )
+
+pub returns-in-Err-UsedUp-clause-refused : goal.returns-in-Err-UsedUp-clause-refused
+returns-in-Err-UsedUp-clause-refused c = λ remembered.
+    inr (c.in_ok-check_declared.ensures.whole, inr (inr (c.routes_cut_off.ensures.refusal remembered)))

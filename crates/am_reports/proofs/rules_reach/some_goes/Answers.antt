@@ -1,7 +1,7 @@
 use Rattle.std.proofs.Common.{◌≡◌, ◌||◌, ◌∙◌, ◌+◌, Some, true, false, drop, sym, ap, arith}
 use Rattle.std.specs.List.{list_any}
-use Rattle.std.specs.Prelude.{option_copied, slice_get}
-use Rattle.am_rule_outcomes.specs.NarrowingView.{rule_outcomes_view}
+use Rattle.std.specs.Prelude.{option_map, slice_get}
+use Rattle.am_rule_outcomes.specs.NarrowingView.{narrowed_view, rule_outcomes_view}
 use Rattle.am_reports.specs.RulesReach.{lists_found, lists_of, goes_by}
 use Rattle.am_reports.proofs.RulesWalked.{left_at, rule_at, view_long}
 use Rattle.am_reports.proofs.rules_reach.some_goes.Goals as goal
@@ -9,9 +9,9 @@ use Rattle.am_reports.proofs.rules_reach.some_goes.Goals.{After-of_rule, in-Some
 
 -- the outcomes of the rule
 at_rule : (c : After-of_rule) → slice_get (rule_outcomes_view c.args.found.now) c.loop-i.i
-    ≡ Some (option_copied c.of_rule.result)
+    ≡ Some (option_map narrowed_view c.of_rule.result)
 at_rule c =
-    rule_at (rule_outcomes_view c.args.found.now) c.loop-i.i (option_copied c.of_rule.result)
+    rule_at (rule_outcomes_view c.args.found.now) c.loop-i.i (option_map narrowed_view c.of_rule.result)
     (omega (arith, c.loop-i-test.true, c.len-i-end.ensures, view_long c.args.found.now))
     c.of_rule.ensures.outcomes
 
@@ -20,11 +20,10 @@ returns-then-one_goes c =
     let view = rule_outcomes_view c.args.found.now in
     let i = c.loop-i.i in
     let test = goes_by c.args.receiver in
-    let here : list_any test (lists_of (option_copied c.of_rule.result)) ≡ true =
-    ap (λ n. list_any test (lists_of n)) (ap option_copied c.in-Some.is)
-    ∙ ap (λ m. list_any test (lists_of (Some m))) (sym c.narrowed.view_is) ∙ sym c.one_goes.ensures ∙ c.if-one_goes.true in
+    let here : list_any test (lists_of (option_map narrowed_view c.of_rule.result)) ≡ true =
+    ap (λ n. list_any test (lists_of n)) (ap (option_map narrowed_view) c.in-Some.is) ∙ sym c.one_goes.ensures ∙ c.if-one_goes.true in
     sym (sym c.loop-i.invariant
-    ∙ left_at test view i (option_copied c.of_rule.result)
+    ∙ left_at test view i (option_map narrowed_view c.of_rule.result)
     (at_rule (goal.at.returns-then-one_goes c).After-of_rule)
     ∙ ap (λ b. b || list_any test (lists_found (drop (i + 1) view))) here)
 
@@ -33,13 +32,12 @@ loop-i-preserved c =
     let view = rule_outcomes_view c.args.found.now in
     let i = c.loop-i.i in
     let test = goes_by c.args.receiver in
-    let none : list_any test (lists_of (option_copied c.of_rule.result)) ≡ false =
+    let none : list_any test (lists_of (option_map narrowed_view c.of_rule.result)) ≡ false =
     elim c.match-of_rule.branch [
       | in-Some+else-one_goes w ↦
-          ap (λ n. list_any test (lists_of n)) (ap option_copied w.in-Some.is)
-          ∙ ap (λ m. list_any test (lists_of (Some m))) (sym w.narrowed.view_is) ∙ sym w.one_goes.ensures ∙ w.if-one_goes.false
-      | in_default w ↦ ap (λ n. list_any test (lists_of n)) (ap option_copied w.in_default.is)
+          ap (λ n. list_any test (lists_of n)) (ap (option_map narrowed_view) w.in-Some.is) ∙ sym w.one_goes.ensures ∙ w.if-one_goes.false
+      | in_default w ↦ ap (λ n. list_any test (lists_of n)) (ap (option_map narrowed_view) w.in_default.is)
     ] in
-    sym (left_at test view i (option_copied c.of_rule.result)
+    sym (left_at test view i (option_map narrowed_view c.of_rule.result)
     (at_rule (goal.at.loop-i-preserved c).After-of_rule)
     ∙ ap (λ b. b || list_any test (lists_found (drop (i + 1) view))) none) ∙ c.loop-i.invariant

@@ -20,7 +20,7 @@ use Rattle.am_route_alerts.proofs.end_matchers.kept_lists.Goals.{then-literals-i
 
 pub shortened-requires-clause-cubes : goal.shortened-requires-clause-cubes
 shortened-requires-clause-cubes c =
-    rw c.as_slice.ensures.value (each_known _ _ _ c.in_ok-list.ensures.cubes
+    rw c.as_slice-list.ensures.value (each_known _ _ _ c.in_ok-list.ensures.cubes
     (own_about (table_space c.args.table.now).labels (table_config c.args.table.now)
     c.args.cubes.now c.requires.cubes _))
 
@@ -45,7 +45,7 @@ loop-i-preserved c =
           ∙ append-nil (cubes_at cubes k.tag) in
           let kept : IsKeptList s cubes given k (view list) =
           subst (λ (ms : List Matcher). IsShortened (MeetsAll s given) ms (view list))
-          (ap (map (λ known. known.matcher.now)) w.as_slice.ensures.value
+          (ap (map (λ known. known.matcher.now)) w.as_slice-list.ensures.value
           ∙ known_matchers w.in_ok-list.list.items (cubes_at cubes k.tag) are)
           w.in_ok-shortened.ensures.shortened in
           subst (AreKeptLists s cubes given (take (i + 1) ks))

@@ -22,7 +22,7 @@ use Rattle.am_route_alerts.specs.RouteAlerts.{IsRouteAlerts, is_asked}
 use Rattle.am_route_alerts.proofs.ZipLists.{zip_passed, zip_taken}
 use Rattle.am_route_alerts.proofs.found.alerts_of_routes.Goals as goal
 use Rattle.am_route_alerts.proofs.found.alerts_of_routes.Goals.{After-route-item}
-use Rattle.am_route_alerts.proofs.found.alerts_of_routes.Goals.{then-is_asked+in_ok-end_matchers+in_ok-push}
+use Rattle.am_route_alerts.proofs.found.alerts_of_routes.Goals.{then-is_asked+in_ok-ends_at+in_ok-push}
 use Rattle.am_route_alerts.proofs.found.alerts_of_routes.Goals.{else-is_asked}
 
 -- the next route of the table
@@ -34,12 +34,12 @@ next c =
     ∙ item_here c.deref-route-items.result.now c.loop-route.route-index c.route-item.result
     c.loop-route-test.true c.route-item.is
 
-pub end_matchers-requires-clause-there : goal.end_matchers-requires-clause-there
-end_matchers-requires-clause-there c =
+pub ends_at-requires-clause-there : goal.ends_at-requires-clause-there
+ends_at-requires-clause-there c =
     let table = c.in_ok-table.table in
     let own = its_route (table_space table).labels (table_config table) table.routes.items
     c.in_ok-table.ensures.knows c.loop-route.route-index c.route-item.result
-    (next (goal.at.end_matchers-requires-clause-there c).After-route-item) in
+    (next (goal.at.ends_at-requires-clause-there c).After-route-item) in
     (own.0.1, ap (route_at (table_config table).root) own.2.0 ∙ own.1)
 
 pub loop-route-preserved : goal.loop-route-preserved
@@ -61,20 +61,20 @@ loop-route-preserved c =
     ap (is_asked receivers) (sym own.2.3) ∙ sym c.is_asked.ensures in
     let before = map route_alerts_view c.loop-route.found.items in
     elim c.if-is_asked.branch [
-      | then-is_asked+in_ok-end_matchers+in_ok-push w ↦
+      | then-is_asked+in_ok-ends_at+in_ok-push w ↦
           let found : RouteAlerts = record {
             path = tabled_route.path;
             receiver = tabled_route.receiver;
-            ends = w.in_ok-end_matchers.field-0;
+            ends = w.in_ok-ends_at.field-0;
           } in
           let is : IsRouteAlerts (IsSetOf s) config own.0 (route_alerts_view found) = (
             own.2.0,
             own.2.3,
             subst (λ (q : List ℕ).
-                IsEnds (IsSetOf s) config q (option_map ends_view w.in_ok-end_matchers.field-0))
+                IsEnds (IsSetOf s) config q (option_map ends_view w.in_ok-ends_at.field-0))
                 own.2.0
                 (rw (c.in_ok-table.ensures.space, c.in_ok-table.ensures.config)
-                at w.in_ok-end_matchers.ensures.ends),
+                at w.in_ok-ends_at.ensures.ends),
           ) in
           subst (AllZip (IsRouteAlerts (IsSetOf s) config) (filter test (take (i + 1) all)))
           (sym (ap (λ (v : Vec RouteAlerts). map route_alerts_view v.items) w.found-is

@@ -9,7 +9,6 @@ use Rattle.am_first_sets.specs.declared.candidate.Candidate.{Candidate}
 use Rattle.am_first_sets.specs.PossibleSets.{possible_space}
 use Rattle.am_first_sets.specs.Reason.{AreFewer, AreNamedBefore}
 use Rattle.am_first_sets.specs.Solving.{marked}
-use Rattle.am_first_sets.proofs.MeetingLemmas.{if_ok_more}
 use Rattle.am_route_alerts.specs.declared.matcher_cubes.KnownMatcher.{KnownMatcher}
 use Rattle.am_route_alerts.specs.Implied.{IsSameFor, IsEachNeeded}
 use Rattle.am_route_alerts.specs.MatcherCubes.{MeetsAll}
@@ -52,11 +51,8 @@ returns c =
     ∙ ap (drop n) (c.deref.ensures.value
     ∙ take_at new (drop (length new) c.loop-known.literals.items) c.loop-known.literals.len long) in
     record {
-      shortened = if_ok_more c.named_matchers.result _ _
-          (λ kept is.
-          subst (IsShortened (MeetsAll s given) ms)
+      shortened = subst (IsShortened (MeetsAll s given) ms)
           (sym (ap (map (λ (m : Bor Matcher). m.now))
-          (is ∙ ap (λ ks. kept_of ks matchers) rest)
-          ∙ kept_matchers (drop n new) matchers)) short)
-          c.named_matchers.ensures;
+          (c.in_ok-named_matchers.ensures ∙ ap (λ ks. kept_of ks matchers) rest)
+          ∙ kept_matchers (drop n new) matchers)) short;
     }

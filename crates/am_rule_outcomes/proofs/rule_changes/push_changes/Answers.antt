@@ -8,7 +8,7 @@ use Rattle.am_outcomes.specs.Changes.{changes_of, is_change}
 use Rattle.am_outcomes.specs.OutcomesView.{lists_view}
 use Rattle.am_alerting_rules.specs.RuleAlerts.{fixed_labels}
 use Rattle.am_alerting_rules.specs.RuleView.{pairs_view}
-use Rattle.am_rule_outcomes.specs.Narrowed.{Narrowed}
+use Rattle.am_rule_outcomes.specs.NarrowingView.{narrowed_view}
 use Rattle.am_rule_outcomes.specs.RuleChanges.{rule_change}
 use Rattle.am_rule_outcomes.specs.RuleOutcomes.{rule_outcomes_shown}
 use Rattle.am_rule_outcomes.specs.ShownLabels.{shown_labels}
@@ -21,7 +21,7 @@ loop-i-preserved c =
     let old = config_view c.args.old.now in
     let new = config_view c.args.new.now in
     let r = c.args.rule.now in
-    let n = c.args.narrowed.now in
+    let n = narrowed_view c.args.narrowed in
     let i = c.loop-i.i in
     let os = rule_outcomes_shown r (Some n) in
     let show : List ℕ → List (List ℕ × List ℕ) = shown_labels (fixed_labels r) n.labels in
@@ -29,13 +29,14 @@ loop-i-preserved c =
     (lists_view c.get.result.0.now, show c.get.result.1.now) in
     let at : slice_get os i ≡ Some o =
     slice_get-map (λ (o : List (List ℕ) × List ℕ). (o.0, show o.1)) n.outcomes i
-    ∙ ap (option_map (λ (o : List (List ℕ) × List ℕ). (o.0, show o.1))) (sym (ap (λ (n : Narrowed). slice_get n.outcomes i) c.narrowed.view_is) ∙ c.get.ensures.outcome) in
+    ∙ ap (option_map (λ (o : List (List ℕ) × List ℕ). (o.0, show o.1))) c.get.ensures.outcome in
     let start = c.args.changes.now.items in
     elim c.if-is_change.branch [
       | then-is_change+in_ok-shown_labels+in_ok-push w ↦
           let labels : pairs_view w.in_ok-shown_labels.field-0.items ≡ o.1 =
           w.in_ok-shown_labels.ensures
-          ∙ (λ j. shown_labels ((ap pairs_view w.as_slice.ensures.value ∙ c.in_ok-fixed.ensures.labels) j) (c.narrowed.view_is j).labels c.get.result.1.now) in
+          ∙ ap (λ fixed. shown_labels fixed n.labels c.get.result.1.now)
+          (ap pairs_view w.as_slice.ensures.value ∙ c.in_ok-fixed.ensures.labels) in
           kept_with (is_change old new) (rule_change r) start c.loop-i.changes.items _ (take i os) o true
           (sym c.is_change.ensures.change ∙ w.if-is_change.true) c.loop-i.invariant
           (ap (λ changes. changes.items) w.changes-is ∙ w.in_ok-push.ensures.items

@@ -4,14 +4,15 @@ use Rattle.std.specs.Prelude.{slice_get, IfSome}
 use Rattle.std.specs.List.{flat_map, count_by}
 use Rattle.std.proofs.lemmas.Option.{slice_get-map}
 use Rattle.std.proofs.lemmas.List.{length-map, length-append, take_all}
+use Rattle.std.proofs.lemmas.Simd.{map-map}
 use Rattle.am_complete.proofs.LabelStates.{stands_at}
 use Rattle.am_config.specs.ConfigView.{config_view}
 use Rattle.am_report_texts.specs.Line.{Line}
 use Rattle.am_report_texts.specs.LineView.{line_view}
 use Rattle.am_alerting_rules.specs.RulesFile.{AlertingRule}
 use Rattle.am_rule_outcomes.specs.declared.where_lines.NarrowedReceivers.{NarrowedReceivers}
-use Rattle.am_rule_outcomes.specs.NarrowingView.{HaveWholeFirsts, narrowed_of, narrowed_receivers_view}
-use Rattle.am_rule_outcomes.specs.NarrowingView.{outcomes_shown, rule_outcomes_view}
+use Rattle.am_rule_outcomes.specs.NarrowingView.{HaveWholeFirsts, narrowed_in, narrowed_of, narrowed_receivers_view}
+use Rattle.am_rule_outcomes.specs.NarrowingView.{narrowed_with, outcomes_shown, rule_outcomes_view}
 use Rattle.am_rule_outcomes.specs.ReceiverOutcomes.{receiver_outcomes}
 use Rattle.am_rule_outcomes.specs.RuleOutcomes.{RuleOutcome, rule_outcomes_shown, with_outcomes}
 use Rattle.am_rule_outcomes.specs.RuleOutcomes.{with_rule_outcomes}
@@ -28,17 +29,17 @@ abbrev with_receivers_of :
 with_receivers_of rule = (rule.0, receiver_outcomes rule.1)
 
 -- the receivers of each narrowed universe
-all_receivers : (c : After-index-rules-i) → map narrowed_receivers_view c.as_slice-in-loop-i.result.now
-    ≡ map with_receivers c.args.found.now.each.items
+all_receivers : (c : After-index-rules-i) → map narrowed_receivers_view c.as_slice.result.now
+    ≡ map with_receivers (narrowed_in c.args.found.now)
 all_receivers c =
-    ap (map narrowed_receivers_view) c.as_slice-in-loop-i.ensures.value ∙ c.in_ok-each.ensures
-    ∙ ap (map with_receivers) c.as_slice.ensures.value
+    ap (map narrowed_receivers_view) c.as_slice.ensures.value ∙ c.in_ok-each.ensures
+    ∙ sym (map-map with_receivers (narrowed_with c.args.found.now.universe) c.args.found.now.each.items)
 
 pub push_rule_lines-requires : goal.push_rule_lines-requires
 push_rule_lines-requires c =
     subst (λ (n : Option NarrowedReceivers). IfSome n (λ n. HaveWholeFirsts (narrowed_receivers_view n)))
     (sym c.item_at-narrowed.ensures)
-    (whole_at_position c.as_slice-in-loop-i.result.now c.args.found.now.each.items (all_receivers c)
+    (whole_at_position c.as_slice.result.now (narrowed_in c.args.found.now) (all_receivers c)
     c.requires.whole c.index.result.now)
 
 pub loop-i-preserved : goal.loop-i-preserved
@@ -53,7 +54,7 @@ loop-i-preserved c =
     let one : AlertingRule × List RuleOutcome = (
       rule,
       receiver_outcomes
-          (rule_outcomes_shown rule (narrowed_of found.each.items c.index.result.now)),
+          (rule_outcomes_shown rule (narrowed_of (narrowed_in found) c.index.result.now)),
     ) in
     let lines : List Line = rule_lines config asked one in
     let within : i < length found.of_rules.items = omega (arith, c.requires.each) in
@@ -66,7 +67,7 @@ loop-i-preserved c =
     c.in_ok-push_rule_lines.ensures
     ∙ ap (λ os. map line_view c.loop-i.lines.items ++ rule_lines config asked (rule, os))
     (ap (λ o. outcomes_shown rule (option_map narrowed_receivers_view o)) c.item_at-narrowed.ensures
-    ∙ shown_at_position c.as_slice-in-loop-i.result.now found.each.items
+    ∙ shown_at_position c.as_slice.result.now (narrowed_in found)
     (all_receivers (goal.at.loop-i-preserved c).After-index-rules-i) rule c.index.result.now) in
     let count : length c.push_rule_lines.new.lines.items ≡ length c.loop-i.lines.items + length lines =
     sym (length-map c.push_rule_lines.new.lines.items line_view) ∙ ap length more

@@ -16,14 +16,14 @@ returns-clause-first c =
     let path = c.args.path.now in
     let way = c.in-Some.way in
     let to_end = subst (IsWayToEnd self.routes path) c.in-Some.is c.in_ok-way.ensures.way in
-    if_ok_more c.first_meeting.result _ _
+    if_ok_more c.first_of_all.result _ _
     (λ found first.
     first
     ∙ found_alike s (meets_cubes way.wanted.items way.unwanted.items)
     (is_end_at s.labels (ends_config self) path)
     (λ d is. to_end d
     ∙ ends_as s.labels (ends_config self) self.routes path d is.0 (self.knows_routes d is.0)))
-    (rw (c.as_slice.ensures.value, c.as_slice-2.ensures.value) at c.first_meeting.ensures.first)
+    (rw (c.as_slice.ensures.value, c.as_slice-2.ensures.value) at c.first_of_all.ensures.first)
 
 pub returns-in_default-clause-first : goal.returns-in_default-clause-first
 returns-in_default-clause-first c =
@@ -40,7 +40,7 @@ pub returns-clause-possible : goal.returns-clause-possible
 returns-clause-possible c =
     let self = c.args.self.now in
     let s = ends_space self in
-    if_ok_more c.first_meeting.result _ _
+    if_ok_more c.first_of_all.result _ _
     (λ found first.
     found_of_space s (is_end_at s.labels (ends_config self) c.args.path.now) found first)
     (returns-clause-first c)
