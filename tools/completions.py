@@ -1,5 +1,5 @@
-"""The completions of amcover for bash and zsh, made from its commands and options. They complete
-the commands, the options of each command, and a file after an option that takes one.
+"""The completions of amcover for bash, zsh and fish, made from its commands and options. They
+complete the commands, the options of each command, and a file after an option that takes one.
 """
 import re
 
@@ -79,6 +79,27 @@ OPTIONS
 
 _amcover "$@"
 """
+FISH = """\
+# Completion of amcover for fish. tools/manpage makes this file from the help.
+
+# Whether the first word is this one, and none of these options is given. One whose value is being
+# typed is not given yet.
+function __amcover_is_at
+    set -l words (commandline -opc)
+    test "$words[2]" = "$argv[1]"; or return 1
+    string match -q -- '-*' (commandline -ct); or set -e words[-1]
+    for word in $words[3..]
+        contains -- (string split -m 1 -- = $word)[1] $argv[2..]; and return 1
+    end
+    return 0
+end
+
+complete -c amcover -f
+complete -c amcover -n '__amcover_is_at ""' -s h -l help -d 'Print help'
+complete -c amcover -n '__amcover_is_at ""' -s V -l version -d 'Print version'
+COMMANDS
+OPTIONS
+"""
 
 
 def bash(program):
@@ -123,3 +144,29 @@ def zsh(program):
         text = " \\\n".join(f"                {it}" for it in lines) + " && ret=0"
         cases.append(f"        {command.name})\n            _arguments \\\n{text}\n            ;;")
     return ZSH.replace("COMMANDS", "\n".join(names)).replace("OPTIONS", "\n".join(cases))
+
+
+def fish_text(text):
+    return "'" + re.sub(r"(['\\])", r"\\\1", text) + "'"
+
+
+def fish_option(command, option):
+    """Returns an option as `complete` of fish takes it. It is offered again only if it may be
+    repeated."""
+    given = [] if option.is_repeated else [option.name, *sorted(option.excludes)]
+    place = fish_text(" ".join(["__amcover_is_at", command.name, *(f"--{it}" for it in given)]))
+    value = (" -r -F" if option.takes_file() else " -x") * bool(option.value)
+    return f"complete -c amcover -n {place} -l {option.name}{value} -d {fish_text(option.help)}"
+
+
+def fish(program):
+    names = [
+        f"complete -c amcover -n '__amcover_is_at \"\"' -a {it.name} -d {fish_text(it.about)}"
+        for it in program.commands
+    ]
+    lines = []
+    for command in program.commands:
+        lines += [fish_option(command, it) for it in command.options]
+        place = fish_text(f"__amcover_is_at {command.name}")
+        lines.append(f"complete -c amcover -n {place} -s h -l help -d 'Print help'")
+    return FISH.replace("COMMANDS", "\n".join(names)).replace("OPTIONS", "\n".join(lines))
