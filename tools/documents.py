@@ -37,9 +37,9 @@ class Document:
 
 
 def documents():
-    """Returns README.md, the documents of docs/, and those in the folders of crates."""
-    found = [it for pattern in ("docs/*.md", "crates/*/*.md") for it in sorted(ROOT.glob(pattern))]
-    return [Document(it) for it in [ROOT / "README.md", *found]]
+    """Returns README.md and the documents beside it, in docs/, and in the folders of crates."""
+    patterns = ("*.md", "docs/*.md", "crates/*/*.md")
+    return [Document(it) for pattern in patterns for it in sorted(ROOT.glob(pattern))]
 
 
 def files():
