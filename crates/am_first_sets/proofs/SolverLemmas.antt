@@ -4,7 +4,7 @@ use Rattle.std.specs.Borrow.{Bor}
 use Rattle.std.specs.List.{AllByRecursion, find}
 use Rattle.std.proofs.lemmas.List.{length_push, get_or_push, get_or_append_left}
 use Rattle.std.proofs.lemmas.List.Folds.{list_all_more}
-use Rattle.std.proofs.lemmas.Option.{slice_get_within, slice_get_cases, get_or_from_slice_get}
+use Rattle.std.proofs.lemmas.Option.{slice_get_within, get_or_from_slice_get}
 use Rattle.std.proofs.lemmas.Bool.{cases_Bool, cases_eq, cases_lt, and_from, and_parts, both_ways, false_from_ne_true}
 use Rattle.am_universe.specs.Choice.{choices, IsWhole}
 use Rattle.am_universe.proofs.WholeChoiceLemmas.{admitted_at}
@@ -12,7 +12,7 @@ use Rattle.am_judged_lists.specs.declared.mask.Part.{Part}
 use Rattle.am_judged_lists.specs.declared.mask.Part.TheVariants.{Within, Outside}
 use Rattle.am_judged_lists.specs.Cube.{MaskedLabels, matches, permits_position}
 use Rattle.am_judged_lists.specs.Boxes.{box_permits, IsInBox, HasChoice, is_in_part, count_positions}
-use Rattle.am_first_sets.specs.Solving.{avoids, marked, IsAnswer, NoneAvoids, IsLeast, IsTestOf}
+use Rattle.am_first_sets.specs.Solving.{avoids, marked, IsAnswer, NoneAvoids, IsNarrowed, IsLeast, IsTestOf}
 use Rattle.am_judged_lists.proofs.ListLemmas.{each_map}
 use Rattle.am_first_sets.proofs.FirstLemmas.{found_least, found_nowhere}
 
@@ -196,15 +196,12 @@ marked_at (false ∷ ms) (x ∷ cubes) (suc k) cube c lt at e =
 
 -- a box that the cube at the new mark covers has no choice that avoids what is marked
 pub refuted_by : (ms : List Bool) (cubes : List (Bor MaskedLabels)) (b : List (List Bool)) (k : ℕ)
-    → k < length ms → k < length cubes
-    → ((cube : Bor MaskedLabels) → slice_get cubes k ≡ Some cube
-    → (c : List ℕ) → IsInBox b c → IsTrue (matches cube.now c))
-    → (c : List ℕ) → IsInBox b c → avoids (marked (set ms k true) cubes) c ≡ true → ⊥
-refuted_by ms cubes b k lt within covers c i e = elim (slice_get_cases cubes k).1 [
-  | inl at ↦
-      both_ways (matches at.0.now c) (marked_at ms cubes k at.0 c lt at.2 e) (covers at.0 at.2 c i)
-  | inr none ↦ omega (arith, within, none.0)
-]
+    (cube : Bor MaskedLabels) → k < length ms → slice_get cubes k ≡ Some cube
+    → ((c : List ℕ) → IsInBox b c → IsTrue (matches cube.now c))
+    → NoneAvoids b (marked (set ms k true) cubes)
+refuted_by ms cubes b k cube lt at covers = λ c i.
+    false_from_ne_true (avoids (marked (set ms k true) cubes) c)
+    (λ e. both_ways (matches cube.now c) (marked_at ms cubes k cube c lt at e) (covers c i))
 
 -- if the cubes that were used leave no choice, all leave none
 pub none_by_all : (start : List (List Bool)) (cubes : List (Bor MaskedLabels)) (ms : List Bool)
@@ -212,6 +209,59 @@ pub none_by_all : (start : List (List Bool)) (cubes : List (Bor MaskedLabels)) (
 none_by_all start cubes ms h = λ c i.
     false_from_ne_true (avoids cubes c)
     (λ e. both_ways (avoids (marked ms cubes) c) (h c i) (avoids_marked ms cubes c e))
+
+-- ---- A box that is narrowed.
+
+-- the box `n` has the choices of `b` in a part
+abbrev pub IsKept : List (List Bool) → List (List Bool) → MaskedLabels → ℕ → Part → Type 0
+IsKept b n cube label part =
+    (c : List ℕ) → IsInBox n c ↔ IsInBox b c
+    × IsTrue (is_in_part part (permits_position cube label (slice_index c label)))
+
+-- a cube more is marked
+pub narrowed_marked : (old b : List (List Bool)) (before cubes : List (Bor MaskedLabels))
+    (ms : List Bool) (k : ℕ) → IsNarrowed old b before (marked ms cubes)
+    → IsNarrowed old b before (marked (set ms k true) cubes)
+narrowed_marked old b before cubes ms k narrowed = record {
+  some = narrowed.some;
+  inside = narrowed.inside;
+  kept = λ c i e. narrowed.kept c i (marked_more ms cubes k c e);
+  more = λ c e. narrowed.more c (marked_more ms cubes k c e);
+}
+
+-- the choices that the cube at the new mark matches are taken out
+pub narrowed_by : (old b n : List (List Bool)) (label : ℕ) (before cubes : List (Bor MaskedLabels))
+    (ms : List Bool) (k : ℕ) (cube : Bor MaskedLabels) → k < length ms
+    → slice_get cubes k ≡ Some cube → IsNarrowed old b before (marked ms cubes)
+    → (HasChoice b → HasChoice n) → IsKept b n cube.now label Outside
+    → ((c : List ℕ) → IsInBox b c
+    → matches cube.now c ≡ permits_position cube.now label (slice_index c label))
+    → IsNarrowed old n before (marked (set ms k true) cubes)
+narrowed_by old b n label before cubes ms k cube lt at narrowed still kept exact = record {
+  some = λ h. still (narrowed.some h);
+  inside = λ c i. narrowed.inside c ((kept c).0 i).0;
+  kept = λ c i e.
+      let inside = narrowed.kept c i (marked_more ms cubes k c e) in (kept c).1 (
+        inside,
+        ap not (sym (exact c inside)) ∙ ap not (marked_at ms cubes k cube c lt at e),
+      );
+  more = λ c e. narrowed.more c (marked_more ms cubes k c e);
+}
+
+-- none of the choices that are left is matched by the cube
+pub kept_missed : (b n : List (List Bool)) (label : ℕ) (cube : MaskedLabels)
+    → IsKept b n cube label Outside
+    → ((c : List ℕ) → IsInBox b c
+    → matches cube c ≡ permits_position cube label (slice_index c label))
+    → (c : List ℕ) → IsInBox n c → matches cube c ≡ false
+kept_missed b n label cube kept exact c inside =
+    let parts = (kept c).0 inside in
+    exact c parts.0
+    ∙ false_from_not (permits_position cube label (slice_index c label)) parts.1
+  where
+    false_from_not : (b : Bool) → not b ≡ true → b ≡ false
+    false_from_not true e = cc
+    false_from_not false e = refl
 
 -- ---- What a search has still to look at.
 
@@ -240,12 +290,6 @@ each_joined : {X : Type 0} (P : X → Type 0) (xs ys : List X) → AllByRecursio
     → AllByRecursion P ys → AllByRecursion P (xs ++ ys)
 each_joined P [] ys all more = more
 each_joined P (x ∷ xs) ys all more = (all.0, each_joined P xs ys all.1 more)
-
--- the box `n` has the choices of `b` in a part
-abbrev pub IsKept : List (List Bool) → List (List Bool) → MaskedLabels → ℕ → Part → Type 0
-IsKept b n cube label part =
-    (c : List ℕ) → IsInBox n c ↔ IsInBox b c
-    × IsTrue (is_in_part part (permits_position cube label (slice_index c label)))
 
 kept_part : (b n : List (List Bool)) (cube : MaskedLabels) (label : ℕ) (part : Part)
     → HasChoice b → (HasChoice b → HasChoice n) → IsKept b n cube label part → IsPart b n
@@ -301,17 +345,17 @@ module _ (start : List (List Bool)) (cubes : List (Bor MaskedLabels)) where
       subst (AreLeft start cubes) (append-nil boxes)
       (left_replaced boxes b [] left tt (λ c i e others. none c i e))
 
-  pub left_narrowed : (boxes : List (List (List Bool))) (b n : List (List Bool)) (label : ℕ)
-      (cube : MaskedLabels) → AreLeft start cubes (boxes ++ b ∷ [])
-      → ((c : List ℕ) → avoids cubes c ≡ true → matches cube c ≡ false)
-      → (HasChoice b → HasChoice n) → IsKept b n cube label Outside
-      → ((c : List ℕ) → IsInBox b c
-      → matches cube c ≡ permits_position cube label (slice_index c label))
-      → AreLeft start cubes (boxes ++ n ∷ [])
-  left_narrowed boxes b n label cube left missed still kept exact =
-      left_replaced boxes b (n ∷ []) left
-      (kept_part b n cube label Outside (some_last boxes b left) still kept, tt)
-      (λ c i e none. none.0 ((kept c).1 (i, ap not (sym (exact c i)) ∙ ap not (missed c e))))
+  pub left_narrowed : (before : List (Bor MaskedLabels)) (boxes : List (List (List Bool)))
+      (b n : List (List Bool)) → AreLeft start before (boxes ++ b ∷ [])
+      → IsNarrowed b n before cubes → AreLeft start cubes (boxes ++ n ∷ [])
+  left_narrowed before boxes b n left narrowed =
+      let more : AreLeft start cubes (boxes ++ b ∷ []) = record {
+        parts = left.parts;
+        all = λ c i e none. left.all c i (narrowed.more c e) none;
+      } in
+      left_replaced boxes b (n ∷ []) more
+      (record { some = narrowed.some (some_last boxes b more); inside = narrowed.inside }, tt)
+      (λ c i e none. none.0 (narrowed.kept c i e))
 
   pub left_split : (boxes : List (List (List Bool))) (b w o : List (List Bool)) (label : ℕ)
       (cube : MaskedLabels) → AreLeft start cubes (boxes ++ b ∷ [])
@@ -333,15 +377,6 @@ module _ (start : List (List Bool)) (cubes : List (Bor MaskedLabels)) where
         | inl permitted ↦ none.0 ((kept_w c).1 (i, permitted))
         | inr forbidden ↦ none.1.0 ((kept_o c).1 (i, ap not forbidden))
       ]))
-
--- a cube more is marked
-pub left_marked : (start : List (List Bool)) (ms : List Bool) (cubes : List (Bor MaskedLabels))
-    (k : ℕ) (boxes : List (List (List Bool))) → AreLeft start (marked ms cubes) boxes
-    → AreLeft start (marked (set ms k true) cubes) boxes
-left_marked start ms cubes k boxes left = record {
-  parts = left.parts;
-  all = λ c i e none. left.all c i (marked_more ms cubes k c e) none;
-}
 
 -- ---- One position of a label.
 

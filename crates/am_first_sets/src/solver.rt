@@ -1,10 +1,11 @@
 //! The search for a choice that no cube of some matches.
 //!
 //! A cube that misses a box matches none of its choices, and is done with. Of the others, one that
-//! covers the box leaves no choice; from one with a single open label, its positions are taken out
-//! of the box there; and if each has more, the box is split at an open label of a cube that has the
-//! fewest. When no cube is left, every choice of the box is an answer. (Davis, Logemann and
-//! Loveland, 1962: unit propagation and splitting.)
+//! covers the box leaves no choice; and of one with a single open label, the positions are taken
+//! out of the box there. A pass does this with one cube after the other. If a pass takes out
+//! nothing, the box is split at an open label of a cube that has the fewest. When no cube is left,
+//! every choice of the box is an answer. (Davis, Logemann and Loveland, 1962: unit propagation and
+//! splitting.)
 
 ghost use Rattle.std.specs.Prelude.{◌≡◌, ℕ, ◌<◌, List, length, slice_index, Bool, IfOk, IfSome};
 ghost use Rattle.std.specs.Prelude.{◌↔◌, ◌⊎◌, IfNone, IfErr, OnOk, IsTrue, Some};
@@ -13,24 +14,25 @@ ghost use Rattle.am_universe.specs.Universe.{sizes};
 ghost use Rattle.am_universe.specs.Choice.{IsWhole, choices};
 ghost use Rattle.am_judged_lists.specs.Boxes.{IsInBox};
 ghost use Rattle.am_first_sets.specs.Budget.{MayEnd};
-ghost use Rattle.am_first_sets.specs.Solving.{IsAnswer, NoneAvoids, IsStep, IsTestOf, IsLeast};
-ghost use Rattle.am_first_sets.specs.Solving.{avoids, marked};
+ghost use Rattle.am_first_sets.specs.Solving.{IsAnswer, NoneAvoids, IsNarrowed, IsStep};
+ghost use Rattle.am_first_sets.specs.Solving.{IsTestOf, IsLeast, avoids, marked};
 
 use crate::budget::{Budget, Unfinished};
 use am_judged_lists::{Cube, Matching, Part, PositionBox};
 use am_universe::{Choice, Position, Universe};
 use std::alloc::{AllocError, Global};
 
-/// What to do next with a box.
+/// What a pass finds of a box.
 #[derive(Clone, Copy)]
 enum Step {
     /// No cube matches a choice of it.
     Done,
-    /// The cube at an index matches all its choices.
-    Refuted(usize),
-    /// The cube at an index has only one open label, this one.
-    Narrow(usize, usize),
-    /// The cube at an index has the fewest open labels of all, and this is one of them.
+    /// Each choice of it is matched by a cube that is marked.
+    Refuted,
+    /// Positions were taken out of it.
+    Narrowed,
+    /// Nothing was taken out of it. The cube at an index has the fewest open labels of all, and
+    /// this is one of them.
     Split(usize, usize),
 }
 
@@ -110,14 +112,10 @@ fn search(
         if let Err(evidence) = budget.take(looks) {
             return Err(Unfinished::UsedUp(evidence));
         }
-        match next_step(&positions, unwanted) {
+        match narrow(&mut positions, unwanted, used) {
             Step::Done => return Ok(Some(positions)),
-            Step::Refuted(index) => used[index] = true,
-            Step::Narrow(index, label) => {
-                used[index] = true;
-                positions.keep(unwanted[index], label, Part::Outside);
-                stack.push(positions)?;
-            }
+            Step::Refuted => {}
+            Step::Narrowed => stack.push(positions)?,
             Step::Split(index, label) => {
                 let mut within = positions.try_clone(alloc)?;
                 within.keep(unwanted[index], label, Part::Within);
@@ -139,34 +137,49 @@ fn mask_count(cubes: &[&Cube]) -> usize {
     count
 }
 
-/// Returns the next step for a box. Takes no memory.
-fn next_step(positions: &PositionBox, unwanted: &[&Cube]) -> Step
-    ensures { IsStep positions.now unwanted.now result }
+/// Makes a pass over the cubes with a box, and marks those that it uses. Takes no memory.
+fn narrow(positions: &mut PositionBox, unwanted: &[&Cube], used: &mut [bool]) -> Step
+    requires { length used.old ≡ length unwanted.now }
+    ensures long { length used.new ≡ length used.old }
+    ensures narrowed { IsNarrowed positions.old positions.new (marked used.old unwanted.now)
+        (marked used.new unwanted.now) }
+    ensures step { IsStep positions.old positions.new unwanted.now (marked used.new unwanted.now)
+        result }
 {
     let mut simplest: Option<Open> = None;
+    let mut is_narrowed = false;
     for index in 0..unwanted.len() {
         match positions.matching(unwanted[index]) {
             Matching::Misses => {}
-            Matching::Covers => return Step::Refuted(index),
+            Matching::Covers => {
+                used[index] = true;
+                return Step::Refuted;
+            }
             Matching::Opens(label, open) => {
-                let labels = unwanted[index].mask_count();
-                simplest = Some(simpler_of(
-                    simplest,
-                    Open {
-                        index,
-                        label,
-                        open,
-                        labels,
-                    },
-                ));
+                if open == 1 {
+                    used[index] = true;
+                    positions.keep(unwanted[index], label, Part::Outside);
+                    is_narrowed = true;
+                } else {
+                    let labels = unwanted[index].mask_count();
+                    simplest = Some(simpler_of(
+                        simplest,
+                        Open {
+                            index,
+                            label,
+                            open,
+                            labels,
+                        },
+                    ));
+                }
             }
         }
     }
     let Some(found) = simplest else {
         return Step::Done;
     };
-    if found.open == 1 {
-        Step::Narrow(found.index, found.label)
+    if is_narrowed {
+        Step::Narrowed
     } else {
         Step::Split(found.index, found.label)
     }
