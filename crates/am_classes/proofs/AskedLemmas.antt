@@ -3,9 +3,11 @@ use Rattle.std.proofs.Common.{◌≡◌, ◌+◌, ◌<◌, ◌≤◌, ℕ, List,
 use Rattle.std.specs.List.{list_any, flat_map, filter, AllByRecursion}
 use Rattle.std.proofs.lemmas.List.Sorted.{Contains-permutation, IsPermutation-sym}
 use Rattle.std.specs.Str.{bytes_eq}
-use Rattle.std.proofs.Common.{true, false, zero, suc}
+use Rattle.std.proofs.Common.{true, false, zero, suc, ◌||◌}
 use Rattle.std.proofs.lemmas.Bool.{cases_Bool}
-use Rattle.std.proofs.lemmas.List.{length-map}
+use Rattle.std.proofs.Common.{Bor, map}
+use Rattle.std.proofs.lemmas.List.{length-map, map-append}
+use Rattle.indexmap.specs.IndexSet.{insert_key}
 use Rattle.std.proofs.lemmas.Slice.Eq.{bytes_eq-Decides}
 use Rattle.std.proofs.lemmas.Option.{same_Some}
 use Rattle.std.proofs.lemmas.Grind.{common_steps}
@@ -14,7 +16,11 @@ use Rattle.am_universe.proofs.ListLemmas.{IsIn-from_Contains, Contains-from_IsIn
 use Rattle.am_universe.proofs.Members.{at_in, in_at, in_joined, joined_in}
 use Rattle.am_labels.specs.declared.op.Comparison.{Comparison}
 use Rattle.am_labels.specs.declared.op.Comparison.TheVariants.{Text, Pattern}
+use Rattle.am_universe.specs.Text.{same_text}
+use Rattle.am_labels.specs.declared.op.Op.{Op}
 use Rattle.am_labels.specs.Matcher.{Matcher, comparison}
+use Rattle.am_labels.proofs.OperatorLemmas.{asks, asks_text, asks_pattern}
+use Rattle.am_labels.proofs.WildcardMatches.{finds_alternatives}
 use Rattle.am_labels.proofs.Passing.{any_in, in_any, passes_from_kept, kept_from_passes}
 use Rattle.am_classes.specs.Alike.{HasOtherPattern}
 use Rattle.am_classes.specs.declared.alphabet.Alphabet.{Alphabet}
@@ -24,6 +30,7 @@ use Rattle.am_classes.specs.Named.{AreEachOnce, names_with, text_with, alternati
 use Rattle.am_classes.specs.Named.{names_texts, text_of, alternatives_of, named_by, named_over}
 use Rattle.am_classes.specs.Named.{other_pattern, other_patterns}
 use Rattle.am_scan.proofs.Places.{get_pushed, get_kept, get_last}
+use Rattle.am_classes.proofs.AutomataLemmas.{get_mapped, get_under}
 
 pub no_texts : AreEachOnce [] []
 no_texts = record {
@@ -73,6 +80,27 @@ module _ (wanted texts : List (List ℕ)) (text : List ℕ) (h : AreEachOnce wan
       ]
     ];
   }
+
+-- It is put into a set of texts.
+module _ (eq : Bor (List ℕ) → Bor (List ℕ) → Bool)
+    (same : (x y : Bor (List ℕ)) → eq x y ≡ bytes_eq x.now y.now) where
+  pub once_inserted : (wanted : List (List ℕ)) (keys : List (Bor (List ℕ))) (k : Bor (List ℕ))
+      → AreEachOnce wanted (map (λ t. t.now) keys)
+      → AreEachOnce (wanted ++ k.now ∷ []) (map (λ t. t.now) (insert_key eq keys k))
+  once_inserted wanted keys k h = elim (cases_Bool (list_any (eq k) keys)) [
+    | inl there ↦
+        let one = any_in (eq k) keys there in
+        let at = at_in keys one.0 one.1 in
+        let is : one.0.now ≡ k.now =
+        sym ((bytes_eq-Decides k.now one.0.now).0 (sym (same k one.0) ∙ one.2)) in
+        rw there (once_same wanted (map (λ t. t.now) keys) k.now h at.0
+        (get_under (λ t. t.now) keys at.0 one.0 at.1 ∙ ap Some is))
+    | inr new ↦
+        rw (new, map-append) (once_push wanted (map (λ t. t.now) keys) k.now h (λ j at.
+        let y = get_mapped (λ t. t.now) keys j k.now at in
+        let found = in_any (eq k) keys y.0 (in_at keys j y.0 y.1)
+        (same k y.0 ∙ (bytes_eq-Decides k.now y.0.now).1 (sym y.2)) in absurd cc))
+  ]
 
 -- A text that a test of each text finds is at a position.
 pub among_place : (xs : List (List ℕ)) (text : List ℕ) → list_any (λ x. bytes_eq x text) xs ≡ true
@@ -214,6 +242,29 @@ has_other ms (pattern ∷ patterns) h some =
     let m = other_from ms pattern (in_at (other_patterns ms) from.0 pattern from.1) in
     (m.0, Contains-from_IsIn ms m.0 m.1, m.2)
 
+-- Whether a text is one of those that a matcher names is what the matcher asks.
+or_none : (b : Bool) → (b || false) ≡ b
+or_none true = refl
+or_none false = refl
+
+asks_with : (op : Op) (value text : List ℕ) (so : Comparison) → comparison op ≡ so
+    → names_with so value ≡ true → asks op value text
+    ≡ list_any (same_text text) (text_with so value ++ alternatives_with so value)
+asks_with op value text Text is names = asks_text op value text is ∙ sym (or_none (same_text text value))
+asks_with op value text Pattern is names =
+    asks_pattern op value text is ∙ rw names (finds_alternatives value text names)
+
+pub asks_named : (m : Matcher) (text : List ℕ) → names_texts m ≡ true
+    → asks m.op m.value text ≡ list_any (same_text text) (named_by m)
+asks_named m text names = asks_with m.op m.value text (comparison m.op) refl names
+
+-- A matcher that names no texts compares with a pattern.
+pub is_pattern : (m : Matcher) → names_texts m ≡ false
+    → (comparison m.op ≡ Text) ⊎ (comparison m.op ≡ Pattern) → comparison m.op ≡ Pattern
+is_pattern m other (inl text) =
+    let names : names_texts m ≡ true = ap (λ so. names_with so m.value) text in absurd cc
+is_pattern m other (inr pattern) = pattern
+
 -- Each matcher compares with a text or with a pattern.
 pub known : (so : Comparison) → (so ≡ Text) ⊎ (so ≡ Pattern)
 known Text = inl refl
@@ -223,5 +274,3 @@ pub all_known : (ms : List Matcher)
     → AllByRecursion (λ m. (comparison m.op ≡ Text) ⊎ (comparison m.op ≡ Pattern)) ms
 all_known [] = tt
 all_known (m ∷ ms) = (known (comparison m.op), all_known ms)
-
-pub ruleset of_questions = (all_known, length-map)

@@ -1,5 +1,5 @@
 -- Candidates: with one more, and for all texts.
-use Rattle.std.proofs.Common.{◌≡◌, ◌<◌, ◌≤◌, ◌⊎◌, ℕ, false, length, refl, List, [], ◌∷◌, ◌++◌, Option, Some, None, IfSome, slice_get, string_bytes, inl, inr, subst, sym, ap, ◌∙◌}
+use Rattle.std.proofs.Common.{◌≡◌, ◌<◌, ◌≤◌, ◌⊎◌, ℕ, length, refl, List, [], ◌∷◌, ◌++◌, Option, Some, None, IfSome, slice_get, string_bytes, inl, inr, subst, sym, ap, ◌∙◌, arith}
 use Rattle.std.proofs.lemmas.Bool.{cases_lt}
 use Rattle.std.proofs.lemmas.Option.{same_Some}
 use Rattle.am_classes.specs.declared.questions.Questions.{Questions}
@@ -10,14 +10,17 @@ use Rattle.am_classes.specs.declared.candidates.CandidateTexts.{CandidateTexts}
 use Rattle.am_classes.specs.declared.tail.Tail.TheVariants.{Whole}
 use Rattle.am_classes.specs.Automata.{found_by}
 use Rattle.am_classes.specs.Alphabet.{IsOver}
-use Rattle.am_classes.specs.State.{IsNamed}
+use Rattle.am_scan.specs.Sight.{is_scanned}
+use Rattle.am_classes.specs.Enough.{AreEnough}
+use Rattle.am_classes.specs.State.{IsNamed, named_texts, patterns_of}
 use Rattle.am_classes.specs.Exploration.{IsClosed}
 use Rattle.am_classes.specs.Candidates.{IsCandidate, HasFound, HasCandidate, AreApartCandidates, Represents, AreCandidates}
-use Rattle.am_classes.specs.Candidates.{AreBelow, AreShortest, AreTied}
-use Rattle.am_classes.specs.declared.limits.TheConstants.{MAX_SAMPLE_NUMBERS}
+use Rattle.am_classes.specs.Candidates.{AreShortest, AreTied}
 use Rattle.am_scan.specs.Automaton.{Grows}
 use Rattle.am_scan.proofs.Places.{get_pushed}
-use Rattle.am_classes.proofs.Utf8Lemmas.{text_whole}
+use Rattle.am_classes.proofs.Utf8Lemmas.{utf8_whole}
+use Rattle.am_classes.proofs.WholeTexts.{over_utf8}
+use Rattle.am_classes.proofs.ClassLemmas.{found_from_patterns}
 use Rattle.am_classes.proofs.ExplorationLemmas.{reached}
 
 -- Candidates that represent a state still do so with more candidates.
@@ -46,23 +49,33 @@ apart_pushed q old x h own new = record {
   ];
 }
 
+candidate_again : (q : Questions) (cs : List Candidate) (x text : List ℕ)
+    → found_by q.automata.items x ≡ found_by q.automata.items text → HasCandidate q cs x
+    → HasCandidate q cs text
+candidate_again q cs x text same has = (has.0, has.1, has.2, has.3 ∙ same)
+
 -- If states before a position lead on and are represented, each text has a candidate, or is at least
 -- as long as the text beside a state at or behind that position.
 pub represented : (q : Questions) (listed : List ReachedState) (at : ℕ) (cs : List Candidate)
-    → IsClosed q listed at
+    → AreEnough q.alphabet (named_texts q) (patterns_of q) q.bytes → IsClosed q listed at
     → ((k : ℕ) (item : ReachedState) → k < at → slice_get listed k ≡ Some item → Represents q cs item.state)
     → (text : List ℕ) → IsOver q.alphabet text → (IsNamed q text → ⊥)
     → HasCandidate q cs text
     ⊎ ((k : ℕ) × (item : ReachedState) × (at ≤ k) × (slice_get listed k ≡ Some item)
     × (length item.text.items ≤ length text))
-represented q listed at cs closed represents text over unnamed =
-    let whole = text_whole q.alphabet text over in
-    let here = reached q listed at closed text Whole whole in
+represented q listed at cs enough closed represents text over unnamed =
+    let x = enough text over in
+    let whole = utf8_whole (is_scanned q.bytes) x.0 (over_utf8 q.alphabet x.0 x.1) x.2 in
+    let here = reached q listed at closed x.0 Whole whole in
+    let short : length here.1.text.items ≤ length text = omega (arith, here.3, x.3.len) in
     elim here.4 [
-      | inr behind ↦ inr (here.0, here.1, behind, here.2, here.3)
+      | inr behind ↦ inr (here.0, here.1, behind, here.2, short)
       | inl follows ↦ elim (cases_lt here.0 at) [
-        | inr behind ↦ inr (here.0, here.1, behind, here.2, here.3)
-        | inl below ↦ inl (represents here.0 here.1 below here.2 text follows (same_Some here.1.state.tail Whole (sym follows.tail ∙ whole)) unnamed)
+        | inr behind ↦ inr (here.0, here.1, behind, here.2, short)
+        | inl below ↦ inl (candidate_again q cs x.0 text (found_from_patterns q x.0 text x.3.found)
+            (represents here.0 here.1 below here.2 x.0 follows
+            (same_Some here.1.state.tail Whole (sym follows.tail ∙ whole))
+            (λ named. unnamed (subst (IsNamed q) (x.3.same named.0 x.0 named.1 (inl refl)) named))))
       ]
     ]
 
@@ -79,13 +92,9 @@ one_candidate q cs x is none_asked found unnamed over =
     } in
     subst (AreCandidates q) (sym is) all
 
--- Shortest candidates are tied, and so are short ones if they are not all.
+-- Shortest candidates are tied.
 pub tied_if_some : (q : Questions) (found : Option CandidateTexts)
     → IfSome found (λ cs. AreShortest q cs.items.items)
-    → IfSome found (λ cs. AreTied q cs.all cs.items.items)
+    → IfSome found (λ cs. AreTied q cs.items.items)
 tied_if_some q None h = tt
-tied_if_some q (Some cs) shortest = λ k c at. inr (inl (shortest k c at))
-
-pub tied_short : (q : Questions) (cs : List Candidate) → AreBelow MAX_SAMPLE_NUMBERS cs
-    → AreTied q false cs
-tied_short q cs short = λ k c at. inr (inr (refl, short k c at))
+tied_if_some q (Some cs) shortest = λ k c at. inr (shortest k c at)

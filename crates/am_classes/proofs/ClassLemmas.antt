@@ -2,25 +2,23 @@
 -- classes, one for each.
 use Rattle.std.proofs.Common.{◌≡◌, ◌<◌, ℕ, ◌+◌, true, false, List, [], ◌∷◌, ◌++◌, Bool, ◌||◌, ◌⊎◌}
 use Rattle.std.proofs.Common.{Some, slice_get, length, map, string_bytes, inl, inr, refl, subst}
-use Rattle.std.proofs.Common.{sym, ap, ap₂, ◌∙◌, arith, Contains, String}
+use Rattle.std.proofs.Common.{sym, ap, ap₂, ◌∙◌, arith, Bor, Contains, String}
+use Rattle.std.specs.Global.{Vec}
+use Rattle.std.specs.declared.alloc.Global.{Global}
 use Rattle.std.specs.List.{list_any, AllByRecursion, AllZip}
 use Rattle.std.proofs.lemmas.Bool.{false_from_ne_true, cases_Bool}
 use Rattle.std.proofs.lemmas.Slice.Eq.{bytes_eq-Decides}
-use Rattle.std.proofs.lemmas.List.{length-map}
-use Rattle.std.proofs.lemmas.Option.{same_Some}
 use Rattle.std.proofs.lemmas.Grind.{common_steps}
 use Rattle.am_universe.specs.Text.{same_text}
 use Rattle.am_universe.proofs.ListLemmas.{IsIn, IsIn-left, IsIn-from_Contains, Contains-from_IsIn}
 use Rattle.am_universe.proofs.ListLemmas.{AllByRecursion-at, AllByRecursion-each}
 use Rattle.am_universe.proofs.Members.{at_in, in_at}
-use Rattle.am_labels.specs.declared.op.Op.{Op}
-use Rattle.am_labels.specs.declared.op.Comparison.{Comparison}
-use Rattle.am_labels.specs.declared.op.Comparison.TheVariants.{Text, Pattern}
-use Rattle.am_labels.specs.Matcher.{Matcher, holds, comparison}
+use Rattle.am_labels.specs.Matcher.{Matcher, holds}
 use Rattle.am_labels.specs.Pattern.{finds}
-use Rattle.am_labels.proofs.OperatorLemmas.{asks, holds_same, asks_same, asks_text, asks_pattern}
+use Rattle.am_labels.proofs.OperatorLemmas.{holds_same, asks_same, asks_pattern}
 use Rattle.am_labels.proofs.Passing.{any_in, in_any}
 use Rattle.am_scan.specs.Automaton.{pattern_of}
+use Rattle.am_scan.specs.declared.pattern_automaton.PatternAutomaton.{PatternAutomaton}
 use Rattle.am_classes.specs.declared.questions.Questions.{Questions}
 use Rattle.am_classes.specs.declared.candidate.Candidate.{Candidate}
 use Rattle.am_classes.specs.declared.alphabet.Alphabet.{Alphabet}
@@ -28,8 +26,8 @@ use Rattle.am_classes.specs.Alphabet.{is_over, IsOver, AreOver}
 use Rattle.am_classes.specs.Alike.{AreAlike, Covers, AreApart, HasAlikeIn}
 use Rattle.am_classes.specs.Asked.{AreAsked}
 use Rattle.am_classes.specs.Automata.{found_by}
-use Rattle.am_classes.specs.Named.{names_with, text_with, alternatives_with, names_texts, named_by}
-use Rattle.am_classes.specs.Named.{named_over, other_patterns}
+use Rattle.am_classes.specs.Named.{names_texts, named_by}
+use Rattle.am_classes.specs.Named.{AreEachOnce, named_over, other_patterns}
 use Rattle.am_classes.specs.State.{named_texts, patterns_of, IsNamed}
 use Rattle.am_classes.specs.Candidates.{AreApartCandidates, AreCandidates, AreTied}
 use Rattle.am_classes.specs.Candidates.{IsCandidate, IsShortestFound}
@@ -37,13 +35,13 @@ use Rattle.am_classes.specs.ClassTexts.{IsClassText, IsShortest, Names, others}
 use Rattle.am_classes.specs.Truths.{AreNewIn}
 use Rattle.am_classes.specs.declared.limits.TheConstants.{MAX_SAMPLE_NUMBERS}
 use Rattle.am_classes.proofs.AlikeLemmas.{alike_turned}
-use Rattle.am_labels.proofs.WildcardMatches.{finds_alternatives}
-use Rattle.am_classes.proofs.AskedLemmas.{among_cases, named_in, named_from}
+use Rattle.am_classes.proofs.AskedLemmas.{all_known, among_cases, asks_named, is_pattern, named_in, named_from}
 use Rattle.am_classes.proofs.AskedLemmas.{other_in, other_from}
 use Rattle.am_classes.proofs.AutomataLemmas.{get_under, get_mapped}
 use Rattle.am_classes.proofs.OverLemmas.{is_over_from, string_over}
 use Rattle.am_scan.proofs.Places.{get_append, get_behind, contains_from_get}
-use Rattle.am_scan.proofs.Places.{all_from_places, map_same}
+use Rattle.am_scan.proofs.Places.{all_from_places}
+use Rattle.am_classes.proofs.PlaceLemmas.{same_places, same_there}
 
 -- Two texts get the same answers to the questions of matchers.
 record SameAnswers (q : Questions) (x y : List ℕ) : Type 0 where
@@ -55,34 +53,12 @@ foreign_differs : (a : Alphabet) (value x : List ℕ) → is_over a value ≡ fa
     → same_text x value ≡ false
 foreign_differs a value x foreign over = grind (arith, common_steps, false_from_ne_true, bytes_eq-Decides, is_over_from)
 
--- Whether a text is one of those that a matcher names is what the matcher asks.
-or_none : (b : Bool) → (b || false) ≡ b
-or_none true = refl
-or_none false = refl
-
-asks_with : (op : Op) (value text : List ℕ) (so : Comparison) → comparison op ≡ so
-    → names_with so value ≡ true → asks op value text
-    ≡ list_any (same_text text) (text_with so value ++ alternatives_with so value)
-asks_with op value text Text is names = asks_text op value text is ∙ sym (or_none (same_text text value))
-asks_with op value text Pattern is names =
-    asks_pattern op value text is ∙ rw names (finds_alternatives value text names)
-
-asks_named : (m : Matcher) (text : List ℕ) → names_texts m ≡ true
-    → asks m.op m.value text ≡ list_any (same_text text) (named_by m)
-asks_named m text names = asks_with m.op m.value text (comparison m.op) refl names
-
 any_same : (x y : List ℕ) (vs : List (List ℕ))
     → ((v : List ℕ) → IsIn vs v → same_text x v ≡ same_text y v)
     → list_any (same_text x) vs ≡ list_any (same_text y) vs
 any_same x y [] each = refl
 any_same x y (v ∷ vs) each =
     ap₂ ◌||◌ (each v (inl refl)) (any_same x y vs (λ w i. each w (inr i)))
-
-is_pattern : (m : Matcher) → names_texts m ≡ false
-    → (comparison m.op ≡ Text) ⊎ (comparison m.op ≡ Pattern) → comparison m.op ≡ Pattern
-is_pattern m other (inl text) =
-    let names : names_texts m ≡ true = ap (λ so. names_with so m.value) text in absurd cc
-is_pattern m other (inr pattern) = pattern
 
 -- Texts with the same answers are alike.
 module _ (ms : List Matcher) (q : Questions) (asked : AreAsked ms q) where
@@ -146,17 +122,16 @@ patterns_from_found : (q : Questions) (x y : List ℕ)
     → slice_get (patterns_of q) k ≡ Some pattern → finds pattern x ≡ finds pattern y
 patterns_from_found q x y same k pattern at =
     let scan = get_mapped pattern_of q.automata.items k pattern at in
-    let ofx = get_under (λ s. finds (pattern_of s) x) q.automata.items k scan.0 scan.1 in
-    let ofy = get_under (λ s. finds (pattern_of s) y) q.automata.items k scan.0 scan.1 in
-    let one = same_Some (finds (pattern_of scan.0) x) (finds (pattern_of scan.0) y) (sym ofx ∙ ap (λ l. slice_get l k) same ∙ ofy) in
-    subst (λ p. finds p x ≡ finds p y) scan.2 one
+    subst (λ p. finds p x ≡ finds p y) scan.2
+    (same_there (λ s. finds (pattern_of s) x) (λ s. finds (pattern_of s) y) q.automata.items k scan.0 same scan.1)
 
-found_from_patterns : (q : Questions) (x y : List ℕ)
+pub found_from_patterns : (q : Questions) (x y : List ℕ)
     → ((k : ℕ) (pattern : List ℕ) → slice_get (patterns_of q) k ≡ Some pattern → finds pattern x ≡ finds pattern y)
     → found_by q.automata.items x ≡ found_by q.automata.items y
 found_from_patterns q x y each =
-    map_same (λ s. finds (pattern_of s) x) (λ s. finds (pattern_of s) y) q.automata.items
-    (λ k s at. each k (pattern_of s) (get_under pattern_of q.automata.items k s at))
+    same_places 0 (λ s. finds (pattern_of s) x) (λ s. finds (pattern_of s) y) q.automata.items
+    (all_from_places (λ s. finds (pattern_of s) x ≡ finds (pattern_of s) y) q.automata.items
+    (λ k s at. each k (pattern_of s) (get_under pattern_of q.automata.items k s at)))
 
 -- A text that is not named differs from each named text.
 unnamed_differs : (q : Questions) (x : List ℕ) → (IsNamed q x → ⊥) → (k : ℕ) (named : List ℕ)
@@ -265,7 +240,7 @@ module _ (ms : List Matcher) (q : Questions) (named : List (List ℕ)) (cs : Lis
       ])
 
   -- The texts of the classes are tied to the matchers.
-  pub classes_tied : (all : Bool) → AreApartCandidates q cs → AreTied q all cs
+  pub classes_tied : (all : Bool) → AreApartCandidates q cs → AreTied q cs
       → AllByRecursion (λ text. IsClassText q.alphabet ms text
       ⊎ ((all ≡ false) × (length text < MAX_SAMPLE_NUMBERS))) (class_texts named cs)
   classes_tied all distinct tied =
@@ -277,15 +252,22 @@ module _ (ms : List Matcher) (q : Questions) (named : List (List ℕ)) (cs : Lis
             subst (λ text. IsClassText q.alphabet ms text ⊎ ((all ≡ false) × (length text < MAX_SAMPLE_NUMBERS))) c.2
             (elim (tied behind.0 c.0 c.1) [
               | inl other ↦ inl (inr (inr (other.0, other.1, λ n below. names_from ms q asked (others n) (other.2 n below))))
-              | inr tie ↦ elim tie [
-                | inl shortest ↦ inl (inr (inl (shortest_from ms q c.0 asked (distinct.own behind.0 c.0 c.1) shortest)))
-                | inr short ↦ inr short
-              ]
+              | inr shortest ↦ inl (inr (inl (shortest_from ms q c.0 asked (distinct.own behind.0 c.0 c.1) shortest)))
             ])
       ])
 
-pub ruleset of_classes =
-    (class_texts, classes_cover, classes_apart, classes_over, classes_tied, length-map)
+-- The questions that are asked by automata of the other patterns, and by the named texts.
+pub are_asked : (ms : List Matcher) (q : Questions) (texts : Vec (String Global)) (automata : Vec PatternAutomaton)
+    (keys : List (Bor (List ℕ))) → q.texts ≡ texts → q.automata ≡ automata
+    → map pattern_of automata.items ≡ map (λ p. p.now) keys
+    → AreEachOnce (named_over q.alphabet ms) (map string_bytes texts.items)
+    → AreEachOnce (other_patterns ms) (map (λ p. p.now) keys) → AreAsked ms q
+are_asked ms q texts automata keys same_texts same_automata patterns named others = record {
+  texts = subst (λ v. AreEachOnce (named_over q.alphabet ms) (map string_bytes v.items)) (sym same_texts) named;
+  patterns = subst (AreEachOnce (other_patterns ms))
+      (sym (ap (λ v. map pattern_of v.items) same_automata ∙ patterns)) others;
+  only = all_known ms;
+}
 
 -- Copies have the same texts.
 pub copied_texts : {Z : Type 0} (xs ys : List (String Z))

@@ -6,12 +6,13 @@ use Rattle.am_classes.specs.declared.questions.Questions.{Questions}
 use Rattle.am_classes.specs.declared.label_state.LabelState.{LabelState}
 use Rattle.am_classes.specs.declared.reached_state.ReachedState.{ReachedState}
 use Rattle.am_classes.specs.declared.tail.Tail.{Tail}
-use Rattle.am_classes.specs.Utf8.{text_step, tail_of}
+use Rattle.am_classes.specs.Utf8.{text_step, tail_with}
 use Rattle.am_classes.specs.State.{FollowsLabel}
 use Rattle.am_classes.specs.Automata.{MakeSame}
 use Rattle.am_classes.specs.Exploration.{HasState, LeadsOn, AreLed, byte_at, IsClosed}
 use Rattle.am_classes.specs.Exploration.{AreShortFirst}
 use Rattle.am_scan.specs.Automaton.{Grows}
+use Rattle.am_scan.specs.Sight.{is_scanned}
 use Rattle.am_scan.proofs.Places.{get_pushed, get_last}
 use Rattle.am_classes.proofs.TailLemmas.{step_byte}
 
@@ -62,7 +63,7 @@ has_pushed q old new item n text is follows short =
 
 -- A byte leads on where another does that leads to the same states.
 pub leads_again : (q : Questions) (listed : List ReachedState) (item : ReachedState) (one other : ℕ)
-    → text_step q.alphabet item.state.tail one ≡ text_step q.alphabet item.state.tail other
+    → text_step (is_scanned q.bytes) item.state.tail one ≡ text_step (is_scanned q.bytes) item.state.tail other
     → ((text : List ℕ) (next : LabelState) → FollowsLabel q item.state text → FollowsLabel q next (one ∷ text)
     → FollowsLabel q next (other ∷ text)) → LeadsOn q listed item one → LeadsOn q listed item other
 leads_again q listed item one other tails again leads = λ text tail follows has.
@@ -127,16 +128,16 @@ place_of_byte byte small =
       ]
     ]
 
--- Each text that is the end of a text over the alphabet leads to a listed state, or to one at or
+-- Each text that is the end of a text that is tried leads to a listed state, or to one at or
 -- behind a position if only the states before that lead on. The text beside it is not longer.
 pub reached : (q : Questions) (listed : List ReachedState) (at : ℕ) → IsClosed q listed at
-    → (text : List ℕ) (tail : Tail) → tail_of q.alphabet text ≡ Some tail
+    → (text : List ℕ) (tail : Tail) → tail_with (is_scanned q.bytes) text ≡ Some tail
     → (k : ℕ) × (item : ReachedState) × (slice_get listed k ≡ Some item)
     × (length item.text.items ≤ length text) × (FollowsLabel q item.state text ⊎ (at ≤ k))
 reached q listed at closed [] tail e =
     let here = closed.first in (here.0, here.1, here.2, here.4, inl here.3)
 reached q listed at closed (byte ∷ text) tail e =
-    option_and_then_some (λ last. text_step q.alphabet last byte) (tail_of q.alphabet text) tail e
+    option_and_then_some (λ last. text_step (is_scanned q.bytes) last byte) (tail_with (is_scanned q.bytes) text) tail e
     (λ last before step.
     let here = reached q listed at closed text last before in
     elim here.4 [
@@ -144,7 +145,7 @@ reached q listed at closed (byte ∷ text) tail e =
       | inl follows ↦ elim (cases_lt here.0 at) [
         | inr behind ↦ (here.0, here.1, here.2, omega (arith, here.3), inr behind)
         | inl below ↦ (
-            let next = closed.leads here.0 byte here.1 below here.2 (step_byte q.alphabet last tail byte step) text tail follows e in
+            let next = closed.leads here.0 byte here.1 below here.2 (step_byte (is_scanned q.bytes) last tail byte step) text tail follows e in
             (next.0, next.1, next.2, omega (arith, here.3, next.4), inl next.3))
       ]
     ])

@@ -1,12 +1,14 @@
-pub mod BoolLemmas
+pub mod PlaceLemmas
 pub mod TailLemmas
 pub mod OverLemmas
 pub mod Utf8Lemmas
 pub mod WholeTexts
 pub mod AutomataLemmas
+pub mod EnoughLemmas
 pub mod FrontLemmas
 pub mod StateLemmas
 pub mod AskedLemmas
+pub mod HitLemmas
 pub mod AlikeLemmas
 pub mod TestedTexts
 pub mod ListedStates
@@ -14,3 +16,4 @@ pub mod ExplorationLemmas
 pub mod CandidateLemmas
 pub mod LimitLemmas
 pub mod ClassLemmas
+pub mod PartLemmas

@@ -1,5 +1,5 @@
 -- What keeps the classes of some matchers from being computed.
-use Rattle.std.proofs.Common.{◌≡◌, ◌<◌, ℕ, true, List, length, inl, inr, subst}
+use Rattle.std.proofs.Common.{◌≡◌, ◌<◌, ℕ, true, List, IsSome, length, inl, inr, subst, sym, ◌∙◌}
 use Rattle.std.proofs.lemmas.List.{length-map}
 use Rattle.am_universe.proofs.ListLemmas.{IsIn, IsIn-from_Contains, Contains-from_IsIn}
 use Rattle.am_universe.proofs.ListLemmas.{AllByRecursion-at, AllByRecursion-each}
@@ -8,6 +8,7 @@ use Rattle.am_labels.specs.Matcher.{Matcher}
 use Rattle.am_labels.specs.Wildcards.{is_wildcards, wildcards_state}
 use Rattle.am_scan.specs.declared.pattern_automaton.PatternAutomaton.{PatternAutomaton}
 use Rattle.am_scan.specs.Automaton.{number_of, pattern_of}
+use Rattle.am_scan.specs.Sight.{is_scanned}
 use Rattle.am_scan.proofs.Places.{contains_from_get, map_same}
 use Rattle.am_classes.specs.declared.alphabet.Alphabet.{Alphabet}
 use Rattle.am_classes.specs.declared.questions.Questions.{Questions}
@@ -17,7 +18,10 @@ use Rattle.am_classes.specs.Automata.{MayLackAutomaton}
 use Rattle.am_classes.specs.Exploration.{HasManyLabelStates}
 use Rattle.am_classes.specs.Limits.{HaveManyStates, HaveTooManyStates, HaveWildcardsAlone, MayBePastLimits}
 use Rattle.am_classes.specs.Named.{AreEachOnce, named_over, other_patterns}
+use Rattle.am_classes.specs.Alphabet.{has_byte}
 use Rattle.am_classes.specs.State.{named_texts, patterns_of}
+use Rattle.am_classes.specs.Utf8.{tail_of, tail_with}
+use Rattle.am_classes.proofs.TailLemmas.{tail_more}
 use Rattle.am_classes.proofs.AskedLemmas.{has_other, named_from, named_in}
 use Rattle.am_classes.proofs.AskedLemmas.{other_from, other_in}
 use Rattle.am_classes.proofs.AutomataLemmas.{get_under}
@@ -48,24 +52,29 @@ by_state a = a.by_state
 pub refused_exploration : (ms : List Matcher) (q : Questions) → AreAsked ms q
     → 0 < length q.automata.items → HasManyLabelStates q
     → HasOtherPattern ms × (HaveWildcardsAlone ms → HaveTooManyStates q.alphabet ms)
-refused_exploration ms q asked some many = (
-  has_other ms (patterns_of q) asked.patterns (rw (length-map q.automata.items pattern_of) some),
-  λ alone. inr (record {
-    named = named_texts q;
-    patterns = patterns_of q;
-    ends = many.0;
-    each_named = asked.texts;
-    each_pattern = asked.patterns;
-    many = many.1;
-    over = many.2;
-    apart = λ i j x y at also same. many.3 i j x y at also same.0 same.1
-        (map_same (λ a. number_of a x) (λ a. number_of a y) q.automata.items (λ k a here.
-        let p = get_under pattern_of q.automata.items k a here in
-        let wanted = asked.patterns.from k (pattern_of a) p in
-        let fine = AllByRecursion-at _ (other_patterns ms) (pattern_of a) alone (in_at (other_patterns ms) wanted.0 (pattern_of a) wanted.1) in
-        by_state a fine x y (AllByRecursion-at _ (patterns_of q) (pattern_of a) same.2 (in_at (patterns_of q) k (pattern_of a) p))));
-  }),
-)
+refused_exploration ms q asked some many =
+    let wider : (x : List ℕ) → IsSome (tail_with (is_scanned q.bytes) x) → tail_of q.alphabet x ≡ tail_with (is_scanned q.bytes) x =
+    tail_more (is_scanned q.bytes) (has_byte q.alphabet) (λ b small. q.own b) in (
+      has_other ms (patterns_of q) asked.patterns (rw (length-map q.automata.items pattern_of) some),
+      λ alone. inr (record {
+        named = named_texts q;
+        patterns = patterns_of q;
+        ends = many.0;
+        each_named = asked.texts;
+        each_pattern = asked.patterns;
+        many = many.1;
+        over = AllByRecursion-each _ many.0 (λ x i.
+            subst IsSome (sym (wider x (AllByRecursion-at _ many.0 x many.2 i))) (AllByRecursion-at _ many.0 x many.2 i));
+        apart = λ i j x y at also same. many.3 i j x y at also
+            (sym (wider x (AllByRecursion-at _ many.0 x many.2 (in_at many.0 i x at))) ∙ same.0
+            ∙ wider y (AllByRecursion-at _ many.0 y many.2 (in_at many.0 j y also))) same.1
+            (map_same (λ a. number_of a x) (λ a. number_of a y) q.automata.items (λ k a here.
+            let p = get_under pattern_of q.automata.items k a here in
+            let wanted = asked.patterns.from k (pattern_of a) p in
+            let fine = AllByRecursion-at _ (other_patterns ms) (pattern_of a) alone (in_at (other_patterns ms) wanted.0 (pattern_of a) wanted.1) in
+            by_state a fine x y (AllByRecursion-at _ (patterns_of q) (pattern_of a) same.2 (in_at (patterns_of q) k (pattern_of a) p))));
+      }),
+    )
 
 -- ---- Matchers that are the same, in any order.
 
@@ -89,7 +98,7 @@ module _ (a : Alphabet) (ns ms : List Matcher) (to : (m : Matcher) → IsIn ns m
       let m = other_from ns p there in
       subst (IsIn (other_patterns ms)) m.3 (other_in ms m.0 (to m.0 m.1) m.2)
 
-  apart_moved : (texts : List (List ℕ)) → AreApart ns texts → AreApart ms texts
+  pub apart_moved : (texts : List (List ℕ)) → AreApart ns texts → AreApart ms texts
   apart_moved texts apart = λ i j x y at also alike.
       apart i j x y at also (AllByRecursion-each _ ns (λ m there. AllByRecursion-at _ ms m alike (to m there)))
 

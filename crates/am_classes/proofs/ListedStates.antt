@@ -13,6 +13,7 @@ use Rattle.am_universe.proofs.ListLemmas.{IsIn}
 use Rattle.am_universe.proofs.Members.{at_in}
 use Rattle.am_labels.proofs.Passing.{any_in}
 use Rattle.am_scan.specs.Automaton.{Grows}
+use Rattle.am_scan.specs.Sight.{is_scanned}
 use Rattle.am_scan.proofs.Places.{all_from_places, grows_pushed}
 use Rattle.am_classes.specs.declared.limits.TheConstants.{MAX_STATES}
 use Rattle.am_classes.specs.declared.questions.Questions.{Questions}
@@ -20,7 +21,7 @@ use Rattle.am_classes.specs.declared.reached_state.ReachedState.{ReachedState}
 use Rattle.am_classes.specs.Automata.{numbers_of}
 use Rattle.am_classes.specs.Fronts.{fronts_of}
 use Rattle.am_classes.specs.State.{FollowsLabel, named_texts}
-use Rattle.am_classes.specs.Utf8.{tail_of}
+use Rattle.am_classes.specs.Utf8.{tail_with}
 use Rattle.am_classes.specs.Exploration.{AreListed, AreShortFirst, HasState}
 use Rattle.am_classes.specs.Exploration.{HasManyLabelStates}
 use Rattle.am_classes.specs.contracts.reached_state.ReachedStatePartialEq.TheImpl.{eq-value}
@@ -164,14 +165,14 @@ many_listed q listed own distinct many = (
   omega (arith, many, length-map listed text_beside),
   all_from_places _ (map text_beside listed) (λ k text at.
       let x = get_mapped text_beside listed k text at in
-      ap is_some (ap (tail_of q.alphabet) (sym x.2) ∙ (own k x.0 x.1).tail)),
+      ap is_some (ap (tail_with (is_scanned q.bytes)) (sym x.2) ∙ (own k x.0 x.1).tail)),
   λ i j s t at also tails fronts numbers.
       let x = get_mapped text_beside listed i s at in
       let y = get_mapped text_beside listed j t also in
       let one = own i x.0 x.1 in
       let other = own j y.0 y.1 in
       same_place listed i j x.0 y.0 distinct x.1 y.1 (record {
-        tail = same_Some _ _ (sym one.tail ∙ along (tail_of q.alphabet) s t _ _ x.2 y.2 tails ∙ other.tail);
+        tail = same_Some _ _ (sym one.tail ∙ along (tail_with (is_scanned q.bytes)) s t _ _ x.2 y.2 tails ∙ other.tail);
         fronts = one.fronts ∙ along (fronts_of (named_texts q)) s t _ _ x.2 y.2 fronts ∙ sym other.fronts;
         numbers = one.numbers ∙ along (numbers_of q.automata.items) s t _ _ x.2 y.2 numbers ∙ sym other.numbers;
       }),

@@ -7,9 +7,10 @@ use Rattle.am_classes.specs.declared.alphabet.Alphabet.{Alphabet}
 use Rattle.am_classes.specs.declared.alphabet.Alphabet.TheVariants.{Unicode, Ascii}
 use Rattle.am_classes.specs.declared.questions.Questions.{Questions}
 use Rattle.am_classes.specs.declared.label_state.LabelState.{LabelState}
-use Rattle.am_classes.specs.Alphabet.{is_over, IsOver, IsOrdinary}
+use Rattle.am_scan.specs.Sight.{is_scanned}
+use Rattle.am_classes.specs.Alphabet.{has_byte, is_over, IsOver, IsOrdinary}
 use Rattle.am_classes.specs.State.{FollowsLabel}
-use Rattle.am_classes.proofs.TailLemmas.{ordinary_of_tail}
+use Rattle.am_classes.proofs.TailLemmas.{bytes_of_tail}
 
 -- each byte of a text is one of Unicode
 pub all_over_unicode : (text : List ℕ) → is_over Unicode text ≡ true
@@ -41,8 +42,8 @@ ordinary_over Unicode text ordinary = IsUtf8-string_bytes text
 ordinary_over Ascii text ordinary = ordinary
 
 -- a text in memory that a state follows is over the alphabet
-pub followed_over : (a : Alphabet) (q : Questions) (state : LabelState) (text : String Global)
-    → q.alphabet ≡ a → FollowsLabel q state (string_bytes text) → IsOver a (string_bytes text)
-followed_over Unicode q state text is follows = IsUtf8-string_bytes text
-followed_over Ascii q state text is follows =
-    ordinary_of_tail (string_bytes text) state.tail (rw is at follows.tail)
+pub followed_over : (q : Questions) (state : LabelState) (text : String Global)
+    → FollowsLabel q state (string_bytes text) → IsOver q.alphabet (string_bytes text)
+followed_over q state text follows =
+    string_over q.alphabet text
+    (bytes_of_tail (is_scanned q.bytes) (has_byte q.alphabet) (λ b small. q.own b) (string_bytes text) state.tail follows.tail)

@@ -1,74 +1,41 @@
 -- Texts that were tested by matchers: which of them are alike, and which are new.
-use Rattle.std.proofs.Common.{◌≡◌, ℕ, Bool, true, false, not, cond, ◌||◌, List, [], ◌∷◌, ◌++◌}
+use Rattle.std.proofs.Common.{◌≡◌, ℕ, Bool, true, false, cond, ◌||◌, List, [], ◌∷◌, ◌++◌, nat_eq}
 use Rattle.std.proofs.Common.{Contains, HashSet, map, refl, sym, ap, ap₂, ◌∙◌, subst, inl, append_assoc}
-use Rattle.std.specs.Cmp.{bool_eq_equiv}
-use Rattle.std.specs.Cmp.Lexicographic.{lists_equiv, nat_list_eq_equiv, pointwise}
+use Rattle.std.specs.Cmp.Lexicographic.{nat_list_eq_equiv, pointwise}
 use Rattle.std.specs.Global.{Vec}
 use Rattle.std.specs.HashSet.{contains}
 use Rattle.std.specs.List.{AllByRecursion, list_any}
 use Rattle.std.proofs.lemmas.Bool.{both_ways}
 use Rattle.std.proofs.lemmas.List.Folds.{list_any-append}
-use denote.Enum.Bare.{sameb}
-use mathlib.Core.Bool.{beq}
-use Rattle.am_universe.specs.Text.{same_text}
 use Rattle.am_universe.proofs.DistinctLists.{all_push}
-use Rattle.am_universe.proofs.UniverseLemmas.{list_any-map}
 use Rattle.am_universe.proofs.ListLemmas.{IsIn, IsIn-left, IsIn-right}
 use Rattle.am_universe.proofs.ListLemmas.{IsIn-from_Contains, Contains-from_IsIn}
 use Rattle.am_universe.proofs.ListLemmas.{AllByRecursion-at, AllByRecursion-each}
-use Rattle.am_labels.specs.contracts.op.Op.{the_type}
-use Rattle.am_labels.specs.declared.op.Op.{Op}
-use Rattle.am_labels.specs.declared.op.Op.TheVariants.{Matches, NotMatches}
-use Rattle.am_labels.specs.Matcher.{Matcher, holds, takes_pattern}
+use Rattle.am_labels.specs.Matcher.{Matcher}
 use Rattle.am_labels.proofs.Passing.{any_in, in_any}
 use Rattle.am_classes.specs.Alike.{HasAlikeIn}
-use Rattle.am_classes.specs.Truths.{truths, texts_of, AreTested, AreNewIn, are_same}
+use Rattle.am_classes.specs.Truths.{hits, texts_of, AreTested, AreNewIn, are_same}
 use Rattle.am_classes.specs.declared.tested.Tested.{Tested}
 use Rattle.am_classes.proofs.AlikeLemmas.{alike_itself, alike_is, is_alike, apart_pushed}
-use Rattle.am_labels.specs.Wildcards.{alternatives, is_alternation}
-use Rattle.am_labels.proofs.WildcardMatches.{finds_alternatives}
 
--- ---- By comparing with texts.
+-- ---- The same hits.
 
-negated : (b : Bool) → (not (beq b false) ≡ b) × (not (beq b true) ≡ not b)
-negated true = (refl, refl)
-negated false = (refl, refl)
+-- the hits are those of a text
+abbrev pub has_hits : List Matcher → Vec ℕ → List ℕ → Bool
+has_hits ms found text = pointwise nat_eq (hits ms text) found.items
 
-one_of : {X : Type 0} (view : X → List ℕ) (items : List X) (text : List ℕ)
-    → list_any (λ t. same_text (view t) text) items ≡ list_any (same_text text) (map view items)
-one_of view items text =
-    (λ i. list_any (λ t. nat_list_eq_equiv.symm (view t) text i) items)
-    ∙ sym (list_any-map (same_text text) view items)
-
-pub holds_by_texts : {X : Type 0} (view : X → List ℕ) (items : List X) (op : Op) (value text : List ℕ)
-    (but : Bool) → takes_pattern op ≡ true → is_alternation value ≡ true
-    → map view items ≡ alternatives value → but ≡ sameb the_type op NotMatches
-    → not (beq (list_any (λ t. same_text (view t) text) items) but) ≡ holds op value text
-holds_by_texts view items Matches value text but pattern is parts e =
-    rw (e, one_of view items text, parts) ((negated _).0 ∙ sym (finds_alternatives value text is))
-holds_by_texts view items NotMatches value text but pattern is parts e =
-    rw (e, one_of view items text, parts)
-    ((negated _).1 ∙ ap not (sym (finds_alternatives value text is)))
-holds_by_texts view items _ value text but pattern is parts e = absurd cc
-
--- ---- The same truths.
-
--- the truths are those on a text
-abbrev pub has_truths : List Matcher → Vec Bool → List ℕ → Bool
-has_truths ms found text = pointwise beq (truths ms text) found.items
-
--- truths that are in a set are those on some text
-abbrev pub AreSeen : {S : Type 0} → List Matcher → HashSet (Vec Bool) S → List (List ℕ) → Type 0
+-- hits that are in a set are those of some text
+abbrev pub AreSeen : {S : Type 0} → List Matcher → HashSet (Vec ℕ) S → List (List ℕ) → Type 0
 AreSeen ms seen texts =
-    (found : Vec Bool) → contains are_same seen found ≡ list_any (has_truths ms found) texts
+    (found : Vec ℕ) → contains are_same seen found ≡ list_any (has_hits ms found) texts
 
-pub seen_first : (ms : List Matcher) (there : List Tested) (found : Vec Bool) → AreTested ms there
-    → list_any (are_same found) (map (λ t. t.truths) there)
-    ≡ list_any (has_truths ms found) (texts_of there)
+pub seen_first : (ms : List Matcher) (there : List Tested) (found : Vec ℕ) → AreTested ms there
+    → list_any (are_same found) (map (λ t. t.hits) there)
+    ≡ list_any (has_hits ms found) (texts_of there)
 seen_first ms [] found h = refl
 seen_first ms (t ∷ there) found h =
-    ap₂ ◌||◌ ((lists_equiv bool_eq_equiv).symm found.items t.truths.items
-    ∙ ap (λ ts. pointwise beq ts found.items) h.0) (seen_first ms there found h.1)
+    ap₂ ◌||◌ (nat_list_eq_equiv.symm found.items t.hits.items
+    ∙ ap (λ ks. pointwise nat_eq ks found.items) h.0) (seen_first ms there found h.1)
 
 any_more : (new before : Bool) → cond new true before ≡ (before || (new || false))
 any_more true true = refl
@@ -76,26 +43,26 @@ any_more true false = refl
 any_more false true = refl
 any_more false false = refl
 
-module _ (ms : List Matcher) (texts : List (List ℕ)) (x : List ℕ) (own : Vec Bool)
-    (is : own.items ≡ truths ms x) where
-  pub seen_more : (found : Vec Bool) (before now : Bool)
-      → before ≡ list_any (has_truths ms found) texts → now ≡ cond (are_same own found) true before
-      → now ≡ list_any (has_truths ms found) (texts ++ x ∷ [])
+module _ (ms : List Matcher) (texts : List (List ℕ)) (x : List ℕ) (own : Vec ℕ)
+    (is : own.items ≡ hits ms x) where
+  pub seen_more : (found : Vec ℕ) (before now : Bool)
+      → before ≡ list_any (has_hits ms found) texts → now ≡ cond (are_same own found) true before
+      → now ≡ list_any (has_hits ms found) (texts ++ x ∷ [])
   seen_more found before now was e =
-      e ∙ (λ i. cond (pointwise beq (is i) found.items) true (was i))
-      ∙ any_more (has_truths ms found x) _ ∙ sym (list_any-append (has_truths ms found) texts (x ∷ []))
+      e ∙ (λ i. cond (pointwise nat_eq (is i) found.items) true (was i))
+      ∙ any_more (has_hits ms found x) _ ∙ sym (list_any-append (has_hits ms found) texts (x ∷ []))
 
-  pub alike_there : list_any (has_truths ms own) texts ≡ true → HasAlikeIn ms texts x
+  pub alike_there : list_any (has_hits ms own) texts ≡ true → HasAlikeIn ms texts x
   alike_there some =
-      let y = any_in (has_truths ms own) texts some in
-      let same = ap (pointwise beq (truths ms y.0)) (sym is) ∙ y.2 in
+      let y = any_in (has_hits ms own) texts some in
+      let same = ap (pointwise nat_eq (hits ms y.0)) (sym is) ∙ y.2 in
       (y.0, Contains-from_IsIn texts y.0 y.1, is_alike ms y.0 x same)
 
-  pub none_alike : list_any (has_truths ms own) texts ≡ false → HasAlikeIn ms texts x → ⊥
+  pub none_alike : list_any (has_hits ms own) texts ≡ false → HasAlikeIn ms texts x → ⊥
   none_alike none one =
-      both_ways (list_any (has_truths ms own) texts) none
-      (in_any (has_truths ms own) texts one.0 (IsIn-from_Contains texts one.0 one.1)
-      (ap (pointwise beq (truths ms one.0)) is ∙ alike_is ms one.0 x one.2))
+      both_ways (list_any (has_hits ms own) texts) none
+      (in_any (has_hits ms own) texts one.0 (IsIn-from_Contains texts one.0 one.1)
+      (ap (pointwise nat_eq (hits ms one.0)) is ∙ alike_is ms one.0 x one.2))
 
 -- ---- One wanted text more.
 

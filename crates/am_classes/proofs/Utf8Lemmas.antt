@@ -1,5 +1,6 @@
--- A text over an alphabet is whole at its front.
-use Rattle.std.proofs.Common.{◌≡◌, ℕ, ◌<◌, ◌≤◌, true, Some, List, [], ◌∷◌, ◌++◌, inl, inr, refl, ap, subst, ◌∙◌, arith}
+-- A text in UTF-8 is whole at its front.
+use Rattle.std.proofs.Common.{◌≡◌, ℕ, ◌<◌, ◌≤◌, Bool, true, Some, List, [], ◌∷◌, ◌++◌, inl, inr, refl, ap, subst, ◌∙◌, arith}
+use Rattle.std.specs.List.{list_all}
 use Rattle.std.specs.Option.{option_and_then}
 use Rattle.std.specs.Str.{IsUtf8}
 use Rattle.std.proofs.lemmas.Bool.{cases_lt, and_parts}
@@ -8,16 +9,15 @@ use Rattle.std.proofs.lemmas.Grind.{common_steps}
 use lib.Utf8.{scalar, scalars, encode, encodes, scalar_cases}
 use Rattle.am_classes.specs.declared.tail.Tail.{Tail}
 use Rattle.am_classes.specs.declared.tail.Tail.TheVariants.{Whole, TwoLow, TwoHigh}
-use Rattle.am_classes.specs.declared.alphabet.Alphabet.{Alphabet}
-use Rattle.am_classes.specs.declared.alphabet.Alphabet.TheVariants.{Unicode, Ascii}
-use Rattle.am_classes.specs.Alphabet.{IsOver}
-use Rattle.am_classes.specs.Utf8.{tail_step, text_step, tail_of}
-use Rattle.am_classes.proofs.TailLemmas.{ordinary_whole}
+use Rattle.am_classes.specs.declared.alphabet.Alphabet.TheVariants.{Unicode}
+use Rattle.am_classes.specs.Alphabet.{has_byte}
+use Rattle.am_classes.specs.Utf8.{tail_step, text_step, tail_of, tail_with}
+use Rattle.am_classes.proofs.TailLemmas.{tail_narrower}
 
 -- One more byte before bytes that have a tail.
 step_of : (b : ℕ) (text : List ℕ) (tail next : Tail) → tail_of Unicode text ≡ Some tail
     → tail_step tail b ≡ Some next → tail_of Unicode (b ∷ text) ≡ Some next
-step_of b text tail next e step = ap (option_and_then (λ last. text_step Unicode last b)) e ∙ step
+step_of b text tail next e step = ap (option_and_then (λ last. text_step (has_byte Unicode) last b)) e ∙ step
 
 -- A character of two bytes before a whole text.
 two_bytes : (a b : ℕ) (text : List ℕ) → tail_of Unicode text ≡ Some Whole → 194 ≤ a → a < 224 → 128 ≤ b
@@ -61,10 +61,9 @@ chars_whole : (cs : List ℕ) → scalars cs ≡ true → tail_of Unicode (encod
 chars_whole [] e = refl
 chars_whole (c ∷ cs) e = grind (arith, common_steps, and_parts, char_whole, valid_scalar, chars_whole cs)
 
--- A text over an alphabet is whole at its front.
-utf8_whole : (text : List ℕ) → IsUtf8 text → tail_of Unicode text ≡ Some Whole
-utf8_whole text utf8 = subst (λ bytes. tail_of Unicode bytes ≡ Some Whole) utf8.1.1 (chars_whole utf8.0 utf8.1.0)
-
-pub text_whole : (a : Alphabet) (text : List ℕ) → IsOver a text → tail_of a text ≡ Some Whole
-text_whole Unicode text over = utf8_whole text over
-text_whole Ascii text over = ordinary_whole text over
+-- A text in UTF-8 is whole at its front, if it has only bytes that it may have.
+pub utf8_whole : (may : ℕ → Bool) (text : List ℕ) → IsUtf8 text → list_all may text ≡ true
+    → tail_with may text ≡ Some Whole
+utf8_whole may text utf8 all =
+    tail_narrower may text Whole all
+    (subst (λ bytes. tail_of Unicode bytes ≡ Some Whole) utf8.1.1 (chars_whole utf8.0 utf8.1.0))

@@ -15,10 +15,11 @@ use Rattle.am_classes.specs.declared.alphabet.Alphabet.{Alphabet}
 use Rattle.am_classes.specs.declared.alphabet.Alphabet.TheVariants.{Unicode, Ascii}
 use Rattle.am_classes.specs.declared.label_state.LabelState.{LabelState}
 use Rattle.am_classes.specs.declared.questions.Questions.{Questions}
-use Rattle.am_classes.specs.Alphabet.{is_printable, IsOrdinary}
+use Rattle.am_scan.specs.Sight.{is_scanned}
+use Rattle.am_classes.specs.Alphabet.{has_byte, is_printable, IsOrdinary, IsOver}
 use Rattle.am_classes.specs.State.{FollowsLabel}
 use Rattle.am_classes.specs.Utf8.{tail_step, text_step, tail_of}
-use Rattle.am_classes.proofs.TailLemmas.{ordinary_of_tail}
+use Rattle.am_classes.proofs.TailLemmas.{tail_wider}
 
 -- Bytes in front of a text in UTF-8, of which the first is in a range and the others continue a
 -- character.
@@ -122,15 +123,17 @@ ordinary_utf8 (b ∷ text) h =
 end_of : (text : List ℕ) (tail : Tail) → tail_of Unicode text ≡ Some tail → IsEnd tail text
 end_of [] tail e = at tail Whole [] e IsUtf8-nil
 end_of (b ∷ text) tail e =
-    option_and_then_some (λ last. text_step Unicode last b) (tail_of Unicode text) tail e
+    option_and_then_some (λ last. text_step (has_byte Unicode) last b) (tail_of Unicode text) tail e
     (λ before there step. after before tail b text step (end_of text before there))
 
-followed_whole : (a : Alphabet) (text : List ℕ) → tail_of a text ≡ Some Whole → IsUtf8 text
-followed_whole Unicode text e = end_of text Whole e
-followed_whole Ascii text e = ordinary_utf8 text (ordinary_of_tail text Whole e)
+-- A text over an alphabet is in UTF-8.
+pub over_utf8 : (a : Alphabet) (text : List ℕ) → IsOver a text → IsUtf8 text
+over_utf8 Unicode text utf8 = utf8
+over_utf8 Ascii text ordinary = ordinary_utf8 text ordinary
 
 -- A text that a state follows is in UTF-8 if it is whole at its front.
 pub followed_utf8 : (q : Questions) (state : LabelState) (text : List ℕ) → FollowsLabel q state text
     → state.tail ≡ Whole → IsUtf8 text
 followed_utf8 q state text follows whole =
-    followed_whole q.alphabet text (follows.tail ∙ ap Some whole)
+    end_of text Whole (tail_wider (is_scanned q.bytes) (has_byte Unicode) (λ b small yes. refl) text Whole
+    (follows.tail ∙ ap Some whole))

@@ -1,14 +1,15 @@
 -- Many patterns at once.
-use Rattle.std.specs.Prelude.{◌≡◌, ◌∷◌, ℕ, List, map, Bool, true, not, Some, slice_get, Contains}
+use Rattle.std.specs.Prelude.{◌≡◌, ◌∷◌, ℕ, List, map, true, Some, slice_get, Contains}
 use Rattle.std.specs.List.{AllByRecursion}
 use Rattle.am_labels.specs.Pattern.{finds}
 use Rattle.am_labels.specs.Wildcards.{is_wildcards}
 use Rattle.am_scan.specs.WildcardStates.{HasManyStates}
-use Rattle.am_scan.specs.Automaton.{number_of, is_ascii, pattern_of}
+use Rattle.am_scan.specs.Automaton.{number_of, pattern_of, scanned_bytes}
 use Rattle.am_scan.specs.Sight.{IsScanned}
-use Rattle.am_classes.specs.declared.alphabet.Alphabet.{Alphabet}
-use Rattle.am_classes.specs.declared.alphabet.Alphabet.TheVariants.{Unicode, Ascii}
+use Rattle.am_classes.specs.Places.{places_where}
+use Rattle.am_scan.specs.declared.byte_set.ByteSet.{ByteSet}
 use Rattle.am_scan.specs.declared.pattern_automaton.PatternAutomaton.{PatternAutomaton}
+use denote.Ref.{Bor}
 
 -- The numbers of a text, one for each pattern.
 -- Source: own choice.
@@ -30,23 +31,29 @@ abbrev pub AreClasses : List PatternAutomaton → List ℕ → Type 0
 AreClasses automata classes =
     (byte class : ℕ) → slice_get classes byte ≡ Some class → MakeSame automata class byte
 
--- An automaton can be used for the texts of an alphabet. For Unicode, it must not be one that reads
--- only texts of ASCII.
+-- Automata are those of the patterns at their places.
+abbrev pub AreAutomataOf : List (Bor (List ℕ)) → List PatternAutomaton → Type 0
+AreAutomataOf patterns automata =
+    (k : ℕ) (automaton : PatternAutomaton) (pattern : Bor (List ℕ))
+    → slice_get automata k ≡ Some automaton → slice_get patterns k ≡ Some pattern
+    → pattern_of automaton ≡ pattern.now
+
+-- Automata read the texts that have only certain bytes.
 -- Source: own choice.
--- Example: the automaton of `\bdb` can be used for ASCII, and not for Unicode.
-abbrev pub fits : Alphabet → PatternAutomaton → Bool
-fits Unicode automaton = not (is_ascii automaton)
-fits Ascii automaton = true
+-- Example: the automaton of `\bdb` is one for the bytes of ASCII, and not for all bytes.
+abbrev pub AreFor : ByteSet → List PatternAutomaton → Type 0
+AreFor bytes automata =
+    (k : ℕ) (a : PatternAutomaton) → slice_get automata k ≡ Some a → scanned_bytes a ≡ bytes
 
 -- A text is one that all automata read.
 abbrev pub AreScanned : List PatternAutomaton → List ℕ → Type 0
-AreScanned automata text = AllByRecursion (λ a. IsScanned (is_ascii a) text) automata
+AreScanned automata text = AllByRecursion (λ a. IsScanned (scanned_bytes a) text) automata
 
--- Which patterns find a text.
+-- The places of the patterns that find a text.
 -- Source: own choice.
--- Example: of `db.*` and `web` the first alone finds `db2`.
-abbrev pub found_by : List PatternAutomaton → List ℕ → List Bool
-found_by automata text = map (λ a. finds (pattern_of a) text) automata
+-- Example: of `db.*` and `web` only the first finds `db2`, so the place is 0.
+abbrev pub found_by : List PatternAutomaton → List ℕ → List ℕ
+found_by automata text = places_where (λ a. finds (pattern_of a) text) automata
 
 -- One of some patterns may have no automaton: if it has wildcards alone, it has too many states.
 -- Source: own choice.

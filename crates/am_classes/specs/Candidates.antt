@@ -1,5 +1,5 @@
 -- Texts that no matcher names. Each stands for a class.
-use Rattle.std.specs.Prelude.{◌≡◌, ◌≤◌, ◌<◌, ◌⊎◌, ℕ, Bool, false, List, Some, slice_get, length}
+use Rattle.std.specs.Prelude.{◌≡◌, ◌≤◌, ◌<◌, ◌⊎◌, ℕ, List, Some, slice_get, length}
 use Rattle.std.specs.Prelude.{string_bytes}
 use Rattle.am_classes.specs.declared.questions.Questions.{Questions}
 use Rattle.am_classes.specs.declared.candidate.Candidate.{Candidate}
@@ -9,7 +9,6 @@ use Rattle.am_classes.specs.Alphabet.{IsOver}
 use Rattle.am_classes.specs.State.{FollowsLabel, IsNamed}
 use Rattle.am_classes.specs.Automata.{found_by}
 use Rattle.am_classes.specs.ClassTexts.{IsOther}
-use Rattle.am_classes.specs.declared.limits.TheConstants.{MAX_SAMPLE_NUMBERS}
 
 -- A candidate says which patterns find its text. The text is not named, and is over the alphabet.
 pub record IsCandidate (q : Questions) (candidate : Candidate) : Type 0 where
@@ -18,7 +17,7 @@ pub record IsCandidate (q : Questions) (candidate : Candidate) : Type 0 where
   pub over : IsOver q.alphabet (string_bytes candidate.text)
 
 -- One of some candidates is found by exactly these patterns.
-abbrev pub HasFound : List Candidate → List Bool → Type 0
+abbrev pub HasFound : List Candidate → List ℕ → Type 0
 HasFound candidates found =
     (k : ℕ) × (candidate : Candidate) × (slice_get candidates k ≡ Some candidate)
     × (candidate.found.items ≡ found)
@@ -72,17 +71,8 @@ RepresentShorter q candidates n =
     (text : List ℕ) → IsOver q.alphabet text → ¬ (IsNamed q text) → length text < n
     → HasCandidate q candidates text
 
--- The text of each candidate has fewer than `n` bytes.
-abbrev pub AreBelow : ℕ → List Candidate → Type 0
-AreBelow n candidates =
+-- Each candidate is `other`, as often as needed, or a shortest one.
+abbrev pub AreTied : Questions → List Candidate → Type 0
+AreTied q candidates =
     (k : ℕ) (candidate : Candidate) → slice_get candidates k ≡ Some candidate
-    → length (string_bytes candidate.text) < n
-
--- Each candidate is `other`, as often as needed, or a shortest one, or, if the candidates are not
--- `all`, the text of a sample, which is short.
-abbrev pub AreTied : Questions → Bool → List Candidate → Type 0
-AreTied q all candidates =
-    (k : ℕ) (candidate : Candidate) → slice_get candidates k ≡ Some candidate
-    → IsOther (IsNamed q) (string_bytes candidate.text)
-    ⊎ (IsShortestFound q candidate
-    ⊎ ((all ≡ false) × (length (string_bytes candidate.text) < MAX_SAMPLE_NUMBERS)))
+    → IsOther (IsNamed q) (string_bytes candidate.text) ⊎ IsShortestFound q candidate

@@ -1,11 +1,16 @@
 -- Which text stands for a class of texts that some matchers cannot tell apart. The matchers are
 -- those of one label.
 use Rattle.std.specs.Prelude.{◌≡◌, ◌≤◌, ◌<◌, ◌⊎◌, ℕ, zero, suc, List, [], ◌++◌, length, Contains}
-use Rattle.std.specs.Prelude.{codes}
+use Rattle.std.specs.Prelude.{codes, false, map, string_bytes, vec_len}
+use Rattle.std.specs.List.{AllByRecursion}
+use Rattle.am_universe.specs.declared.limits.TheConstants.{MAX_VALUES}
 use Rattle.am_labels.specs.Matcher.{Matcher}
 use Rattle.am_classes.specs.declared.alphabet.Alphabet.{Alphabet}
-use Rattle.am_classes.specs.Alphabet.{IsOver}
-use Rattle.am_classes.specs.Alike.{AreAlike}
+use Rattle.am_classes.specs.declared.class_texts.ClassTexts.{ClassTexts}
+use Rattle.am_classes.specs.declared.limits.TheConstants.{MAX_SAMPLE_NUMBERS}
+use Rattle.am_classes.specs.Alphabet.{IsOver, AreOver}
+use Rattle.am_classes.specs.Alike.{AreAlike, AreApart}
+use Rattle.am_classes.specs.LabelTests.{IsTestsOf}
 use Rattle.am_classes.specs.Named.{named_by}
 
 -- One of some matchers names a text: it compares with this text, or the text is an alternative of
@@ -40,3 +45,16 @@ IsOther Named text =
 -- Example: to `team="web"` and `team=~"db.*"`, `web`, `db` and the empty text are such texts.
 abbrev pub IsClassText : Alphabet → List Matcher → List ℕ → Type 0
 IsClassText a ms text = Names ms text ⊎ (IsShortest a ms text ⊎ IsOther (Names ms) text)
+
+-- More texts than a label may have values are over an alphabet, no two are alike to some matchers,
+-- and some of these are kept as tests. Each text is named by a matcher or short.
+-- Source: own choice.
+-- Example: the texts `v0` to `v1024` are so for matchers `=` with each of them.
+pub record AreManyClasses (a : Alphabet) (ms : List Matcher) (c : ClassTexts) : Type 0 where
+  pub not_all : c.all ≡ false
+  pub many : MAX_VALUES < vec_len c.texts
+  pub over : AreOver a (map string_bytes c.texts.items)
+  pub apart : AreApart ms (map string_bytes c.texts.items)
+  pub tied : AllByRecursion (λ text. Names ms text ⊎ (length text < MAX_SAMPLE_NUMBERS))
+      (map string_bytes c.texts.items)
+  pub tests : (ns : List Matcher) × IsTestsOf ns c.tests × AllByRecursion (Contains ms) ns

@@ -5,7 +5,8 @@ use Rattle.std.specs.List.{AllByRecursion}
 use Rattle.am_classes.specs.declared.questions.Questions.{Questions}
 use Rattle.am_classes.specs.declared.reached_state.ReachedState.{ReachedState}
 use Rattle.am_classes.specs.declared.tail.Tail.{Tail}
-use Rattle.am_classes.specs.Utf8.{tail_of}
+use Rattle.am_scan.specs.Sight.{is_scanned}
+use Rattle.am_classes.specs.Utf8.{tail_with}
 use Rattle.am_classes.specs.declared.limits.TheConstants.{MAX_STATES}
 use Rattle.am_classes.specs.Fronts.{fronts_of}
 use Rattle.am_classes.specs.Automata.{MakeSame, numbers_of}
@@ -37,14 +38,14 @@ pub record AreShortFirst (n : ℕ) (listed : List ReachedState) : Type 0 where
   pub most : (k : ℕ) (x : ReachedState) → slice_get listed k ≡ Some x → length x.text.items ≤ n
 
 -- A byte before a text that a state follows leads to a text that a listed state follows, unless no
--- text over the alphabet has such a byte there. The text beside the listed state is at most one
--- byte longer.
+-- text that has only the bytes that are tried has such a byte there. The text beside the listed
+-- state is at most one byte longer.
 -- Source: own choice.
 -- Example: if `a` and `ba` have the same listed state, `b` leads from it to itself.
 abbrev pub LeadsOn : Questions → List ReachedState → ReachedState → ℕ → Type 0
 LeadsOn q listed item byte =
     (text : List ℕ) (tail : Tail) → FollowsLabel q item.state text
-    → tail_of q.alphabet (byte ∷ text) ≡ Some tail
+    → tail_with (is_scanned q.bytes) (byte ∷ text) ≡ Some tail
     → HasState q listed (length item.text.items + 1) (byte ∷ text)
 
 -- For each class there is at most one byte, and it leads on. The patterns treat this byte and the
@@ -77,15 +78,15 @@ pub record IsClosed (q : Questions) (listed : List ReachedState) (at : ℕ) : Ty
   pub leads : (k byte : ℕ) (item : ReachedState) → k < at → slice_get listed k ≡ Some item
       → byte < 256 → LeadsOn q listed item byte
 
--- More texts than the states that are explored, each an end of texts over the alphabet. No two have
--- the same tail, the same fronts and the same numbers.
+-- More texts than the states that are explored, each an end of texts that have only the bytes that
+-- are tried. No two have the same tail, the same fronts and the same numbers.
 -- Source: own choice.
 -- Example: this is never so if nothing is asked about a text: then the tails alone differ.
 abbrev pub HasManyLabelStates : Questions → Type 0
 HasManyLabelStates q =
     (texts : List (List ℕ)) × (MAX_STATES < length texts)
-    × AllByRecursion (λ text. IsSome (tail_of q.alphabet text)) texts
+    × AllByRecursion (λ text. IsSome (tail_with (is_scanned q.bytes) text)) texts
     × ((i j : ℕ) (x y : List ℕ) → slice_get texts i ≡ Some x → slice_get texts j ≡ Some y
-    → tail_of q.alphabet x ≡ tail_of q.alphabet y
+    → tail_with (is_scanned q.bytes) x ≡ tail_with (is_scanned q.bytes) y
     → fronts_of (named_texts q) x ≡ fronts_of (named_texts q) y
     → numbers_of q.automata.items x ≡ numbers_of q.automata.items y → i ≡ j)

@@ -1,11 +1,14 @@
 pub mod Alphabet
 pub mod Alike
 pub mod Utf8
+pub mod Places
 pub mod Automata
+pub mod Enough
 pub mod Fronts
 pub mod State
 pub mod Named
 pub mod Truths
+pub mod LabelTests
 pub mod Asked
 pub mod Limits
 pub mod Exploration

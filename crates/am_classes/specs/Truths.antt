@@ -1,46 +1,56 @@
 -- Texts that are tested by matchers.
-use Rattle.std.specs.Prelude.{◌≡◌, ℕ, List, ◌++◌, map, Bool, not, Contains, string_bytes}
-use Rattle.std.specs.List.{AllByRecursion, list_any}
-use Rattle.std.specs.Option.{option_map_or}
+use Rattle.std.specs.Prelude.{◌≡◌, ℕ, List, ◌++◌, map, Bool, not, ◌&&◌, Contains, string_bytes}
+use Rattle.std.specs.Prelude.{if◌then◌else◌, nat_eq}
+use Rattle.std.specs.List.{AllByRecursion}
 use Rattle.std.specs.Cmp.Lexicographic.{pointwise}
 use Rattle.std.specs.Global.{Vec}
-use mathlib.Core.Bool.{beq}
-use Rattle.am_universe.specs.Text.{same_text}
-use Rattle.am_labels.specs.Matcher.{Matcher, holds}
+use Rattle.am_labels.specs.Matcher.{Matcher, holds, negates}
 use Rattle.am_classes.specs.Alike.{AreApart, HasAlikeIn}
-use Rattle.am_classes.specs.declared.tested.Test.{Test}
+use Rattle.am_classes.specs.Named.{names_texts}
+use Rattle.am_classes.specs.Places.{places_where}
 use Rattle.am_classes.specs.declared.tested.Tested.{Tested}
 
--- The truths of some matchers on a text, in order.
-abbrev pub truths : List Matcher → List ℕ → List Bool
-truths ms text = map (λ m. holds m.op m.value text) ms
+-- The comparison of a matcher is true of a text, whether or not its operator negates it.
+-- Source: own choice.
+-- Example: that of `team!="db"` is true of `db` alone.
+abbrev pub compares : List ℕ → Matcher → Bool
+compares text m =
+    if negates m.op then not (holds m.op m.value text) else holds m.op m.value text
 
--- The truth that a test finds on a text: that of its matcher or, if it has none, whether the text
--- is one of its texts, or the opposite; and the truths that some tests find, in order.
-abbrev pub truth_of : Test → List ℕ → Bool
-truth_of test text = option_map_or (λ m. holds m.op m.value text) test.prepared
-    (not (beq (list_any (λ t. same_text t.now text) test.texts.items) test.negated))
+-- The places of the matchers that name a text, and of the others that find it.
+abbrev pub naming : List Matcher → List ℕ → List ℕ
+naming ms text = places_where (λ m. names_texts m && compares text m) ms
 
-abbrev pub truths_of : List Test → List ℕ → List Bool
-truths_of tests text = map (λ t. truth_of t text) tests
+abbrev pub finding : List Matcher → List ℕ → List ℕ
+finding ms text = places_where (λ m. not (names_texts m) && compares text m) ms
 
--- Whether two texts are alike: the truths on both are equal.
+-- The hits of a text: the places of the matchers whose comparison is true of it. Those that name
+-- texts come first.
+-- Source: own choice.
+-- Example: of `team=~"d.*"`, `team!="db"` and `team="web"`, those of `db` are 1 and 0.
+abbrev pub hits : List Matcher → List ℕ → List ℕ
+hits ms text = naming ms text ++ finding ms text
+
+-- Whether two texts are alike: their hits are equal.
 abbrev pub alike : List Matcher → List ℕ → List ℕ → Bool
-alike ms x y = pointwise beq (truths ms x) (truths ms y)
+alike ms x y = pointwise nat_eq (hits ms x) (hits ms y)
 
--- Texts that were tested; each comes with the truths of some matchers on it; two rows of truths are
--- the same; and two texts have the same.
+-- Texts that were tested: each has the hits that a function gives for its text, or those of some
+-- matchers; two rows of hits are the same; and two texts have the same.
 abbrev pub texts_of : List Tested → List (List ℕ)
 texts_of tested = map (λ t. string_bytes t.text) tested
 
+abbrev pub AreHits : (List ℕ → List ℕ) → List Tested → Type 0
+AreHits hits tested = AllByRecursion (λ t. t.hits.items ≡ hits (string_bytes t.text)) tested
+
 abbrev pub AreTested : List Matcher → List Tested → Type 0
-AreTested ms tested = AllByRecursion (λ t. t.truths.items ≡ truths ms (string_bytes t.text)) tested
+AreTested ms tested = AreHits (hits ms) tested
 
-abbrev pub are_same : Vec Bool → Vec Bool → Bool
-are_same xs ys = pointwise beq xs.items ys.items
+abbrev pub are_same : Vec ℕ → Vec ℕ → Bool
+are_same xs ys = pointwise nat_eq xs.items ys.items
 
-abbrev pub has_same_truths : Tested → Tested → Bool
-has_same_truths t other = pointwise beq other.truths.items t.truths.items
+abbrev pub has_same_hits : Tested → Tested → Bool
+has_same_hits t other = pointwise nat_eq other.hits.items t.hits.items
 
 -- Some texts are new: they are among the wanted ones, no two are alike, and none is alike to one
 -- that is there. To each wanted text, one of them or of those that are there is alike.

@@ -31,19 +31,25 @@ tail_step ThreeLow b =
 tail_step ThreeHigh b =
     if nat_lt b 0xF0 then None else if nat_lt b 0xF4 then Some Whole else None
 
--- The same, if a text over an alphabet can have such a byte there.
+-- The same, for texts that have only certain bytes.
 -- Source: own choice.
--- Example: over ASCII, no text has `A9` before its end.
-abbrev pub text_step : Alphabet → Tail → ℕ → Option Tail
-text_step a tail b = if has_byte a b then tail_step tail b else None
+-- Example: if a text has only bytes of ASCII, it has no `A9` before its end.
+abbrev pub text_step : (ℕ → Bool) → Tail → ℕ → Option Tail
+text_step may tail b = if may b then tail_step tail b else None
 
--- The tail of some bytes, if an alphabet has texts that end with them.
+-- The tail of some bytes, if a text that has only certain bytes can end with them.
 -- Source: The Unicode Standard, table 3-7, "Well-Formed UTF-8 Byte Sequences".
--- Example: `C3 A9` is whole. `A9` is one byte of a character that begins further in front. No text
--- ends with `C3`. Over ASCII, no text ends with any of the three.
+-- Example: if a text may have each byte, `C3 A9` is whole. `A9` is one byte of a character that
+-- begins further in front. No text ends with `C3`.
+abbrev pub tail_with : (ℕ → Bool) → List ℕ → Option Tail
+tail_with may [] = Some Whole
+tail_with may (b ∷ text) = option_and_then (λ tail. text_step may tail b) (tail_with may text)
+
+-- The same for all texts over an alphabet.
+-- Source: own choice.
+-- Example: over ASCII, no text ends with `A9` or with `C3`.
 abbrev pub tail_of : Alphabet → List ℕ → Option Tail
-tail_of a [] = Some Whole
-tail_of a (b ∷ text) = option_and_then (λ tail. text_step a tail b) (tail_of a text)
+tail_of a text = tail_with (has_byte a) text
 
 -- A character begins at the front, or the text ends there.
 abbrev pub is_whole : Tail → Bool

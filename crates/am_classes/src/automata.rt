@@ -1,36 +1,33 @@
 //! The automata of many patterns at once.
 #![tactic(auto, using(crate::proofs::AutomataLemmas::more_numbers))]
 
-ghost use Rattle.std.specs.Prelude.{◌≡◌, ℕ, ◌∷◌, [], List, map, true, IfOk, IfSome, IfNone};
-ghost use Rattle.std.specs.Prelude.{IsTrue, length, string_bytes};
-ghost use Rattle.std.specs.List.{list_all};
+ghost use Rattle.std.specs.Prelude.{◌≡◌, ℕ, ◌∷◌, ◌++◌, [], List, map, true, IfOk, IfSome, IfNone};
+ghost use Rattle.std.specs.Prelude.{IsTrue, length};
 ghost use Rattle.std.specs.Str.{IsUtf8};
 ghost use Rattle.am_scan.specs.Automaton.{pattern_of};
-ghost use Rattle.am_classes.specs.Automata.{numbers_of, AreScanned, found_by, fits, AreClasses};
+ghost use Rattle.am_scan.specs.declared.pattern_automaton.PatternAutomaton.{PatternAutomaton};
+ghost use Rattle.am_classes.specs.Automata.{numbers_of, AreScanned, found_by, AreFor, AreClasses};
 ghost use Rattle.am_classes.specs.Automata.{MakeSame, MayLackAutomaton};
 
-use crate::Alphabet;
-use am_scan::PatternAutomaton;
+use am_scan::{ByteSet, PatternAutomaton};
 use std::alloc::{AllocError, Global};
 
-/// Makes the automata of patterns, for the texts of an alphabet. Returns `None` if one of the
-/// patterns has no automaton.
+/// Makes the automata of patterns, for texts that have only these bytes. Returns `None` if one of
+/// the patterns has no automaton.
 pub(crate) fn automata_of(
     alloc: Global,
-    alphabet: Alphabet,
-    patterns: &[String],
+    bytes: ByteSet,
+    patterns: &[&str],
 ) -> Result<Option<Vec<PatternAutomaton>>, AllocError>
     ensures some { IfOk result (λ found. IfSome found (λ automata.
-        map pattern_of automata.items ≡ map string_bytes patterns.now)) }
-    ensures fit { IfOk result (λ found. IfSome found (λ automata.
-        IsTrue (list_all (fits alphabet) automata.items))) }
+        map pattern_of automata.items ≡ map (λ p. p.now) patterns.now)) }
+    ensures fit { IfOk result (λ found. IfSome found (λ automata. AreFor bytes automata.items)) }
     ensures none { IfOk result (λ found. IfNone found
-        (MayLackAutomaton (map string_bytes patterns.now))) }
+        (MayLackAutomaton (map (λ p. p.now) patterns.now))) }
 {
-    let ascii = alphabet == Alphabet::Ascii;
     let mut automata = Vec::with_capacity(alloc, patterns.len())?;
     for pattern in patterns {
-        let Some(automaton) = PatternAutomaton::of(alloc, pattern.as_str(), ascii)? else {
+        let Some(automaton) = PatternAutomaton::of(alloc, pattern, bytes)? else {
             return Ok(None);
         };
         automata.push(automaton)?;
@@ -72,58 +69,58 @@ pub(crate) fn next_numbers(
 }
 
 /// For each byte, finds the first byte that every pattern treats like it.
-#[tactic(auto, using(std::proofs::lemmas::Grind::common_steps, crate::proofs::AutomataLemmas::classes_more))]
-pub(crate) fn byte_classes(
-    alloc: Global,
-    automata: &[PatternAutomaton],
-) -> Result<Vec<u8>, AllocError>
-    ensures { IfOk result (λ classes. AreClasses automata.now classes.items) }
+pub(crate) fn byte_classes(automata: &[PatternAutomaton]) -> [u8; 256]
+    ensures { AreClasses automata.now result }
 {
-    let mut classes = Vec::with_capacity(alloc, 256)?;
-    for byte in 0..=u8::MAX {
-        classes.push(first_alike(automata, byte))?;
+    let mut classes = [0; 256];
+    for automaton in automata {
+        classes = split_classes(automaton, &classes);
     }
-    Ok(classes)
+    classes
 }
 
-/// Returns the first byte that every pattern treats like this one.
-fn first_alike(automata: &[PatternAutomaton], byte: u8) -> u8
-    ensures { MakeSame automata.now result byte }
+/// Returns the classes of bytes for some patterns and a further one, from those for the patterns.
+fn split_classes(automaton: &PatternAutomaton, classes: &[u8; 256]) -> [u8; 256]
+    ensures { (automata : List PatternAutomaton) → AreClasses automata classes.now
+        → AreClasses (automata ++ automaton.now ∷ []) result }
 {
-    for one in 0..byte {
-        if are_alike(automata, one, byte) {
+    let mut split = [0; 256];
+    for byte in 0..=u8::MAX {
+        split[usize::from(byte)] = first_alike(automaton, classes, byte);
+    }
+    split
+}
+
+/// Returns the first byte of the class of a byte that a further pattern treats like it.
+fn first_alike(automaton: &PatternAutomaton, classes: &[u8; 256], byte: u8) -> u8
+    ensures { (automata : List PatternAutomaton) → AreClasses automata classes.now
+        → MakeSame (automata ++ automaton.now ∷ []) result byte }
+{
+    let class = classes[usize::from(byte)];
+    for one in class..byte {
+        if classes[usize::from(one)] == class && automaton.are_alike(one, byte) {
             return one;
         }
     }
     byte
 }
 
-/// Whether every pattern treats two bytes alike. Only `true` promises something.
-fn are_alike(automata: &[PatternAutomaton], one: u8, other: u8) -> bool
-    ensures { IsTrue result → MakeSame automata.now one other }
-{
-    for automaton in automata {
-        if !automaton.are_alike(one, other) {
-            return false;
-        }
-    }
-    true
-}
-
-/// Returns which patterns find a text that has these numbers.
+/// Returns the places of the patterns that find a text that has these numbers.
 pub(crate) fn found_patterns(
     alloc: Global,
     automata: &[PatternAutomaton],
     numbers: &[u32],
-) -> Result<Vec<bool>, AllocError>
+) -> Result<Vec<usize>, AllocError>
     requires { length numbers.now ≡ length automata.now }
-    ensures { IfOk result (λ answers. (text : List ℕ)
+    ensures { IfOk result (λ found. (text : List ℕ)
         → numbers.now ≡ numbers_of automata.now text → AreScanned automata.now text
-        → IsUtf8 text → answers.items ≡ found_by automata.now text) }
+        → IsUtf8 text → found.items ≡ found_by automata.now text) }
 {
-    let mut answers = Vec::with_capacity(alloc, automata.len())?;
+    let mut found = Vec::new(alloc);
     for (i, automaton) in automata.iter().enumerate() {
-        answers.push(automaton.finds(numbers[i]))?;
+        if automaton.finds(numbers[i]) {
+            found.push(i)?;
+        }
     }
-    Ok(answers)
+    Ok(found)
 }

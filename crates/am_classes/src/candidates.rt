@@ -1,9 +1,10 @@
-ghost use Rattle.std.specs.Prelude.{◌≡◌, ◌<◌, ℕ, [], true, false, IsTrue, IfOk, IfSome, IfNone};
+ghost use Rattle.std.specs.Prelude.{◌≡◌, ◌<◌, [], false, IsTrue, IfOk, IfSome, IfNone};
 ghost use Rattle.std.specs.Prelude.{OnOk, length, vec_len, string_bytes};
-ghost use Rattle.am_classes.specs.State.{FollowsLabel, IsNamed};
+ghost use Rattle.am_classes.specs.Enough.{AreEnough};
+ghost use Rattle.am_classes.specs.State.{FollowsLabel, IsNamed, named_texts, patterns_of};
 ghost use Rattle.am_classes.specs.Candidates.{AreCandidates, AreApartCandidates, Represents};
 ghost use Rattle.am_classes.specs.Candidates.{HasFound, AreShortest, RepresentShorter};
-ghost use Rattle.am_classes.specs.Candidates.{AreBelow, AreTied};
+ghost use Rattle.am_classes.specs.Candidates.{AreTied};
 ghost use Rattle.am_classes.specs.Exploration.{HasManyLabelStates};
 ghost use Rattle.am_classes.specs.ClassTexts.{IsOther};
 ghost use Rattle.am_scan.specs.Automaton.{Grows};
@@ -13,7 +14,6 @@ use crate::candidate::Candidate;
 use crate::exploration::explored;
 use crate::questions::Questions;
 use crate::reached_state::ReachedState;
-use crate::samples::sampled;
 use std::alloc::{AllocError, Global};
 use std::str::from_utf8;
 
@@ -28,12 +28,13 @@ pub(crate) struct CandidateTexts {
 
 /// Finds texts that no matcher names: one for each set of patterns that finds such a text, or more
 /// of them than there is room for. Returns `None` if there are patterns and too many states.
-#[tactic(auto, using(crate::proofs::CandidateLemmas::tied_short))]
 pub(crate) fn candidates(
     alloc: Global,
     questions: &Questions,
     room: usize,
 ) -> Result<Option<CandidateTexts>, AllocError>
+    requires { AreEnough questions.now.alphabet (named_texts questions.now)
+        (patterns_of questions.now) questions.now.bytes }
     ensures distinct { IfOk result (λ found. IfSome found (λ candidates.
         AreApartCandidates questions.now candidates.items.items)) }
     ensures all { IfOk result (λ found. IfSome found (λ candidates.
@@ -41,19 +42,13 @@ pub(crate) fn candidates(
     ensures many { IfOk result (λ found. IfSome found (λ candidates. candidates.all ≡ false
         → (room < vec_len candidates.items) × (0 < length questions.now.automata.items))) }
     ensures tied { IfOk result (λ found. IfSome found (λ candidates.
-        AreTied questions.now candidates.all candidates.items.items)) }
+        AreTied questions.now candidates.items.items)) }
     ensures none { IfOk result (λ found. IfNone found
         ((0 < length questions.now.automata.items) × HasManyLabelStates questions.now)) }
 {
     if questions.automata.is_empty() {
         let items = other_candidate(alloc, questions)?;
         return Ok(Some(CandidateTexts { items, all: true }));
-    }
-    if questions.automata.len() > room {
-        let items = sampled(alloc, questions, room)?;
-        if items.len() > room {
-            return Ok(Some(CandidateTexts { items, all: false }));
-        }
     }
     explored(alloc, questions, room)
 }
@@ -63,7 +58,7 @@ fn other_candidate(alloc: Global, questions: &Questions) -> Result<Vec<Candidate
     requires { questions.now.automata.items ≡ [] }
     ensures candidates { IfOk result (λ candidates.
         AreCandidates questions.now candidates.items) }
-    ensures tied { IfOk result (λ candidates. AreTied questions.now true candidates.items) }
+    ensures tied { IfOk result (λ candidates. AreTied questions.now candidates.items) }
 {
     let text = other_text(alloc, questions)?;
     let found = Vec::new(alloc);
@@ -102,8 +97,6 @@ pub(crate) fn add(
     ensures shortest { AreShortest questions.now candidates.old.items
         → RepresentShorter questions.now candidates.old.items (length item.now.text.items)
         → AreShortest questions.now candidates.new.items }
-    ensures short { (n : ℕ) → length item.now.text.items < n
-        → AreBelow n candidates.old.items → AreBelow n candidates.new.items }
 {
     if !item.state.tail.is_whole() || questions.names_followed(&item.state) {
         return Ok(());
@@ -122,7 +115,7 @@ pub(crate) fn add(
 }
 
 /// Whether one of the candidates is found by these patterns and no others.
-fn has_found(candidates: &[Candidate], found: &[bool]) -> bool
+fn has_found(candidates: &[Candidate], found: &[usize]) -> bool
     ensures yes { IsTrue result → HasFound candidates.now found.now }
     ensures no { result ≡ false → HasFound candidates.now found.now → ⊥ }
 {

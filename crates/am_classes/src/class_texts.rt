@@ -9,37 +9,51 @@
 //! The classes are found for all matchers together, and not joined from the classes of each.
 //! Patterns of one label mostly exclude each other, and a class without a text is never listed.
 //!
-//! The search stops once there are more classes than a label may have values. With many patterns,
-//! for each pattern a text that it finds is tried first, because these texts may show at once that
-//! there are too many classes.
-ghost use Rattle.std.specs.Prelude.{◌≡◌, ◌++◌, ◌<◌, ◌⊎◌, [], false, map, IfOk, IfSome, IfNone};
-ghost use Rattle.std.specs.Prelude.{IsTrue, length, string_bytes, vec_len};
+//! The search stops once there are more classes than a label may have values. If there are many
+//! matchers, some of them may tell so many texts apart, and then all do. So those that name texts
+//! are looked at first, and then `PART` matchers at a time, with a text that each pattern finds.
+
+ghost use Rattle.std.specs.Prelude.{◌≡◌, ◌++◌, ◌<◌, ◌⊎◌, List, [], false, map, IfOk, IfSome};
+ghost use Rattle.std.specs.Prelude.{IfNone, IsTrue, Contains, length, string_bytes, vec_len};
 ghost use Rattle.std.specs.List.{AllByRecursion};
 ghost use Rattle.am_universe.specs.declared.limits.TheConstants.{MAX_VALUES};
+ghost use Rattle.am_labels.specs.Matcher.{Matcher};
 ghost use Rattle.am_classes.specs.Alike.{Covers, AreApart, HasOtherPattern};
 ghost use Rattle.am_classes.specs.Alphabet.{AreOver};
+ghost use Rattle.am_classes.specs.Automata.{AreAutomataOf};
 ghost use Rattle.am_classes.specs.Limits.{HaveTooManyStates, HaveWildcardsAlone};
-ghost use Rattle.am_classes.specs.ClassTexts.{IsClassText};
+ghost use Rattle.am_classes.specs.ClassTexts.{IsClassText, AreManyClasses};
+ghost use Rattle.am_classes.specs.LabelTests.{IsTestsOf};
 ghost use Rattle.am_classes.specs.Truths.{AreNewIn};
 ghost use Rattle.am_classes.specs.declared.limits.TheConstants.{MAX_SAMPLE_NUMBERS};
 
-use crate::Alphabet;
+use crate::automata::automata_of;
 use crate::candidate::Candidate;
 use crate::candidates::candidates;
+use crate::enough_bytes::enough_bytes;
+use crate::named_texts::{named_texts, names_texts, naming_matchers};
 use crate::questions::Questions;
-use crate::tested::{new_texts, tested_texts};
+use crate::samples::samples;
+use crate::tested::new_texts;
+use crate::{Alphabet, LabelTests};
 use am_labels::Matcher;
+use am_scan::PatternAutomaton;
 use am_universe::limits::MAX_VALUES;
 use std::alloc::{AllocError, Global};
 
+/// How many matchers are looked at together, before all are.
+const PART: usize = 2 * MAX_VALUES;
+
 /// Texts of a label, no two of which are alike to its matchers.
-#[derive(Debug, Drop)]
-pub struct ClassTexts {
+#[derive(Drop)]
+pub struct ClassTexts<'m> {
     /// The texts, those that a matcher names first.
     pub texts: Vec<String>,
     /// Whether each text that the label may have is alike to one of these. If not, there are more
     /// of these than a label may have values.
     pub all: bool,
+    /// The matchers, or if the texts are not all, perhaps only some of them.
+    pub tests: LabelTests<'m>,
 }
 
 /// Finds one text for each class of texts over an alphabet that matchers cannot tell apart. The
@@ -50,12 +64,11 @@ pub struct ClassTexts {
 /// pattern cannot be followed, or there are too many states. If each pattern is an alternation of
 /// plain texts, all classes are always found. If the others are made of plain characters, `.*` and
 /// bars, they are found unless there are too many states or classes. Fails only if memory runs out.
-#[tactic(auto, using(crate::proofs::ClassLemmas::of_classes))]
-pub fn classes(
+pub fn classes<'m>(
     alloc: Global,
     alphabet: Alphabet,
-    matchers: &[&Matcher],
-) -> Result<Option<ClassTexts>, AllocError>
+    matchers: &[&'m Matcher],
+) -> Result<Option<ClassTexts<'m>>, AllocError>
     ensures covers { IfOk result (λ found. IfSome found (λ classes. IsTrue classes.all
         → Covers alphabet (map (λ m. m.now) matchers.now) (map string_bytes classes.texts.items))) }
     ensures many { IfOk result (λ found. IfSome found (λ classes. classes.all ≡ false
@@ -69,34 +82,130 @@ pub fn classes(
         (λ text. IsClassText alphabet (map (λ m. m.now) matchers.now) text
         ⊎ ((classes.all ≡ false) × (length text < MAX_SAMPLE_NUMBERS)))
         (map string_bytes classes.texts.items))) }
+    ensures tests { IfOk result (λ found. IfSome found (λ classes. (ms : List Matcher)
+        × IsTestsOf ms classes.tests
+        × AllByRecursion (Contains (map (λ m. m.now) matchers.now)) ms
+        × (IsTrue classes.all → ms ≡ map (λ m. m.now) matchers.now))) }
     ensures none { IfOk result (λ found. IfNone found
         (HasOtherPattern (map (λ m. m.now) matchers.now)
         × (HaveWildcardsAlone (map (λ m. m.now) matchers.now)
         → HaveTooManyStates alphabet (map (λ m. m.now) matchers.now)))) }
 {
-    let Some(questions) = Questions::of(alloc, alphabet, matchers)? else {
+    if let Some(many) = many_classes(alloc, alphabet, matchers)? {
+        return Ok(Some(many));
+    }
+    let tests = LabelTests::of(alloc, matchers)?;
+    let patterns = tests.patterns.as_slice();
+    let texts = named_texts(alloc, alphabet, matchers)?;
+    let bytes = enough_bytes(alloc, alphabet, texts.as_slice(), patterns)?;
+    let Some(automata) = automata_of(alloc, bytes, patterns)? else {
         return Ok(None);
     };
-    let named = apart_texts(alloc, matchers, questions.texts.as_slice())?;
+    let named = apart_texts(alloc, &tests, automata.as_slice(), texts.as_slice())?;
     let room = MAX_VALUES.saturating_sub(named.len());
+    let questions = Questions::of(alphabet, bytes, texts, automata);
     let Some(candidates) = candidates(alloc, &questions, room)? else {
         return Ok(None);
     };
     let all = candidates.all;
     let texts = with_texts(named, candidates.items)?;
-    Ok(Some(ClassTexts { texts, all }))
+    let tests = tests.with_automata(questions.automata);
+    Ok(Some(ClassTexts { texts, all, tests }))
 }
 
-/// Returns those of some texts that are alike to none before them.
+/// Returns more texts than a label may have values, no two of which are alike, if a part of many
+/// matchers tells so many apart and a matcher takes a pattern that is no alternation. The first
+/// part is made of all matchers that name texts.
+fn many_classes<'m>(
+    alloc: Global,
+    alphabet: Alphabet,
+    matchers: &[&'m Matcher],
+) -> Result<Option<ClassTexts<'m>>, AllocError>
+    ensures many { IfOk result (λ found. IfSome found
+        (AreManyClasses alphabet (map (λ m. m.now) matchers.now))) }
+    ensures other { IfOk result (λ found. IfSome found
+        (λ _. HasOtherPattern (map (λ m. m.now) matchers.now))) }
+{
+    if matchers.len() < MAX_VALUES || !has_other_pattern(matchers) {
+        return Ok(None);
+    }
+    let naming = naming_matchers(alloc, matchers)?;
+    let many = many_of_part(alloc, alphabet, naming.as_slice())?;
+    if many.is_some() {
+        return Ok(many);
+    }
+    let mut from = 0;
+    while from < matchers.len() {
+        let end = matchers.len().min(from + PART);
+        let many = many_of_part(alloc, alphabet, &matchers[from..end])?;
+        if many.is_some() {
+            return Ok(many);
+        }
+        from = end;
+    }
+    Ok(None)
+}
+
+/// Whether a matcher takes a pattern that is no alternation of plain texts.
+fn has_other_pattern(matchers: &[&Matcher]) -> bool
+    ensures { IsTrue result → HasOtherPattern (map (λ m. m.now) matchers.now) }
+{
+    for matcher in matchers {
+        if !names_texts(matcher) {
+            return true;
+        }
+    }
+    false
+}
+
+/// Tests the texts that matchers name, and a text that each of their patterns finds. Returns those
+/// that are alike to none before them, if they are more than a label may have values.
+fn many_of_part<'m>(
+    alloc: Global,
+    alphabet: Alphabet,
+    matchers: &[&'m Matcher],
+) -> Result<Option<ClassTexts<'m>>, AllocError>
+    ensures { IfOk result (λ found. IfSome found
+        (AreManyClasses alphabet (map (λ m. m.now) matchers.now))) }
+{
+    let tests = LabelTests::of(alloc, matchers)?;
+    let patterns = tests.patterns.as_slice();
+    let mut texts = named_texts(alloc, alphabet, matchers)?;
+    let bytes = enough_bytes(alloc, alphabet, texts.as_slice(), patterns)?;
+    let Some(automata) = automata_of(alloc, bytes, patterns)? else {
+        return Ok(None);
+    };
+    texts.truncate(if automata.is_empty() {
+        usize::MAX
+    } else {
+        PART
+    });
+    texts.append(&mut samples(alloc, alphabet, automata.as_slice())?)?;
+    let texts = apart_texts(alloc, &tests, automata.as_slice(), texts.as_slice())?;
+    if texts.len() <= MAX_VALUES {
+        return Ok(None);
+    }
+    let tests = tests.with_automata(automata);
+    Ok(Some(ClassTexts {
+        texts,
+        all: false,
+        tests,
+    }))
+}
+
+/// Returns those of some texts that are alike to none before them. The automata are those of the
+/// first patterns of the tests.
 fn apart_texts(
     alloc: Global,
-    matchers: &[&Matcher],
+    tests: &LabelTests<'_>,
+    automata: &[PatternAutomaton],
     texts: &[String],
 ) -> Result<Vec<String>, AllocError>
-    ensures { IfOk result (λ apart. AreNewIn (map (λ m. m.now) matchers.now) []
-        (map string_bytes texts.now) (map string_bytes apart.items)) }
+    requires { AreAutomataOf tests.now.patterns.keys automata.now }
+    ensures { IfOk result (λ apart. (ms : List Matcher) → IsTestsOf ms tests.now
+        → AreNewIn ms [] (map string_bytes texts.now) (map string_bytes apart.items)) }
 {
-    let tested = tested_texts(alloc, matchers, texts.to_vec(alloc)?)?;
+    let tested = tests.tested_with(alloc, automata, texts.to_vec(alloc)?)?;
     new_texts(alloc, Vec::new(alloc), tested)
 }
 

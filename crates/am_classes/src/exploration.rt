@@ -2,8 +2,8 @@
 //!
 //! All matchers of a label are explored together. A state of the label has three parts: how many
 //! bytes of an unfinished character are at its front, since only UTF-8 counts; what is before it in
-//! each named text that ends with it; and the number that each pattern gives it. Over ASCII no
-//! character is unfinished, and only bytes of printable ASCII lead to a state.
+//! each named text that ends with it; and the number that each pattern gives it. Only bytes that
+//! are enough to stand for all texts lead to a state; over ASCII no character is unfinished.
 //!
 //! The search begins with the state of the empty text. It lists each state to which a listed one
 //! and a byte lead, with a text that leads there, unless the same state is listed. Bytes that all
@@ -15,7 +15,8 @@
 ghost use Rattle.std.specs.Prelude.{◌≡◌, ◌<◌, ◌+◌, ℕ, Some, false};
 ghost use Rattle.std.specs.Prelude.{IfOk, IfSome, IfNone, OnOk, IsTrue, length, vec_len};
 ghost use Rattle.am_classes.specs.declared.questions.Questions.{Questions};
-ghost use Rattle.am_classes.specs.State.{FollowsLabel};
+ghost use Rattle.am_classes.specs.Enough.{AreEnough};
+ghost use Rattle.am_classes.specs.State.{FollowsLabel, named_texts, patterns_of};
 ghost use Rattle.am_scan.specs.Automaton.{Grows};
 ghost use Rattle.am_classes.specs.Exploration.{AreListed, LeadsOn, AreLed, byte_at};
 ghost use Rattle.am_classes.specs.Exploration.{HaveLength, HasManyLabelStates};
@@ -36,6 +37,8 @@ pub(crate) fn explored(
     questions: &Questions,
     room: usize,
 ) -> Result<Option<CandidateTexts>, AllocError>
+    requires { AreEnough questions.now.alphabet (named_texts questions.now)
+        (patterns_of questions.now) questions.now.bytes }
     ensures distinct { IfOk result (λ found. IfSome found (λ candidates.
         AreApartCandidates questions.now candidates.items.items)) }
     ensures all { IfOk result (λ found. IfSome found (λ candidates.

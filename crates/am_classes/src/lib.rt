@@ -16,6 +16,7 @@ pub use alphabet::Alphabet;
 
 // What the matchers of a label ask about a text.
 mod automata;
+mod enough_bytes;
 mod named_texts;
 mod questions;
 
@@ -28,10 +29,14 @@ mod tail;
 mod exploration;
 mod reached_state;
 
-// Which texts have the same truths.
+// Which texts have the same hits.
+mod finder;
+mod label_tests;
+mod naming;
 mod tested;
 
-pub use tested::{Tested, new_texts, tested_texts};
+pub use label_tests::LabelTests;
+pub use tested::{Tested, new_texts};
 
 // The texts that stand for the classes, one for each.
 mod candidate;

@@ -3,15 +3,16 @@
 //! A pattern such as `db|web` asks whether a text is `db` or `web`, and nothing else. So it has no
 //! automaton: its alternatives are named texts, as the text behind `=` is.
 
-ghost use Rattle.std.specs.Prelude.{◌≡◌, ◌↔◌, ◌∷◌, ◌++◌, [], ℕ, List, Some, IsTrue, IfOk, OnOk};
+ghost use Rattle.std.specs.Prelude.{◌≡◌, ◌↔◌, ◌++◌, ◌∷◌, [], ℕ, List, Some, IsTrue, IfOk, OnOk};
 ghost use Rattle.std.specs.Prelude.{map, slice_get, string_bytes};
 ghost use Rattle.std.specs.List.{filter, flat_map};
 ghost use Rattle.am_classes.specs.Alphabet.{is_over};
-ghost use Rattle.am_classes.specs.Named.{AreEachOnce, names_texts, named_over};
+ghost use Rattle.am_classes.specs.Named.{AreEachOnce, names_texts, named_by, named_over};
 ghost use Rattle.am_classes.specs.Named.{alternatives_of, other_patterns, text_of};
 
 use crate::Alphabet;
 use am_labels::{Comparison, Matcher, is_alternation};
+use indexmap::IndexSet;
 use std::alloc::{AllocError, Global};
 
 /// Returns the texts over an alphabet that matchers name, each once: first those that they compare
@@ -27,10 +28,10 @@ pub(crate) fn named_texts(
     let compared = compared_texts(alloc, matchers)?;
     let mut parts = all_alternatives(alloc, matchers)?;
     parts.sort_by_key(|part| part.len())?;
-    let mut texts = Vec::new(alloc);
-    push_over(alloc, alphabet, compared.as_slice(), &mut texts)?;
-    push_over(alloc, alphabet, parts.as_slice(), &mut texts)?;
-    Ok(texts)
+    let mut texts = IndexSet::new(alloc);
+    add_over(alphabet, compared.as_slice(), &mut texts)?;
+    add_over(alphabet, parts.as_slice(), &mut texts)?;
+    copied(alloc, texts.as_slice())
 }
 
 /// Returns the texts that matchers compare with.
@@ -59,21 +60,88 @@ fn all_alternatives<'m>(alloc: Global, matchers: &[&'m Matcher]) -> Result<Vec<&
     Ok(parts)
 }
 
-/// Returns the patterns of matchers that name no texts, each once.
-pub(crate) fn other_patterns(
-    alloc: Global,
-    matchers: &[&Matcher],
-) -> Result<Vec<String>, AllocError>
-    ensures { IfOk result (λ patterns. AreEachOnce (other_patterns (map (λ m. m.now) matchers.now))
-        (map string_bytes patterns.items)) }
+/// Adds those of some texts that are over an alphabet.
+fn add_over<'m>(
+    alphabet: Alphabet,
+    named: &[&'m str],
+    texts: &mut IndexSet<&'m str>,
+) -> Result<(), AllocError>
+    ensures { OnOk result ((wanted : List (List ℕ))
+        → AreEachOnce wanted (map (λ t. t.now) texts.old.keys)
+        → AreEachOnce (wanted ++ filter (is_over alphabet) (map (λ t. t.now) named.now))
+        (map (λ t. t.now) texts.new.keys)) }
 {
-    let mut patterns = Vec::new(alloc);
+    for text in named {
+        if alphabet.has(text) {
+            add(texts, text)?;
+        }
+    }
+    Ok(())
+}
+
+/// Adds a text, unless it is there already.
+fn add<'m>(texts: &mut IndexSet<&'m str>, text: &'m str) -> Result<(), AllocError>
+    ensures { OnOk result ((wanted : List (List ℕ))
+        → AreEachOnce wanted (map (λ t. t.now) texts.old.keys)
+        → AreEachOnce (wanted ++ text.now ∷ []) (map (λ t. t.now) texts.new.keys)) }
+{
+    texts.insert(text)?;
+    Ok(())
+}
+
+/// Returns copies of texts, in their order.
+fn copied(alloc: Global, texts: &[&str]) -> Result<Vec<String>, AllocError>
+    ensures { IfOk result (λ copies. map string_bytes copies.items ≡ map (λ t. t.now) texts.now) }
+{
+    let mut copies = Vec::with_capacity(alloc, texts.len())?;
+    for text in texts {
+        copies.push(String::from_str(alloc, text)?)?;
+    }
+    Ok(copies)
+}
+
+/// Returns the matchers that name texts.
+pub(crate) fn naming_matchers<'m>(
+    alloc: Global,
+    matchers: &[&'m Matcher],
+) -> Result<Vec<&'m Matcher>, AllocError>
+    ensures { IfOk result (λ naming. map (λ m. m.now) naming.items
+        ≡ filter names_texts (map (λ m. m.now) matchers.now)) }
+{
+    let mut naming = Vec::new(alloc);
+    for matcher in matchers {
+        if names_texts(matcher) {
+            naming.push(*matcher)?;
+        }
+    }
+    Ok(naming)
+}
+
+/// Returns the patterns of matchers that name no texts, each once.
+pub(crate) fn other_patterns<'m>(
+    alloc: Global,
+    matchers: &[&'m Matcher],
+) -> Result<IndexSet<&'m str>, AllocError>
+    ensures { IfOk result (λ patterns. AreEachOnce (other_patterns (map (λ m. m.now) matchers.now))
+        (map (λ t. t.now) patterns.keys)) }
+{
+    let mut patterns = IndexSet::new(alloc);
     for matcher in matchers {
         if !names_texts(matcher) {
-            push_new(alloc, matcher.value(), &mut patterns)?;
+            add(&mut patterns, matcher.value())?;
         }
     }
     Ok(patterns)
+}
+
+/// Returns the texts that a matcher names.
+pub(crate) fn named_by<'m>(alloc: Global, matcher: &'m Matcher) -> Result<Vec<&'m str>, AllocError>
+    ensures { IfOk result (λ texts. map (λ text. text.now) texts.items ≡ named_by matcher.now) }
+{
+    match matcher.op().comparison() {
+        Comparison::Text => Ok(vec![in alloc; matcher.value()]?),
+        Comparison::Pattern => alternatives_of(alloc, matcher),
+    }
 }
 
 /// Returns the alternatives of the pattern of a matcher, if they are plain texts.
@@ -89,45 +157,13 @@ fn alternatives_of<'m>(alloc: Global, matcher: &'m Matcher) -> Result<Vec<&'m st
 }
 
 /// Whether a matcher names texts: it compares with one, or its pattern is an alternation of such.
-fn names_texts(matcher: &Matcher) -> bool
+pub(crate) fn names_texts(matcher: &Matcher) -> bool
     ensures { result ≡ names_texts matcher.now }
 {
     match matcher.op().comparison() {
         Comparison::Text => true,
         Comparison::Pattern => is_alternation(matcher.value()),
     }
-}
-
-/// Adds those of some texts that are over an alphabet and not there yet.
-fn push_over(
-    alloc: Global,
-    alphabet: Alphabet,
-    named: &[&str],
-    texts: &mut Vec<String>,
-) -> Result<(), AllocError>
-    ensures { OnOk result ((wanted : List (List ℕ))
-        → AreEachOnce wanted (map string_bytes texts.old.items)
-        → AreEachOnce (wanted ++ filter (is_over alphabet) (map (λ text. text.now) named.now))
-        (map string_bytes texts.new.items)) }
-{
-    for text in named {
-        if alphabet.has(text) {
-            push_new(alloc, text, texts)?;
-        }
-    }
-    Ok(())
-}
-
-/// Adds a text, unless it is there already.
-fn push_new(alloc: Global, text: &str, texts: &mut Vec<String>) -> Result<(), AllocError>
-    ensures { OnOk result ((wanted : List (List ℕ))
-        → AreEachOnce wanted (map string_bytes texts.old.items)
-        → AreEachOnce (wanted ++ text.now ∷ []) (map string_bytes texts.new.items)) }
-{
-    if !is_among(texts.as_slice(), text.as_bytes()) {
-        texts.push(String::from_str(alloc, text)?)?;
-    }
-    Ok(())
 }
 
 /// Whether a text is one of these.

@@ -1,20 +1,22 @@
-ghost use Rattle.std.specs.Prelude.{◌≡◌, ◌↔◌, ◌∷◌, [], ℕ, List, Some, true, IsTrue, map};
+ghost use Rattle.std.specs.Prelude.{◌≡◌, ◌↔◌, ◌∷◌, [], ℕ, List, Some, true, IsTrue, map, slice_get};
 ghost use Rattle.std.specs.Prelude.{None, IfOk, IfSome, IfNone, length};
 ghost use Rattle.std.specs.Str.{IsUtf8};
 ghost use Rattle.am_classes.specs.declared.label_state.LabelState.{LabelState};
 ghost use Rattle.am_classes.specs.Utf8.{text_step};
-ghost use Rattle.am_classes.specs.Automata.{AreClasses, MakeSame, MayLackAutomaton, fits, found_by};
-ghost use Rattle.std.specs.List.{list_all};
-ghost use Rattle.am_classes.specs.Named.{other_patterns};
+ghost use Rattle.am_scan.specs.Automaton.{scanned_bytes};
+ghost use Rattle.am_scan.specs.Sight.{is_scanned};
+ghost use Rattle.am_scan.specs.declared.pattern_automaton.PatternAutomaton.{PatternAutomaton};
+ghost use Rattle.am_classes.specs.Alphabet.{has_byte};
+ghost use Rattle.am_classes.specs.Automata.{AreClasses, AreFor, MakeSame, found_by};
+ghost use Rattle.am_classes.specs.Enough.{AreOf};
 
 use crate::Alphabet;
-use crate::automata::{automata_of, byte_classes, end_numbers, found_patterns, next_numbers};
+use crate::automata::{byte_classes, end_numbers, found_patterns, next_numbers};
 use crate::fronts::{all_fronts, any_ends_with, fronts_before, has_nothing};
 use crate::label_state::LabelState;
-use crate::named_texts::{is_among, named_texts, other_patterns};
+use crate::named_texts::is_among;
 use crate::tail::Tail;
-use am_labels::Matcher;
-use am_scan::PatternAutomaton;
+use am_scan::{ByteSet, PatternAutomaton};
 use std::alloc::{AllocError, Global};
 
 /// What the matchers of a label ask about a text: whether it is one of the texts that they name,
@@ -23,45 +25,43 @@ use std::alloc::{AllocError, Global};
 pub(crate) struct Questions {
     /// Which texts they are asked about.
     pub(crate) alphabet: Alphabet,
+    /// The bytes that are tried.
+    pub(crate) bytes: ByteSet,
     pub(crate) texts: Vec<String>,
     pub(crate) automata: Vec<PatternAutomaton>,
     /// For each byte, the first byte that every pattern treats like it.
-    classes: Vec<u8>,
-    ghost fit: { list_all (fits alphabet) automata.items ≡ true },
-    ghost alike: { AreClasses automata.items classes.items },
+    classes: [u8; 256],
+    ghost own: { AreOf alphabet bytes },
+    ghost fit: { AreFor bytes automata.items },
+    ghost alike: { AreClasses automata.items classes },
 }
 
 impl Questions {
     ghost use Rattle.am_classes.specs.State.{FollowsLabel, IsNamed, named_texts};
-    ghost use Rattle.am_classes.specs.Asked.{AreAsked};
 
-    /// Finds what matchers ask about texts over an alphabet. Returns `None` if a pattern has no
-    /// automaton.
-    #[tactic(auto, using(crate::proofs::AskedLemmas::all_known, crate::proofs::LimitLemmas::lacking_wanted))]
+    /// Asks about texts over an alphabet that have only certain bytes, by named texts and by
+    /// automata. No text and no pattern may be given twice.
     pub(crate) fn of(
-        alloc: Global,
         alphabet: Alphabet,
-        matchers: &[&Matcher],
-    ) -> Result<Option<Questions>, AllocError>
-        ensures alphabet { IfOk result (λ found. IfSome found (λ questions.
-            questions.alphabet ≡ alphabet)) }
-        ensures some { IfOk result (λ found. IfSome found (λ questions.
-            AreAsked (map (λ m. m.now) matchers.now) questions)) }
-        ensures none { IfOk result (λ found. IfNone found
-            (MayLackAutomaton (other_patterns (map (λ m. m.now) matchers.now)))) }
+        bytes: ByteSet,
+        texts: Vec<String>,
+        automata: Vec<PatternAutomaton>,
+    ) -> Questions
+        requires own { AreOf alphabet bytes }
+        requires fit { AreFor bytes automata.items }
+        ensures alphabet { result.alphabet ≡ alphabet }
+        ensures bytes { result.bytes ≡ bytes }
+        ensures texts { result.texts ≡ texts }
+        ensures automata { result.automata ≡ automata }
     {
-        let texts = named_texts(alloc, alphabet, matchers)?;
-        let patterns = other_patterns(alloc, matchers)?;
-        let Some(automata) = automata_of(alloc, alphabet, patterns.as_slice())? else {
-            return Ok(None);
-        };
-        let classes = byte_classes(alloc, automata.as_slice())?;
-        Ok(Some(Questions {
+        let classes = byte_classes(automata.as_slice());
+        Questions {
             alphabet,
+            bytes,
             texts,
             automata,
             classes,
-        }))
+        }
     }
 
     /// Whether a text is a named text.
@@ -92,7 +92,7 @@ impl Questions {
     }
 
     /// Returns the state of a text with one more byte before it, from the state of the text.
-    /// Returns `None` if the alphabet has no such text.
+    /// Returns `None` if no text that is tried has such an end.
     pub(crate) fn step<'q>(
         &self,
         alloc: Global,
@@ -103,9 +103,9 @@ impl Questions {
         ensures some { IfOk result (λ found. IfSome found (λ next. (text : List ℕ)
             → FollowsLabel self.now state.now text → FollowsLabel self.now next (byte ∷ text))) }
         ensures none { IfOk result (λ found. IfNone found
-            (text_step self.now.alphabet state.now.tail byte ≡ None)) }
+            (text_step (is_scanned self.now.bytes) state.now.tail byte ≡ None)) }
     {
-        let Some(tail) = state.tail.step(self.alphabet, byte) else {
+        let Some(tail) = state.tail.step(&self.bytes, byte) else {
             return Ok(None);
         };
         let automata = self.automata.as_slice();
@@ -120,38 +120,35 @@ impl Questions {
     pub(crate) fn class_of(&self, byte: u8) -> u8
         ensures { MakeSame self.now.automata.items result byte }
     {
-        match self.classes.get(usize::from(byte)) {
-            Some(class) => *class,
-            None => byte,
-        }
+        self.classes[usize::from(byte)]
     }
 
     /// Whether two bytes lead from a state to the same state, if every pattern treats both alike:
     /// no named text goes on with either. Only `true` promises something.
     pub(crate) fn lead_alike(&self, state: &LabelState<'_>, one: u8, other: u8) -> bool
-        ensures tails { IsTrue result → text_step self.now.alphabet state.now.tail one
-            ≡ text_step self.now.alphabet state.now.tail other }
+        ensures tails { IsTrue result → text_step (is_scanned self.now.bytes) state.now.tail one
+            ≡ text_step (is_scanned self.now.bytes) state.now.tail other }
         ensures follows { IsTrue result → MakeSame self.now.automata.items one other
             → (text : List ℕ) (next : LabelState) → FollowsLabel self.now state.now text
             → FollowsLabel self.now next (one ∷ text)
             → FollowsLabel self.now next (other ∷ text) }
     {
         let fronts = state.fronts.as_slice();
-        state.tail.step(self.alphabet, one) == state.tail.step(self.alphabet, other)
+        state.tail.step(&self.bytes, one) == state.tail.step(&self.bytes, other)
             && !any_ends_with(fronts, one)
             && !any_ends_with(fronts, other)
     }
 
-    /// Returns which patterns find the texts that a state follows.
+    /// Returns the places of the patterns that find the texts that a state follows.
     pub(crate) fn found(
         &self,
         alloc: Global,
         state: &LabelState<'_>,
-    ) -> Result<Vec<bool>, AllocError>
+    ) -> Result<Vec<usize>, AllocError>
         requires { length state.now.numbers.items ≡ length self.now.automata.items }
-        ensures { IfOk result (λ answers. (text : List ℕ)
+        ensures { IfOk result (λ found. (text : List ℕ)
             → FollowsLabel self.now state.now text → IsUtf8 text
-            → answers.items ≡ found_by self.now.automata.items text) }
+            → found.items ≡ found_by self.now.automata.items text) }
     {
         found_patterns(alloc, self.automata.as_slice(), state.numbers.as_slice())
     }

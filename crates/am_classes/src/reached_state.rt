@@ -15,6 +15,7 @@ pub(crate) struct ReachedState<'q> {
 
 impl<'q> ReachedState<'q> {
     ghost use Rattle.am_classes.specs.State.{FollowsLabel};
+    ghost use Rattle.am_scan.specs.Sight.{is_scanned};
     ghost use Rattle.am_classes.specs.Utf8.{text_step};
 
     /// The empty text with its state.
@@ -32,8 +33,8 @@ impl<'q> ReachedState<'q> {
         })
     }
 
-    /// Returns the text with one more byte before it, and its state. Returns `None` if the alphabet
-    /// has no such text.
+    /// Returns the text with one more byte before it, and its state. Returns `None` if no
+    /// text over the alphabet is tried that ends with it.
     pub(crate) fn longer(
         &self,
         alloc: Global,
@@ -47,7 +48,7 @@ impl<'q> ReachedState<'q> {
             → FollowsLabel questions.now self.now.state text
             → FollowsLabel questions.now longer.state (byte ∷ text))) }
         ensures none { IfOk result (λ found. IfNone found
-            (text_step questions.now.alphabet self.now.state.tail byte ≡ None)) }
+            (text_step (is_scanned questions.now.bytes) self.now.state.tail byte ≡ None)) }
     {
         let Some(state) = questions.step(alloc, &self.state, byte)? else {
             return Ok(None);

@@ -1,77 +1,39 @@
 //! Texts that patterns find. If there are too many classes, these texts may show it soon.
-ghost use Rattle.std.specs.Prelude.{◌≡◌, ◌<◌, ℕ, length, IfOk, IfSome};
-ghost use Rattle.am_classes.specs.State.{FollowsLabel};
-ghost use Rattle.am_classes.specs.Candidates.{AreApartCandidates, AreBelow};
+ghost use Rattle.std.specs.Prelude.{◌<◌, IfOk, IsTrue, length, map, string_bytes};
+ghost use Rattle.std.specs.List.{AllByRecursion};
+ghost use Rattle.am_classes.specs.Alphabet.{is_over};
 ghost use Rattle.am_classes.specs.Samples.{AreNoLonger};
 ghost use Rattle.am_classes.specs.declared.limits.TheConstants.{MAX_SAMPLE_NUMBERS};
 
-use crate::candidate::Candidate;
-use crate::candidates::add;
+use crate::Alphabet;
 use crate::limits::MAX_SAMPLE_NUMBERS;
-use crate::questions::Questions;
-use crate::reached_state::ReachedState;
 use am_scan::PatternAutomaton;
 use std::alloc::{AllocError, Global};
+use std::collections::HashSet;
+use std::str::from_utf8;
 
-/// Returns candidates from texts that the patterns find, one text for each pattern, until there are
-/// more than there is room for.
-pub(crate) fn sampled(
+/// Returns short texts over an alphabet, one for each pattern. Most are texts that their patterns
+/// find.
+pub(crate) fn samples(
     alloc: Global,
-    questions: &Questions,
-    room: usize,
-) -> Result<Vec<Candidate>, AllocError>
-    ensures distinct { IfOk result (λ candidates.
-        AreApartCandidates questions.now candidates.items) }
-    ensures short { IfOk result (λ candidates. AreBelow MAX_SAMPLE_NUMBERS candidates.items) }
+    alphabet: Alphabet,
+    automata: &[PatternAutomaton],
+) -> Result<Vec<String>, AllocError>
+    ensures { IfOk result (λ texts. AllByRecursion
+        (λ text. IsTrue (is_over alphabet text) × (length text < MAX_SAMPLE_NUMBERS))
+        (map string_bytes texts.items)) }
 {
-    let mut candidates = Vec::new(alloc);
-    for automaton in &questions.automata {
-        let text = sample(alloc, automaton)?;
-        add_text(alloc, questions, text.as_slice(), &mut candidates)?;
-        if candidates.len() > room {
-            return Ok(candidates);
+    let mut texts = Vec::new(alloc);
+    for automaton in automata {
+        let sample = sample(alloc, automaton)?;
+        let Ok(text) = from_utf8(sample.as_slice()) else {
+            continue;
+        };
+        if alphabet.has(text) {
+            texts.push(String::from_str(alloc, text)?)?;
         }
     }
-    Ok(candidates)
-}
-
-/// Adds a text to the candidates, unless the alphabet has no such text, or it is not a candidate.
-fn add_text(
-    alloc: Global,
-    questions: &Questions,
-    text: &[u8],
-    candidates: &mut Vec<Candidate>,
-) -> Result<(), AllocError>
-    requires { AreApartCandidates questions.now candidates.old.items }
-    ensures distinct { AreApartCandidates questions.now candidates.new.items }
-    ensures short { (n : ℕ) → length text.now < n → AreBelow n candidates.old.items
-        → AreBelow n candidates.new.items }
-{
-    let Some(item) = item_of(alloc, questions, text)? else {
-        return Ok(());
-    };
-    add(alloc, questions, &item, candidates)
-}
-
-/// Returns a text with its state, or `None` if the alphabet has no such text.
-fn item_of<'q>(
-    alloc: Global,
-    questions: &'q Questions,
-    text: &[u8],
-) -> Result<Option<ReachedState<'q>>, AllocError>
-    ensures follows { IfOk result (λ found. IfSome found (λ item.
-        FollowsLabel questions.now item.state item.text.items)) }
-    ensures length { IfOk result (λ found. IfSome found (λ item.
-        length item.text.items ≡ length text.now)) }
-{
-    let mut item = ReachedState::end(alloc, questions)?;
-    for i in (0..text.len()).rev() {
-        let Some(longer) = item.longer(alloc, questions, text[i])? else {
-            return Ok(None);
-        };
-        item = longer;
-    }
-    Ok(Some(item))
+    Ok(texts)
 }
 
 /// A number of an automaton, and a text that leads to it.
@@ -86,12 +48,11 @@ struct Reached {
 fn sample(alloc: Global, automaton: &PatternAutomaton) -> Result<Vec<u8>, AllocError>
     ensures { IfOk result (λ text. length text.items < MAX_SAMPLE_NUMBERS) }
 {
-    let mut reached = vec![in alloc;
-        Reached {
-            number: automaton.end(),
-            text: Vec::new(alloc),
-        },
-    ]?;
+    let number = automaton.end();
+    let text = Vec::new(alloc);
+    let mut reached = vec![in alloc; Reached { number, text }]?;
+    let mut numbers = HashSet::new(alloc);
+    numbers.insert(number)?;
     for at in 0..MAX_SAMPLE_NUMBERS {
         if at >= reached.len() {
             return Ok(Vec::new(alloc));
@@ -99,7 +60,7 @@ fn sample(alloc: Global, automaton: &PatternAutomaton) -> Result<Vec<u8>, AllocE
         if automaton.finds(reached[at].number) {
             return reached[at].text.clone();
         }
-        reach_more(alloc, automaton, &mut reached, at)?;
+        reach_more(alloc, automaton, &mut numbers, &mut reached, at)?;
     }
     Ok(Vec::new(alloc))
 }
@@ -108,6 +69,7 @@ fn sample(alloc: Global, automaton: &PatternAutomaton) -> Result<Vec<u8>, AllocE
 fn reach_more(
     alloc: Global,
     automaton: &PatternAutomaton,
+    numbers: &mut HashSet<u32>,
     reached: &mut Vec<Reached>,
     at: usize,
 ) -> Result<(), AllocError>
@@ -119,7 +81,7 @@ fn reach_more(
             return Ok(());
         };
         let number = automaton.step(from.number, byte);
-        if reached.iter().any(|other| other.number == number) {
+        if !numbers.insert(number)? {
             continue;
         }
         let mut text = vec![in alloc; byte]?;

@@ -1,7 +1,8 @@
 ghost use Rattle.std.specs.Prelude.{◌≡◌};
+ghost use Rattle.am_scan.specs.Sight.{is_scanned};
 ghost use Rattle.am_classes.specs.Utf8.{text_step, tail_step, is_whole};
 
-use crate::Alphabet;
+use am_scan::ByteSet;
 
 /// How the end of a text in UTF-8 begins: how many bytes at its front belong to a character that
 /// begins before them, and which bytes the first of these allows before it.
@@ -26,12 +27,12 @@ impl Tail {
         matches!(self, Tail::Whole)
     }
 
-    /// Returns the tail with one more byte before it, or `None` if no text over the alphabet has
-    /// such a byte there.
-    pub(crate) fn step(self, alphabet: Alphabet, byte: u8) -> Option<Tail>
-        ensures { result ≡ text_step alphabet self byte }
+    /// Returns the tail with one more byte before it, or `None` if no text that has only certain
+    /// bytes has such a byte there.
+    pub(crate) fn step(self, bytes: &ByteSet, byte: u8) -> Option<Tail>
+        ensures { result ≡ text_step (is_scanned bytes.now) self byte }
     {
-        if alphabet.has_byte(byte) {
+        if bytes.has(byte) {
             self.utf8_step(byte)
         } else {
             None

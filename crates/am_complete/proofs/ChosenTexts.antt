@@ -3,10 +3,9 @@
 use Rattle.std.proofs.Common.{◌≡◌, ◌<◌, ℕ, Bool, true, false, List}
 use Rattle.std.proofs.Common.{option_map, string_bytes, get_or, Some}
 use Rattle.std.proofs.Common.{refl, sym, ap, ◌∙◌, subst, inl, inr, arith}
-use Rattle.std.specs.Prelude.{slice_get, IsPermutation}
+use Rattle.std.specs.Prelude.{slice_get, IsPermutation, nat_eq}
 use Rattle.std.specs.List.{IsDistinct}
 use Rattle.std.specs.Cmp.Lexicographic.{pointwise}
-use mathlib.Core.Bool.{beq}
 use Rattle.std.proofs.lemmas.Bool.{both_ways, cases_Bool, cases_lt}
 use Rattle.std.proofs.lemmas.List.Sorted.{Contains-permutation, IsPermutation-sym}
 use Rattle.std.proofs.lemmas.Map.Keys.{IsDistinct-IsPermutation, IsDistinct-from_apart}
@@ -24,7 +23,7 @@ use Rattle.am_classes.specs.Alphabet.{IsOver, AreOver}
 use Rattle.am_classes.specs.Alike.{AreAlike, AreApart}
 use Rattle.am_complete.specs.Covering.{AreClasses}
 use Rattle.am_classes.specs.declared.tested.Tested.{Tested}
-use Rattle.am_classes.specs.Truths.{alike, truths, texts_of, AreTested}
+use Rattle.am_classes.specs.Truths.{alike, hits, texts_of, AreTested}
 use Rattle.am_complete.specs.Chosen.{IsChosen, AreChosenEach}
 use Rattle.am_classes.proofs.AlikeLemmas.{alike_itself, alike_turned, alike_joined}
 use Rattle.am_classes.proofs.AlikeLemmas.{alike_is, is_alike}
@@ -34,15 +33,15 @@ use Rattle.am_complete.proofs.Pushed.{zip_left, zip_right}
 
 -- a chosen text is alike to the wanted one
 chosen_alike : (ms : List Matcher) (usual : List Tested) (w : Tested) (x : List ℕ)
-    → AreTested ms usual → w.truths.items ≡ truths ms (string_bytes w.text) → IsChosen usual w x
+    → AreTested ms usual → w.hits.items ≡ hits ms (string_bytes w.text) → IsChosen usual w x
     → AreAlike ms x (string_bytes w.text)
 chosen_alike ms usual w x tested here (inl same) =
     subst (λ v. AreAlike ms v (string_bytes w.text)) (sym same)
     (alike_itself ms (string_bytes w.text))
 chosen_alike ms usual w x tested here (inr r) =
     let at = AllByRecursion-at _ usual r.0 tested (IsIn-from_Contains usual r.0 r.1) in
-    let test : pointwise beq r.0.truths.items w.truths.items
-    ≡ alike ms (string_bytes r.0.text) (string_bytes w.text) = λ i. pointwise beq (at i) (here i) in
+    let test : pointwise nat_eq r.0.hits.items w.hits.items
+    ≡ alike ms (string_bytes r.0.text) (string_bytes w.text) = λ i. pointwise nat_eq (at i) (here i) in
     subst (λ v. AreAlike ms v (string_bytes w.text)) (sym r.2)
     (is_alike ms (string_bytes r.0.text) (string_bytes w.text) (sym test ∙ r.3))
 

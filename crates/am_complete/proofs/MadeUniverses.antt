@@ -36,7 +36,7 @@ use Rattle.am_complete.specs.Missing.{MissingTexts, IsMissingAt, AreMissing, tex
 use Rattle.am_complete.specs.Missing.{missing_for, IsWhole, has_some, is_to_declare, needs_label}
 use Rattle.am_complete.specs.Missing.{is_covered, names_to_declare, open_positions, opens_from}
 use Rattle.am_complete.proofs.AskedLabels.{on_name}
-use Rattle.am_complete.proofs.SameMatchers.{cover_among, same_needed}
+use Rattle.am_complete.proofs.SameMatchers.{cover_among, needed_among}
 use Rattle.am_complete.proofs.CompleteUniverses.{space_complete_where_asked}
 use Rattle.am_complete.proofs.LabelTexts.{has_name, finds_in, found_in, declared_texts}
 use Rattle.am_complete.proofs.LabelTexts.{unnamed_texts}
@@ -172,7 +172,7 @@ module _ (a : Alphabet) (allowed : AllowedNames) (s : Space) where
           let r = by_name asked missing name m zip e in
           let same = on_name asked ms r.0 asks r.1 (λ empty. some (sym r.2 ∙ empty)) in
           subst (λ n. AreNeeded a s n (about n ms) m.texts) r.2
-          (same_needed a s r.0.name r.0.matchers (about r.0.name ms) m.texts same r.3.needed)
+          (needed_among a s r.0.name r.0.matchers (about r.0.name ms) m.texts same.there r.3.needed)
 
   pub adds : (asked : List AskedLabel) (missing : List MissingTexts) (v : List Label)
       (ms : List Matcher) → AreMissing a allowed s asked missing → IsUniverse v

@@ -14,7 +14,7 @@ use Rattle.am_labels.proofs.Passing.{passes_from_kept, kept_from_passes}
 use Rattle.am_classes.specs.declared.alphabet.Alphabet.{Alphabet}
 use Rattle.am_classes.specs.Alike.{HasAlikeIn}
 use Rattle.am_classes.specs.Limits.{MayBePastLimits}
-use Rattle.am_complete.specs.Complete.{label_texts, may_have}
+use Rattle.am_complete.specs.Complete.{AreAmong, label_texts, may_have}
 use Rattle.am_complete.specs.AskedLabel.{AskedLabel}
 use Rattle.am_complete.specs.Covering.{AreClasses, ArePossible, AreNeeded, CoverPossible}
 use Rattle.am_complete.specs.Covering.{standing_texts}
@@ -29,6 +29,7 @@ use Rattle.am_complete.proofs.ApartTexts.{one_apart}
 use Rattle.am_complete.proofs.LabelStates.{covered}
 use Rattle.am_complete.proofs.LabelTexts.{has_name}
 use Rattle.am_complete.proofs.PossibleTexts.{are_possible, cover_possible, same_possible}
+use Rattle.am_complete.proofs.SameMatchers.{needed_among}
 use Rattle.am_classes.proofs.TestedTexts.{alike_within}
 
 -- ---- What stands in a space for a label.
@@ -77,9 +78,11 @@ cover_weaker a s l xs ys within cover text valid possible =
 
 -- ---- What a label lacks, of texts that stand for classes.
 
+-- They are new to some of the matchers, or if they are all, to each matcher.
 module _ (a : Alphabet) (allowed : AllowedNames) (s : Space) (l : AskedLabel) (m : MissingTexts) (found : List (List ℕ))
+    (ns : List Matcher) (among : AreAmong ns l.matchers) (each : IsTrue m.all → ns ≡ l.matchers)
     (lists : HasThoseOfLists s.impossible l) (classes : AreClasses a l.matchers found m.all)
-    (new : AreNewIn l.matchers (standing_texts s l.name)
+    (new : AreNewIn ns (standing_texts s l.name)
     (filter (may_have s.impossible l.name) found) m.texts) where
   abbrev wanted : List (List ℕ)
   wanted = filter (may_have s.impossible l.name) found
@@ -96,7 +99,7 @@ module _ (a : Alphabet) (allowed : AllowedNames) (s : Space) (l : AskedLabel) (m
     name = name;
     some_name = some;
     named = named;
-    needed = record {
+    needed = needed_among a s l.name ns l.matchers m.texts among (record {
       possible = record {
         over = all_from (IsOver a) wanted m.texts possible.over new.from;
         possible = all_from (λ x. IsTrue (may_have s.impossible l.name x)) wanted m.texts
@@ -104,9 +107,10 @@ module _ (a : Alphabet) (allowed : AllowedNames) (s : Space) (l : AskedLabel) (m
         apart = new.apart;
       };
       new = new.new;
-    };
+    });
     cover = λ whole. covered a s.impossible l.name l.matchers (standing_texts s l.name ++ m.texts)
-        wanted (cover whole) new.cover;
+        wanted (cover whole) (subst (λ ms. AllByRecursion (HasAlikeIn ms (standing_texts s l.name ++ m.texts)) wanted)
+        (each whole) new.cover);
     classes = λ whole. (wanted, record { cover = cover whole; possible = possible }, counted);
     limits = limits;
   }

@@ -1,11 +1,12 @@
 -- Texts that a label may have, by the impossible lists that ask about this label alone.
-use Rattle.std.proofs.Common.{◌≡◌, ◌+◌, ◌&&◌, ℕ, Bool, true, false, not, List, [], ◌∷◌, arith}
+use Rattle.std.proofs.Common.{◌≡◌, ◌+◌, ◌++◌, ◌&&◌, ℕ, if◌then◌else◌, Bool, true, false, not, List, [], ◌∷◌, arith}
 use Rattle.std.proofs.Common.{take, get_or, Some, refl, sym, ap, ◌∙◌, inl, inr}
 use Rattle.std.specs.Prelude.{IsTrue, slice_get}
 use Rattle.std.specs.FinMap.{empty}
 use Rattle.std.specs.List.{AllByRecursion, IsDistinct, filter, list_all, list_any}
 use Rattle.std.proofs.lemmas.Bool.{both_ways, false_from_ne_true, cases_Bool, cond_both, and_parts}
 use Rattle.std.proofs.lemmas.Bool.{and_from}
+use Rattle.std.proofs.lemmas.List.Elements.{filter-append}
 use Rattle.std.proofs.lemmas.List.Folds.{list_all_more}
 use Rattle.std.proofs.lemmas.Option.{slice_get_within, get_or_from_slice_get}
 use Rattle.std.proofs.lemmas.Grind.{common_steps}
@@ -41,6 +42,25 @@ taken_by set name text list is alone =
     ap (λ b. b && matches_text text list) alone
     ∙ sym (alone_truth set name list alone
     ∙ ap (λ t. matches_text t list) (ap (λ x. value_of x name) is ∙ value_alone empty name text))
+
+-- the lists about the label alone take it away exactly if one of them matches that label set
+pub taken_among : (set : LabelMap) (name text : List ℕ) (lists : List (List Matcher))
+    → set ≡ with_value empty name text
+    → list_any (takes_away name text) lists ≡ list_any (all_hold set) (filter (asks_only_of name) lists)
+taken_among set name text [] is = refl
+taken_among set name text (list ∷ lists) is =
+    grind (arith, common_steps, cases_Bool, taken_by, taken_among set name text lists)
+
+-- the texts that the label may have, with one text more
+pub kept_more : (impossible lists : List (List Matcher)) (set : LabelMap) (name x : List ℕ)
+    (xs : List (List ℕ)) (matched : Bool) → lists ≡ filter (asks_only_of name) impossible
+    → set ≡ with_value empty name x → matched ≡ list_any (all_hold set) lists
+    → filter (may_have impossible name) (xs ++ x ∷ [])
+    ≡ filter (may_have impossible name) xs ++ (if not matched then x ∷ [] else [])
+kept_more impossible lists set name x xs matched are is answer =
+    filter-append (may_have impossible name) xs (x ∷ [])
+    ∙ ap (λ b. filter (may_have impossible name) xs ++ (if not b then x ∷ [] else []))
+    (taken_among set name x impossible is ∙ ap (list_any (all_hold set)) (sym are) ∙ sym answer)
 
 -- ---- What all of a list pass.
 

@@ -3,7 +3,7 @@
 use Rattle.std.proofs.Common.{◌≡◌, ◌⊎◌, ◌<◌, ◌≤◌, ℕ, zero, suc, Bor, List, [], ◌∷◌, ◌++◌, map, set}
 use Rattle.std.proofs.Common.{Bool, true, false, not, length, string_bytes, Contains, arith}
 use Rattle.std.proofs.Common.{Option, Some, None, refl, sym, ap, ◌∙◌, subst, inl, inr}
-use Rattle.std.specs.Prelude.{slice_get, IsPermutation}
+use Rattle.std.specs.Prelude.{slice_get, IsPermutation, IsTrue}
 use Rattle.std.specs.List.{AllByRecursion, AllZip}
 use Rattle.std.proofs.lemmas.List.Sorted.{Contains-permutation, IsPermutation-sym}
 use Rattle.std.proofs.lemmas.Bool.{and_parts}
@@ -20,7 +20,11 @@ use Rattle.am_labels.specs.Matcher.{Matcher, comparison, takes_pattern}
 use Rattle.am_labels.specs.Space.{Space}
 use Rattle.am_classes.specs.declared.alphabet.Alphabet.{Alphabet}
 use Rattle.am_classes.specs.declared.limits.TheConstants.{MAX_SAMPLE_NUMBERS}
+use Rattle.am_classes.specs.Alike.{AreApart, Covers}
+use Rattle.am_classes.specs.Alphabet.{AreOver}
 use Rattle.am_classes.specs.ClassTexts.{IsClassText, Names, others}
+use Rattle.am_classes.specs.LabelTests.{IsTestsOf}
+use Rattle.am_classes.specs.declared.class_texts.ClassTexts.{ClassTexts}
 use Rattle.am_classes.specs.Named.{text_with, alternatives_with}
 use Rattle.am_complete.specs.Complete.{about, HaveSameMatchers}
 use Rattle.am_complete.specs.AskedLabel.{AskedLabel, IsAskedOf}
@@ -31,8 +35,8 @@ use Rattle.am_complete.specs.Missing.{texts_of_missing, missing_for, open_positi
 use Rattle.am_classes.specs.declared.tested.Tested.{Tested}
 use Rattle.am_classes.specs.Truths.{texts_of}
 use Rattle.am_complete.specs.Chosen.{IsChosen, AreChosenEach}
-use Rattle.am_complete.specs.Representatives.{IsRepresentative, IsUsual, AreRepresentatives}
-use Rattle.am_complete.specs.Representatives.{AddsRepresentatives, GainsOnly}
+use Rattle.am_complete.specs.Representatives.{IsRepresentative, AreRepresentatives}
+use Rattle.am_complete.specs.Representatives.{AddsRepresentatives, AreFoundTexts, GainsOnly}
 use Rattle.am_complete.proofs.AskedLabels.{on_name}
 use Rattle.am_complete.proofs.LabelTexts.{found_in}
 use Rattle.am_complete.proofs.MadeUniverses.{all_elsewhere, all_joined}
@@ -100,20 +104,35 @@ chosen_gained So usual ws xs each all =
         inr (subst So (sym r.2) (AllByRecursion-at So (texts_of usual) (string_bytes r.0.text) all
         (IsIn-map (λ t. string_bytes t.text) usual r.0 (IsIn-from_Contains usual r.0 r.1))))
 
--- The texts of classes, and usual texts, may stand for their classes.
-pub classes_represent : (all : Bool) (a : Alphabet) (alerts : List LabelMap) (name : List ℕ)
-    (ms : List Matcher) (texts chosen : List (List ℕ))
+-- The texts of classes are found texts.
+pub are_found : (a : Alphabet) (alerts : List LabelMap) (l : AskedLabel) (known : ClassTexts)
+    (ms : List Matcher) → ms ≡ l.matchers
+    → (IsTrue known.all → Covers a ms (map string_bytes known.texts.items))
+    → AreOver a (map string_bytes known.texts.items)
+    → AreApart ms (map string_bytes known.texts.items)
     → AllByRecursion (λ text. IsClassText a ms text
-    ⊎ ((all ≡ false) × (length text < MAX_SAMPLE_NUMBERS))) texts
-    → GainsOnly (IsUsual alerts name) texts chosen
-    → AllByRecursion (IsRepresentative (not all) a alerts name ms) chosen
-classes_represent all a alerts name ms texts chosen tied gains =
-    all_gained (IsRepresentative (not all) a alerts name ms) (IsUsual alerts name) texts chosen
-    (AllByRecursion-each _ texts (λ x i. elim (AllByRecursion-at _ texts x tied i) [
-      | inl class ↦ inl class
-      | inr short ↦ inr (inr (ap not short.0, inl short.1))
-    ]))
-    (λ x usual. inr (inl usual)) gains
+    ⊎ ((known.all ≡ false) × (length text < MAX_SAMPLE_NUMBERS))) (map string_bytes known.texts.items)
+    → ((ns : List Matcher) × IsTestsOf ns known.tests × AllByRecursion (Contains ms) ns
+    × (IsTrue known.all → ns ≡ ms)) → AreFoundTexts a alerts l known
+are_found a alerts l known ms is covers over apart tied tests =
+    let texts = map string_bytes known.texts.items in
+    record {
+      classes = record {
+        covers = λ whole. subst (λ ns. Covers a ns texts) is (covers whole);
+        apart = subst (λ ns. AreApart ns texts) is apart;
+        over = over;
+      };
+      represent = AllByRecursion-each _ texts (λ x i. elim (AllByRecursion-at _ texts x tied i) [
+        | inl class ↦ inl (subst (λ ns. IsClassText a ns x) is class)
+        | inr short ↦ inr (inr (ap not short.0, inl short.1))
+      ]);
+      tests = (
+        tests.0,
+        tests.1,
+        subst (λ ns. AllByRecursion (Contains ns) tests.0) is tests.2,
+        λ whole. tests.3 whole ∙ is,
+      );
+    }
 
 -- A text that stands for its class does so to the same matchers, and if more may be tried.
 has_there : (ns ms : List Matcher) (m : Matcher) → HaveSameMatchers ns ms → Contains ns m

@@ -91,14 +91,14 @@ same_classes a impossible name ns ms n same h = (
   h.2,
 )
 
-pub same_needed : (a : Alphabet) (s : Space) (name : List ℕ) (ns ms : List Matcher)
-    (texts : List (List ℕ)) → HaveSameMatchers ns ms → AreNeeded a s name ns texts
+pub needed_among : (a : Alphabet) (s : Space) (name : List ℕ) (ns ms : List Matcher)
+    (texts : List (List ℕ)) → AreAmong ns ms → AreNeeded a s name ns texts
     → AreNeeded a s name ms texts
-same_needed a s name ns ms texts same h =
+needed_among a s name ns ms texts among h =
     let standing = standing_texts s name in
     record {
-      possible = possible_among a s.impossible name ns ms texts same.there h.possible;
+      possible = possible_among a s.impossible name ns ms texts among h.possible;
       new = AllByRecursion-each (λ text. HasAlikeIn ms standing text → ⊥) texts (λ text i alike.
           AllByRecursion-at (λ text. HasAlikeIn ns standing text → ⊥) texts text h.new i
-          (has_alike_among ns ms standing text same.there alike));
+          (has_alike_among ns ms standing text among alike));
     }

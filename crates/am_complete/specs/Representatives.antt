@@ -1,7 +1,7 @@
 -- Which texts a universe that is made adds to a label. Each stands for a class of texts that the
 -- matchers on the label cannot tell apart.
 use Rattle.std.specs.Prelude.{◌≡◌, ◌⊎◌, ◌<◌, ◌≤◌, ℕ, List, Some, Contains, Bool, true, not, length}
-use Rattle.std.specs.Prelude.{codes, IsTrue}
+use Rattle.std.specs.Prelude.{codes, IsTrue, map, string_bytes}
 use Rattle.std.specs.List.{AllByRecursion}
 use Rattle.am_universe.specs.LabelSet.{LabelMap, value_of}
 use Rattle.am_universe.specs.Universe.{Label}
@@ -9,10 +9,12 @@ use Rattle.am_labels.specs.Matcher.{Matcher, takes_pattern}
 use Rattle.am_labels.specs.Space.{Space}
 use Rattle.am_classes.specs.declared.alphabet.Alphabet.{Alphabet}
 use Rattle.am_classes.specs.declared.limits.TheConstants.{MAX_SAMPLE_NUMBERS}
+use Rattle.am_classes.specs.declared.class_texts.ClassTexts.{ClassTexts}
 use Rattle.am_classes.specs.ClassTexts.{IsClassText}
+use Rattle.am_classes.specs.LabelTests.{IsTestsOf}
 use Rattle.am_complete.specs.AskedLabel.{AskedLabel}
-use Rattle.am_complete.specs.Complete.{about, texts_of_label}
-use Rattle.am_complete.specs.Covering.{standing_texts}
+use Rattle.am_complete.specs.Complete.{about, texts_of_label, AreAmong}
+use Rattle.am_complete.specs.Covering.{AreClasses, standing_texts}
 use Rattle.am_complete.specs.Missing.{MissingTexts}
 
 -- A usual text of a label: one that an alert has for it, or `other`.
@@ -43,6 +45,18 @@ abbrev pub IsRepresentative :
     Bool → Alphabet → List LabelMap → List ℕ → List Matcher → List ℕ → Type 0
 IsRepresentative may_lack a alerts name ms text =
     IsClassText a ms text ⊎ (IsUsual alerts name text ⊎ ((may_lack ≡ true) × IsTried ms text))
+
+-- Texts that were found for a label stand for its classes, or for some of them. They come with
+-- tests of its matchers, or if the texts are not all, perhaps of only some of these.
+-- Source: own choice.
+-- Example: for `team="db"` alone, `db` and the empty text may be found, with tests of this matcher.
+pub record AreFoundTexts (a : Alphabet) (alerts : List LabelMap) (l : AskedLabel)
+    (found : ClassTexts) : Type 0 where
+  pub classes : AreClasses a l.matchers (map string_bytes found.texts.items) found.all
+  pub represent : AllByRecursion (IsRepresentative (not found.all) a alerts l.name l.matchers)
+      (map string_bytes found.texts.items)
+  pub tests : (ms : List Matcher) × IsTestsOf ms found.tests × AreAmong ms l.matchers
+      × (IsTrue found.all → ms ≡ l.matchers)
 
 -- Each text of each label of a universe stands for the label in a space, or is one that may stand
 -- for its class.

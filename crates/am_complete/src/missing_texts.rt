@@ -1,14 +1,17 @@
 //! The texts that a label lacks in a space, and what that says about the label.
 
-ghost use Rattle.std.specs.Prelude.{◌≡◌, ◌≢◌, [], IfOk, map, string_bytes, false, not};
-ghost use Rattle.std.specs.List.{AllByRecursion};
+ghost use Rattle.std.specs.Prelude.{◌≡◌, ◌≢◌, List, [], IfOk, IfSome, IfNone, map, string_bytes};
+ghost use Rattle.std.specs.Prelude.{false};
 ghost use Rattle.std.specs.Option.{option_map_or};
+ghost use Rattle.am_universe.specs.LabelSet.{LabelMap};
+ghost use Rattle.am_labels.specs.Matcher.{Matcher};
+ghost use Rattle.am_classes.specs.LabelTests.{IsTestsOf};
 ghost use Rattle.am_classes.specs.Limits.{MayBePastLimits};
 ghost use Rattle.am_classes.specs.Truths.{AreNewIn};
-ghost use Rattle.am_complete.specs.Covering.{AreClasses, standing_texts};
+ghost use Rattle.am_complete.specs.Covering.{standing_texts};
 ghost use Rattle.am_complete.specs.FoundState.{HasThoseOfLists, IsFoundAt};
 ghost use Rattle.am_complete.specs.Missing.{IsMissingAt, needs_label, is_covered};
-ghost use Rattle.am_complete.specs.Representatives.{IsRepresentative, AreRepresentatives};
+ghost use Rattle.am_complete.specs.Representatives.{AreFoundTexts, AreRepresentatives};
 
 use crate::allowed_names::may_declare;
 use crate::found_texts::found_texts;
@@ -16,7 +19,7 @@ use crate::label_texts::standing_texts;
 use crate::possible_texts::possible_texts;
 use crate::representatives::representatives;
 use crate::{AllowedNames, AskedLabel, Completeness};
-use am_classes::{Alphabet, ClassTexts, classes, new_texts, tested_texts};
+use am_classes::{Alphabet, ClassTexts, LabelTests, classes, new_texts};
 use am_labels::Space;
 use am_list_files::Alerts;
 use am_universe::limits::MAX_VALUES;
@@ -93,7 +96,10 @@ pub(crate) fn completeness_at(
     requires { label.now.name ≢ [] → HasThoseOfLists space.now.impossible label.now }
     ensures { IfOk result (IsFoundAt alphabet space.now label.now) }
 {
-    let missing = missing_at(alloc, alphabet, AllowedNames::OfFiles, space, label, alerts)?;
+    let Some(found) = known_texts(alloc, alphabet, label, alerts)? else {
+        return Ok(Completeness::Unproved(label.first()));
+    };
+    let missing = missing_of(alloc, alphabet, AllowedNames::OfFiles, space, label, found)?;
     let (named, all) = (missing.named, missing.all);
     if !all && (!named || missing.count <= MAX_VALUES) {
         return Ok(Completeness::Unproved(label.first()));
@@ -122,60 +128,83 @@ pub(crate) fn missing_at<'m>(
     ensures representatives { IfOk result
         (AreRepresentatives alphabet (option_map_or (λ a. a.now) alerts.entry []) label.now) }
 {
+    let Some(known) = known_texts(alloc, alphabet, label, alerts)? else {
+        let found = found_texts(alloc, alphabet, label, alerts)?;
+        return missing_of(alloc, alphabet, allowed, space, label, found);
+    };
+    missing_of(alloc, alphabet, allowed, space, label, known)
+}
+
+/// Returns one text for each class of a label's texts, as a reader would choose them, or more texts
+/// than a label may have values, no two of which are alike. Returns `None` if the classes cannot be
+/// computed.
+fn known_texts<'m>(
+    alloc: Global,
+    alphabet: Alphabet,
+    label: &AskedLabel<'m>,
+    alerts: Option<&Alerts>,
+) -> Result<Option<ClassTexts<'m>>, AllocError>
+    ensures some { IfOk result (λ found. IfSome found (λ known. AreFoundTexts alphabet
+        (option_map_or (λ a. a.now) alerts.entry []) label.now known
+        × (known.all ≡ false → MayBePastLimits alphabet label.now.matchers))) }
+    ensures none { IfOk result (λ found. IfNone found
+        (MayBePastLimits alphabet label.now.matchers)) }
+{
+    let Some(known) = classes(alloc, alphabet, label.matchers())? else {
+        return Ok(None);
+    };
+    if !known.all {
+        return Ok(Some(known));
+    }
+    let ClassTexts { texts, all, tests } = known;
+    let texts = representatives(alloc, alphabet, label, alerts, &tests, texts)?;
+    Ok(Some(ClassTexts { texts, all, tests }))
+}
+
+/// Finds which of these texts of a label it lacks in a space.
+fn missing_of<'m>(
+    alloc: Global,
+    alphabet: Alphabet,
+    allowed: AllowedNames,
+    space: &Space,
+    label: &AskedLabel<'m>,
+    found: ClassTexts<'m>,
+) -> Result<Missing<'m>, AllocError>
+    requires { label.now.name ≢ [] → HasThoseOfLists space.now.impossible label.now }
+    ensures { IfOk result (λ missing. (alerts : List LabelMap)
+        → AreFoundTexts alphabet alerts label.now found.entry
+        → (found.entry.all ≡ false → MayBePastLimits alphabet label.now.matchers)
+        → IsMissingAt alphabet allowed space.now label.now missing
+        × AreRepresentatives alphabet alerts label.now missing) }
+{
     let name = label.name();
-    let found = class_texts(alloc, alphabet, label, alerts)?;
-    let all = found.all;
     let wanted = possible_texts(alloc, space.impossible(), name, found.texts)?;
     let count = wanted.len();
-    let texts = missing_texts(alloc, space, label, wanted)?;
+    let texts = missing_texts(alloc, space, name, &found.tests, wanted)?;
     Ok(Missing {
         name,
         named: may_declare(alloc, allowed, name),
         texts,
-        all,
+        all: found.all,
         count,
     })
 }
 
-/// Returns one text for each class of a label's texts. If the classes cannot be computed, returns
-/// texts that were found.
-fn class_texts(
-    alloc: Global,
-    alphabet: Alphabet,
-    label: &AskedLabel<'_>,
-    alerts: Option<&Alerts>,
-) -> Result<ClassTexts, AllocError>
-    ensures classes { IfOk result (λ found. AreClasses alphabet label.now.matchers
-        (map string_bytes found.texts.items) found.all) }
-    ensures limits { IfOk result (λ found.
-        found.all ≡ false → MayBePastLimits alphabet label.now.matchers) }
-    ensures representatives { IfOk result (λ found. AllByRecursion (IsRepresentative
-        (not found.all) alphabet (option_map_or (λ a. a.now) alerts.entry []) label.now.name
-        label.now.matchers) (map string_bytes found.texts.items)) }
-{
-    let Some(classes) = classes(alloc, alphabet, label.matchers())? else {
-        let texts = found_texts(alloc, alphabet, label, alerts)?;
-        return Ok(ClassTexts { texts, all: false });
-    };
-    let all = classes.all;
-    let texts = representatives(alloc, alphabet, label, alerts, classes)?;
-    Ok(ClassTexts { texts, all })
-}
-
-/// Returns those of these texts that are alike to none that stands in a space for a label, and to
-/// none before them.
+/// Returns those of these texts that are alike to none that stands in a space for the label of this
+/// name, and to none before them.
 fn missing_texts(
     alloc: Global,
     space: &Space,
-    label: &AskedLabel<'_>,
+    name: &str,
+    tests: &LabelTests<'_>,
     texts: Vec<String>,
 ) -> Result<Vec<String>, AllocError>
-    ensures { IfOk result (λ missing. AreNewIn label.now.matchers
-        (standing_texts space.now label.now.name) (map string_bytes texts.items)
+    ensures { IfOk result (λ missing. (ms : List Matcher) → IsTestsOf ms tests.now
+        → AreNewIn ms (standing_texts space.now name.now) (map string_bytes texts.items)
         (map string_bytes missing.items)) }
 {
-    let standing = standing_texts(alloc, space, label.name())?;
-    let standing = tested_texts(alloc, label.matchers(), standing)?;
-    let wanted = tested_texts(alloc, label.matchers(), texts)?;
+    let standing = standing_texts(alloc, space, name)?;
+    let standing = tests.tested(alloc, standing)?;
+    let wanted = tests.tested(alloc, texts)?;
     new_texts(alloc, standing, wanted)
 }

@@ -1,10 +1,13 @@
 //! Which texts a label may have, by the impossible lists that ask about this label alone.
 
-ghost use Rattle.std.specs.Prelude.{◌≡◌, IfOk, map, string_bytes};
-ghost use Rattle.std.specs.List.{filter};
+ghost use Rattle.std.specs.Prelude.{◌≡◌, IfOk, OnOk, map, string_bytes};
+ghost use Rattle.std.specs.FinMap.{empty};
+ghost use Rattle.std.specs.List.{filter, list_any};
+ghost use Rattle.am_universe.specs.LabelSet.{with_value};
+ghost use Rattle.am_labels.specs.Matcher.{all_hold};
 ghost use Rattle.am_complete.specs.Complete.{asks_only_of, may_have};
 
-use am_labels::Matchers;
+use am_labels::{Matchers, PreparedMatchers};
 use am_universe::LabelSet;
 use std::alloc::{AllocError, Global};
 
@@ -18,35 +21,64 @@ pub(crate) fn possible_texts(
     ensures { IfOk result (λ kept. map string_bytes kept.items
         ≡ filter (may_have impossible.now name.now) (map string_bytes texts.items)) }
 {
+    let mut lists = lists_about(alloc, impossible, name)?;
     let mut kept = Vec::new(alloc);
     for text in texts {
-        if may_have(alloc, impossible, name, text.as_str())? {
+        let set = one_label(alloc, name, text.as_str())?;
+        if !matches_one(alloc, &mut lists, &set)? {
             kept.push(text)?;
         }
     }
     Ok(kept)
 }
 
-/// Whether the label of this name may have a text.
-pub(crate) fn may_have(
+/// Prepares those of some lists that ask about the label of this name alone.
+fn lists_about<'m>(
     alloc: Global,
-    impossible: &[Matchers],
+    impossible: &'m [Matchers],
     name: &str,
-    text: &str,
-) -> Result<bool, AllocError>
-    ensures { IfOk result (λ possible. possible ≡ may_have impossible.now name.now text.now) }
+) -> Result<Vec<PreparedMatchers<'m>>, AllocError>
+    ensures { IfOk result (λ lists. lists.items
+        ≡ filter (asks_only_of name.now) impossible.now) }
+{
+    let mut lists = Vec::new(alloc);
+    for list in impossible {
+        if asks_only_of(list, name) {
+            lists.push(list.prepare(alloc))?;
+        }
+    }
+    Ok(lists)
+}
+
+/// Returns the label set that has this text under this name, and no other label. The empty text is
+/// absence.
+fn one_label(alloc: Global, name: &str, text: &str) -> Result<LabelSet, AllocError>
+    ensures { IfOk result (λ set. set ≡ with_value empty name.now text.now) }
 {
     let mut set = LabelSet::empty(alloc);
     set.put(
         String::from_str(alloc, name)?,
         String::from_str(alloc, text)?,
     )?;
-    for list in impossible {
-        if asks_only_of(list, name) && list.matches(alloc, &set)? {
-            return Ok(false);
+    Ok(set)
+}
+
+/// Whether one of some lists matches a label set.
+fn matches_one(
+    alloc: Global,
+    lists: &mut Vec<PreparedMatchers<'_>>,
+    set: &LabelSet,
+) -> Result<bool, AllocError>
+    ensures matched { IfOk result (λ matched.
+        matched ≡ list_any (all_hold set.now) lists.old.items) }
+    ensures same { OnOk result (lists.new.items ≡ lists.old.items) }
+{
+    for i in 0..lists.len() {
+        if lists[i].matches(alloc, set)? {
+            return Ok(true);
         }
     }
-    Ok(true)
+    Ok(false)
 }
 
 /// Whether each matcher of a list is on the label of this name.

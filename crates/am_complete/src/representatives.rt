@@ -6,41 +6,38 @@ ghost use Rattle.std.specs.List.{find, AllByRecursion};
 ghost use Rattle.std.specs.Option.{option_map_or};
 ghost use Rattle.am_labels.specs.Matcher.{Matcher};
 ghost use Rattle.am_classes.specs.declared.alphabet.Alphabet.{Alphabet};
+ghost use Rattle.am_classes.specs.LabelTests.{IsTestsOf};
 ghost use Rattle.am_complete.specs.Covering.{AreClasses};
-ghost use Rattle.am_classes.specs.Truths.{has_same_truths};
+ghost use Rattle.am_classes.specs.Truths.{has_same_hits};
 ghost use Rattle.am_complete.specs.Chosen.{AreChosenEach, IsChosen};
 ghost use Rattle.am_complete.specs.Representatives.{IsUsual, GainsOnly};
 
 use crate::AskedLabel;
 use crate::usual_texts::usual_texts;
-use am_classes::{Alphabet, ClassTexts, Tested, tested_texts};
+use am_classes::{Alphabet, LabelTests, Tested};
 use am_labels::{Comparison, Matcher};
 use am_list_files::Alerts;
 use am_universe::limits::MAX_VALUES;
 use std::alloc::{AllocError, Global};
 
-/// Returns texts that stand for the classes of a label's texts, as those of `classes` do. If these
-/// are all, they are chosen and put in order for a reader: absence comes first, and texts with a
-/// line feed come last.
+/// Returns texts that stand for the classes of a label's texts, as these texts do. They are chosen
+/// and put in order for a reader: absence comes first, and texts with a line feed come last.
 pub(crate) fn representatives(
     alloc: Global,
     alphabet: Alphabet,
     label: &AskedLabel<'_>,
     alerts: Option<&Alerts>,
-    classes: ClassTexts,
+    tests: &LabelTests<'_>,
+    texts: Vec<String>,
 ) -> Result<Vec<String>, AllocError>
-    requires { AreClasses alphabet label.now.matchers (map string_bytes classes.texts.items)
-        classes.all }
-    ensures classes { IfOk result (λ chosen.
-        AreClasses alphabet label.now.matchers (map string_bytes chosen.items) classes.all) }
+    ensures classes { IfOk result (λ chosen. (all : Bool) → IsTestsOf label.now.matchers tests.now
+        → AreClasses alphabet label.now.matchers (map string_bytes texts.items) all
+        → AreClasses alphabet label.now.matchers (map string_bytes chosen.items) all) }
     ensures from { IfOk result (λ chosen. GainsOnly
         (IsUsual (option_map_or (λ a. a.now) alerts.entry []) label.now.name)
-        (map string_bytes classes.texts.items) (map string_bytes chosen.items)) }
+        (map string_bytes texts.items) (map string_bytes chosen.items)) }
 {
-    if !classes.all {
-        return Ok(classes.texts);
-    }
-    let mut chosen = usual_where_alike(alloc, alphabet, label, alerts, classes.texts)?;
+    let mut chosen = usual_where_alike(alloc, alphabet, label, alerts, tests, texts)?;
     put_in_order(&mut chosen)?;
     Ok(chosen)
 }
@@ -53,9 +50,10 @@ fn usual_where_alike(
     alphabet: Alphabet,
     label: &AskedLabel<'_>,
     alerts: Option<&Alerts>,
+    tests: &LabelTests<'_>,
     texts: Vec<String>,
 ) -> Result<Vec<String>, AllocError>
-    ensures classes { IfOk result (λ chosen. (all : Bool)
+    ensures classes { IfOk result (λ chosen. (all : Bool) → IsTestsOf label.now.matchers tests.now
         → AreClasses alphabet label.now.matchers (map string_bytes texts.items) all
         → AreClasses alphabet label.now.matchers (map string_bytes chosen.items) all) }
     ensures from { IfOk result (λ chosen. GainsOnly
@@ -65,11 +63,10 @@ fn usual_where_alike(
     if texts.len() > MAX_VALUES {
         return Ok(texts);
     }
-    let matchers = label.matchers();
     let usual = usual_texts(alloc, alphabet, alerts, label.name())?;
-    let usual = tested_texts(alloc, matchers, usual)?;
-    let wanted = tested_texts(alloc, matchers, texts)?;
-    chosen_texts(alloc, matchers, usual.as_slice(), wanted.as_slice())
+    let usual = tests.tested(alloc, usual)?;
+    let wanted = tests.tested(alloc, texts)?;
+    chosen_texts(alloc, label.matchers(), usual.as_slice(), wanted.as_slice())
 }
 
 /// Returns a text for each of the wanted texts, alike to it.
@@ -105,11 +102,11 @@ fn chosen_text<'t>(matchers: &[&Matcher], usual: &'t [Tested], wanted: &'t Teste
     }
 }
 
-/// Returns the first text that has the same truths as a wanted one, if there is one.
+/// Returns the first text that has the same hits as a wanted one, if there is one.
 fn first_alike<'t>(usual: &'t [Tested], wanted: &Tested) -> Option<&'t Tested>
-    ensures { option_map (λ t. t.now) result ≡ find (has_same_truths wanted.now) usual.now }
+    ensures { option_map (λ t. t.now) result ≡ find (has_same_hits wanted.now) usual.now }
 {
-    usual.iter().find(|other| other.truths == wanted.truths)
+    usual.iter().find(|other| other.hits == wanted.hits)
 }
 
 /// Whether a matcher names a text: it asks for this text alone, or for all others.

@@ -10,7 +10,7 @@ use am_classes::Alphabet;
 use am_list_files::Alerts;
 use am_universe::limits::MAX_VALUES;
 use std::alloc::{AllocError, Global};
-use std::collections::HashMap;
+use std::collections::{HashMap, HashSet};
 
 /// Returns the usual texts of a label that are over an alphabet: the texts that alerts have,
 /// without absence, and then `other`. The text that most alerts have comes first. Of texts that
@@ -27,30 +27,29 @@ pub(crate) fn usual_texts(
         AllByRecursion (IsUsual (option_map_or (λ a. a.now) alerts.entry []) name.now)
         (map string_bytes texts.items)) }
 {
+    let mut seen = HashSet::new(alloc);
     let mut texts = Vec::new(alloc);
     let counted = counted_texts(alloc, alerts, name)?;
     for pair in &counted {
-        push_new(alloc, alphabet, &mut texts, pair.0)?;
+        push_new(alloc, alphabet, &mut seen, &mut texts, pair.0)?;
     }
-    push_new(alloc, alphabet, &mut texts, "other")?;
+    push_new(alloc, alphabet, &mut seen, &mut texts, "other")?;
     Ok(texts)
 }
 
-/// Adds a text that is over an alphabet, unless it is there already, or there are as many texts as
-/// a label may have values.
-pub(crate) fn push_new(
+/// Adds a text that is over an alphabet, unless it was seen before, or there are as many texts as a
+/// label may have values.
+pub(crate) fn push_new<'t>(
     alloc: Global,
     alphabet: Alphabet,
+    seen: &mut HashSet<&'t str>,
     texts: &mut Vec<String>,
-    text: &str,
+    text: &'t str,
 ) -> Result<(), AllocError>
     ensures { GainsOnly (λ x. IsOver alphabet x × (x ≡ text.now)) (map string_bytes texts.old.items)
         (map string_bytes texts.new.items) }
 {
-    if alphabet.has(text)
-        && texts.len() < MAX_VALUES
-        && !texts.iter().any(|other| other.as_str() == text)
-    {
+    if texts.len() < MAX_VALUES && alphabet.has(text) && seen.insert(text)? {
         texts.push(String::from_str(alloc, text)?)?;
     }
     Ok(())

@@ -1,20 +1,20 @@
 -- Texts of labels: which is alike to a text, and what is known of texts that were looked for.
-use Rattle.std.proofs.Common.{◌≡◌, ℕ, Bool, true, cond, List, [], ◌∷◌}
+use Rattle.std.proofs.Common.{◌≡◌, ◌<◌, ℕ, nat_eq, length, vec_len, Bool, true, cond, List, [], ◌∷◌}
 use Rattle.std.proofs.Common.{map, get_or, Option, Some, None, String, string_bytes}
 use Rattle.std.proofs.Common.{refl, ap, sym, ◌∙◌, inl, inr, arith, nat_lt}
 use Rattle.std.specs.Prelude.{position}
 use Rattle.std.specs.List.{AllByRecursion, position_or_len}
+use Rattle.std.specs.Global.{Vec}
 use Rattle.std.specs.Map.{lookup}
 use Rattle.std.specs.declared.alloc.Global.{Global}
 use Rattle.std.proofs.lemmas.Bool.{cases_Bool}
 use Rattle.std.proofs.lemmas.List.{length-map}
 use Rattle.std.proofs.lemmas.Grind.{common_steps}
 use Rattle.std.specs.Cmp.Lexicographic.{pointwise}
-use mathlib.Core.Bool.{beq}
 use Rattle.indexmap.specs.IndexMap.{insert_entry}
 use Rattle.am_universe.specs.Universe.{Label}
 use Rattle.am_labels.specs.Matcher.{Matcher}
-use Rattle.am_classes.specs.Truths.{AreTested, alike, are_same, texts_of, truths}
+use Rattle.am_classes.specs.Truths.{AreTested, alike, are_same, hits, texts_of}
 use Rattle.am_classes.specs.declared.tested.Tested.{Tested}
 use Rattle.am_complete.specs.Complete.{texts_of_label}
 use Rattle.am_rule_outcomes.specs.Narrowing.{alike_position}
@@ -26,27 +26,27 @@ same_position : {X Y : Type 0} (p : X → Bool) (q : Y → Bool) (f : X → Y) (
 same_position p q f [] all = refl
 same_position p q f (x ∷ xs) all = rw all.0 (grind (arith, common_steps, same_position p q f xs all.1))
 
-same_truths : (ms : List Matcher) (tested : List Tested) (w : Tested) (text : List ℕ)
-    → AreTested ms tested → w.truths.items ≡ truths ms text
-    → AllByRecursion (λ t. are_same t.truths w.truths ≡ alike ms (string_bytes t.text) text) tested
-same_truths ms [] w text are is = tt
-same_truths ms (t ∷ tested) w text are is =
-    (λ i. pointwise beq (are.0 i) (is i), same_truths ms tested w text are.1 is)
+same_hits : (ms : List Matcher) (tested : List Tested) (w : Tested) (text : List ℕ)
+    → AreTested ms tested → w.hits.items ≡ hits ms text
+    → AllByRecursion (λ t. are_same t.hits w.hits ≡ alike ms (string_bytes t.text) text) tested
+same_hits ms [] w text are is = tt
+same_hits ms (t ∷ tested) w text are is =
+    (λ i. pointwise nat_eq (are.0 i) (is i), same_hits ms tested w text are.1 is)
 
 pub first_position : (ms : List Matcher) (tested : List Tested) (w : Tested) (text : List ℕ)
-    (label : Label) → AreTested ms tested → w.truths.items ≡ truths ms text
+    (label : Label) → AreTested ms tested → w.hits.items ≡ hits ms text
     → texts_of tested ≡ texts_of_label (Some label)
-    → position (λ t. are_same t.truths w.truths) tested ≡ alike_position ms text label
+    → position (λ t. are_same t.hits w.hits) tested ≡ alike_position ms text label
 first_position ms tested w text label are is texts =
-    let e = same_position (λ (t : Tested). are_same t.truths w.truths) (λ t. alike ms t text)
-    (λ (t : Tested). string_bytes t.text) tested (same_truths ms tested w text are is) in
+    let e = same_position (λ (t : Tested). are_same t.hits w.hits) (λ t. alike ms t text)
+    (λ (t : Tested). string_bytes t.text) tested (same_hits ms tested w text are is) in
     (λ i. cond (nat_lt (e i) (sym (length-map tested (λ (t : Tested). string_bytes t.text)) i)) (Some (e i)) None)
     ∙ ap (position (λ t. alike ms t text)) texts
 
 -- the one text that was tested
 pub record IsTheText (ms : List Matcher) (w : Tested) (text : List ℕ) : Type 0 where
   pub is : string_bytes w.text ≡ text
-  pub truths_are : w.truths.items ≡ truths ms text
+  pub hits_are : w.hits.items ≡ hits ms text
 
 pub the_text : (ms : List Matcher) (all : List Tested) (w : Tested) (text : List ℕ)
     → texts_of all ≡ text ∷ [] → AreTested ms all → w ≡ get_or all 0 w → IsTheText ms w text
@@ -55,9 +55,26 @@ the_text ms (t ∷ all) w text are tested at =
     let is : string_bytes w.text ≡ text = ap (λ (t : Tested). string_bytes t.text) at ∙ cc in
     record {
       is = is;
-      truths_are = ap (λ (t : Tested). t.truths.items) at ∙ tested.0
-          ∙ ap (truths ms) (sym (ap (λ (t : Tested). string_bytes t.text) at) ∙ is);
+      hits_are = ap (λ (t : Tested). t.hits.items) at ∙ tested.0
+          ∙ ap (hits ms) (sym (ap (λ (t : Tested). string_bytes t.text) at) ∙ is);
     }
+
+-- two texts that were tested are alike exactly if their hits are the same
+pub two_long : (all : Vec Tested) (x y : List ℕ) → texts_of all.items ≡ x ∷ y ∷ [] → 1 < vec_len all
+two_long all x y e =
+    omega (arith, sym (length-map all.items (λ (t : Tested). string_bytes t.text)) ∙ ap length e, all.ok.0)
+
+pub two_alike : (ms : List Matcher) (all : List Tested) (x y : List ℕ) → texts_of all ≡ x ∷ y ∷ []
+    → AreTested ms all → (a b : Tested) → a ≡ get_or all 0 a → b ≡ get_or all 1 b
+    → pointwise nat_eq a.hits.items b.hits.items ≡ alike ms x y
+two_alike ms [] x y e tested a b at also = absurd cc
+two_alike ms (t ∷ []) x y e tested a b at also = absurd cc
+two_alike ms (t ∷ u ∷ all) x y e tested a b at also =
+    let first : string_bytes t.text ≡ x = cc in
+    let second : string_bytes u.text ≡ y = cc in
+    let one : a.hits.items ≡ hits ms x = ap (λ (s : Tested). s.hits.items) at ∙ tested.0 ∙ ap (hits ms) first in
+    let other : b.hits.items ≡ hits ms y = ap (λ (s : Tested). s.hits.items) also ∙ tested.1.0 ∙ ap (hits ms) second in
+    λ i. pointwise nat_eq (one i) (other i)
 
 -- ---- What is known.
 

@@ -7,6 +7,7 @@ use Rattle.am_universe.specs.Universe.{Label, sizes}
 use Rattle.am_universe.specs.Choice.{IsWhole}
 use Rattle.am_labels.specs.Matcher.{Matcher}
 use Rattle.am_labels.specs.Space.{Space}
+use Rattle.am_classes.specs.LabelTests.{IsTestsOf}
 use Rattle.am_classes.specs.Truths.{AreTested, texts_of}
 use Rattle.am_complete.specs.AskedLabel.{AskedLabel}
 use Rattle.am_complete.specs.Complete.{texts_of_label}
@@ -34,7 +35,7 @@ narrowing_view found = option_map (λ kept. kept.items) found
 -- position that is kept is that of the first text that is alike to it.
 pub record IsLabelTexts (ms : List Matcher) (label : Label) (texts : LabelTexts) : Type 0 where
   pub name : texts.name.now ≡ label.name
-  pub matchers : map (λ m. m.now) texts.matchers.items ≡ ms
+  pub tests : IsTestsOf ms texts.tests
   pub are : texts_of texts.texts.items ≡ texts_of_label (Some label)
   pub tested : AreTested ms texts.texts.items
   pub known : AllByRecursion (λ e. e.1 ≡ alike_position ms (string_bytes e.0) label)

@@ -8,18 +8,18 @@ ghost use Rattle.am_classes.specs.Truths.{are_same};
 ghost use Rattle.am_rule_outcomes.specs.Narrowing.{alike_position};
 ghost use Rattle.am_rule_outcomes.specs.NarrowingView.{IsLabelTexts};
 
-use am_classes::{Tested, tested_texts};
+use am_classes::{LabelTests, Tested};
 use am_labels::Matcher;
 use am_universe::Universe;
 use indexmap::IndexMap;
 use std::alloc::{AllocError, Global};
 
-/// The texts that a label has in a universe, with the truth of each matcher of the label on each.
-/// Absence is the empty text.
+/// The texts that a label has in a universe, tested by the matchers of the label. Absence is the
+/// empty text.
 #[derive(Drop)]
 pub(crate) struct LabelTexts<'a, 'm> {
     name: &'a str,
-    matchers: Vec<&'m Matcher>,
+    tests: LabelTests<'m>,
     texts: Vec<Tested>,
     /// Texts that were looked for, each with the position of the first text that is alike to it.
     known: IndexMap<String, Option<usize>>,
@@ -37,10 +37,12 @@ impl<'a, 'm> LabelTexts<'a, 'm> {
         ensures { IfOk result (λ texts. (label : Label) → slice_get universe.now i ≡ Some label
             → IsLabelTexts (map (λ m. m.now) matchers.now) label texts) }
     {
+        let tests = LabelTests::of(alloc, matchers)?;
+        let texts = tests.tested(alloc, texts_at(alloc, universe, i)?)?;
         Ok(LabelTexts {
             name: universe.name(i),
-            matchers: Vec::from_slice(alloc, matchers)?,
-            texts: tested_texts(alloc, matchers, texts_at(alloc, universe, i)?)?,
+            tests,
+            texts,
             known: IndexMap::new(alloc),
         })
     }
@@ -68,7 +70,7 @@ impl<'a, 'm> LabelTexts<'a, 'm> {
             return Ok(*position);
         }
         let wanted = vec![in alloc; String::from_str(alloc, text)?]?;
-        let tested = tested_texts(alloc, self.matchers.as_slice(), wanted)?;
+        let tested = self.tests.tested(alloc, wanted)?;
         let position = first_alike(self.texts.as_slice(), &tested[0]);
         self.known.insert(String::from_str(alloc, text)?, position)?;
         Ok(position)
@@ -92,9 +94,9 @@ fn texts_at(alloc: Global, universe: &Universe, i: usize) -> Result<Vec<String>,
 
 /// The position of the first of some texts that is alike to a text.
 fn first_alike(texts: &[Tested], wanted: &Tested) -> Option<usize>
-    ensures { result ≡ position (λ t. are_same t.truths wanted.now.truths) texts.now }
+    ensures { result ≡ position (λ t. are_same t.hits wanted.now.hits) texts.now }
 {
     texts
         .iter()
-        .position(|text| text.truths.as_slice() == wanted.truths.as_slice())
+        .position(|text| text.hits.as_slice() == wanted.hits.as_slice())
 }

@@ -16,7 +16,7 @@ ghost use Rattle.am_rule_outcomes.specs.NarrowingView.{narrowing_view};
 
 use crate::label_texts::LabelTexts;
 use am_alerting_rules::AlertingRule;
-use am_classes::{Alphabet, tested_texts};
+use am_classes::{Alphabet, LabelTests};
 use am_complete::AskedLabel;
 use am_labels::Matcher;
 use am_universe::Universe;
@@ -109,13 +109,28 @@ fn absence_stands(
         → stands ≡ list_all (absence_stands asked.now u) (pairs_view fixed.now)) }
 {
     for label in fixed {
-        if !is_declared(labels, label.0)
-            && !is_like_absence(alloc, matchers_on(asked, label.0), label.1)?
-        {
+        if !absence_stands_for(alloc, asked, labels, label.0, label.1)? {
             return Ok(false);
         }
     }
     Ok(true)
+}
+
+/// Whether absence stands for a text of the label with a name, or the universe declares the label.
+fn absence_stands_for(
+    alloc: Global,
+    asked: &[AskedLabel<'_>],
+    labels: &[LabelTexts<'_, '_>],
+    name: &str,
+    text: &str,
+) -> Result<bool, AllocError>
+    ensures { IfOk result (λ stands. (u : List Label) → AreLabelTexts asked.now u labels.now
+        → stands ≡ absence_stands asked.now u (name.now, text.now)) }
+{
+    if is_declared(labels, name) {
+        return Ok(true);
+    }
+    is_like_absence(alloc, matchers_on(asked, name), text)
 }
 
 /// Whether one of the labels has a name.
@@ -134,8 +149,9 @@ fn is_like_absence(alloc: Global, matchers: &[&Matcher], text: &str) -> Result<b
         return Ok(true);
     }
     let texts = vec![in alloc; String::new(alloc), String::from_str(alloc, text)?]?;
-    let tested = tested_texts(alloc, matchers, texts)?;
-    Ok(tested[0].truths.as_slice() == tested[1].truths.as_slice())
+    let tests = LabelTests::of(alloc, matchers)?;
+    let tested = tests.tested(alloc, texts)?;
+    Ok(tested[0].hits.as_slice() == tested[1].hits.as_slice())
 }
 
 /// Whether the texts of some labels are over an alphabet.

@@ -35,7 +35,7 @@ module _ (scan : PatternScan) (columns : List Column) (classes : List ℕ) (stat
       (row.0, row.1, are.each number state row.0 at row.1)
 
   -- One more byte before the text leads to the state of the longer text.
-  step : (number b : ℕ) (text : List ℕ) → is_scanned scan.ascii b ≡ true → b < 256 → StandsFor number text →
+  step : (number b : ℕ) (text : List ℕ) → is_scanned scan.bytes b ≡ true → b < 256 → StandsFor number text →
       StandsFor (next_in (slice_get rows number) (slice_index classes b)) (b ∷ text)
   step number b text scanned small here =
       let row = row_at number here.0 here.1 in
@@ -48,14 +48,14 @@ module _ (scan : PatternScan) (columns : List Column) (classes : List ℕ) (stat
       subst (λ o. StandsFor (next_in o class) (b ∷ text)) (sym row.1) (next.0, next.1, next.2 b text column.2 here.2)
 
   -- The number of each scanned text has a state that follows the text.
-  stands_for : (text : List ℕ) → list_all (is_scanned scan.ascii) text ≡ true → StandsFor (number_in rows classes text) text
+  stands_for : (text : List ℕ) → list_all (is_scanned scan.bytes) text ≡ true → StandsFor (number_in rows classes text) text
   stands_for [] h = let first = get_within states 0 are.some in (first.0, first.1, are.first first.0 first.1)
   stands_for (b ∷ text) h =
-      let parts = and_parts (is_scanned scan.ascii b) _ h in
-      step _ b text parts.0 (scanned_is_byte scan.ascii b parts.0) (stands_for text parts.1)
+      let parts = and_parts (is_scanned scan.bytes b) _ h in
+      step _ b text parts.0 (scanned_is_byte scan.bytes b parts.0) (stands_for text parts.1)
 
   -- So what is said about the number holds for the text.
-  pub found_in-exact : (text : List ℕ) → IsScanned scan.ascii text → found_in rows (number_in rows classes text) ≡ finds (string_bytes scan.pattern) text
+  pub found_in-exact : (text : List ℕ) → IsScanned scan.bytes text → found_in rows (number_in rows classes text) ≡ finds (string_bytes scan.pattern) text
   found_in-exact text scanned = grind (arith, common_steps, stands_for, row_at)
 
 -- A row stays a row when states are added.
@@ -74,14 +74,14 @@ IsNumber_kept old new state number grows h = (h.0, grows number h.0 h.1, h.2)
 -- One more byte has its class.
 pub AreClasses-more : (scan : PatternScan) (old new : List Column) (classes all : List ℕ) (byte class : ℕ) → AreClasses scan old classes →
     Grows old new → length classes ≡ byte → all ≡ classes ++ class ∷ [] →
-    (is_scanned scan.ascii byte ≡ true → (column : Column) × (slice_get new class ≡ Some column) × IsColumn scan.nfa scan.sight byte column) →
+    (is_scanned scan.bytes byte ≡ true → (column : Column) × (slice_get new class ≡ Some column) × IsColumn scan.nfa scan.sight byte column) →
     AreClasses scan new all
 AreClasses-more scan old new classes all byte class h grows len is own = λ b other at scanned.
     elim (get_pushed classes class other b (subst (λ xs. slice_get xs b ≡ Some other) is at)) [
       | inl before ↦ (let f = h b other before scanned in (f.0, grows other f.0 f.1, f.2))
       | inr here ↦
           (let same : b ≡ byte = here.0 ∙ len in
-          let f = own (subst (λ x. is_scanned scan.ascii x ≡ true) same scanned) in
+          let f = own (subst (λ x. is_scanned scan.bytes x ≡ true) same scanned) in
           (f.0, subst (λ x. slice_get new x ≡ Some f.0) here.1 f.1, subst (λ x. IsColumn scan.nfa scan.sight x f.0) (sym same) f.2))
     ]
 

@@ -13,6 +13,7 @@ use Rattle.regex_nfa.specs.declared.state.State.{State}
 use Rattle.regex_nfa.specs.declared.state.State.TheVariants.{ByteRange, Sparse, Split, Save, Look, Match, Fail}
 use Rattle.regex_nfa.specs.declared.nfa.Nfa.{Nfa}
 use Rattle.regex_nfa.proofs.RunLemmas.{sound_of, run_unfold, measure_falls_empty, measure_induction}
+use Rattle.am_scan.specs.declared.byte_set.ByteSet.{ByteSet}
 use Rattle.am_scan.specs.declared.sight.Sight.{Sight}
 use Rattle.am_scan.specs.Sight.{kind_beside, IsScanned}
 use Rattle.am_scan.specs.Closure.{leads, leads_on, accepts, contains, reads_byte, AcceptsReads, IsClosed}
@@ -28,7 +29,7 @@ pub is_some-cond : {A : Type 0} (b : Bool) (o : Option A) → is_some (cond b o 
 is_some-cond true o = refl
 is_some-cond false o = refl
 
-module _ (nfa : Nfa) (sight : Sight) (ascii : Bool) (seen : IsSeen nfa sight ascii) (hay : List ℕ) (scanned : IsScanned ascii hay) (i : ℕ) (after before : Option ℕ) (reads : ℕ → Bool) (accepted : List Bool)
+module _ (nfa : Nfa) (sight : Sight) (bytes : ByteSet) (seen : IsSeen nfa sight bytes) (hay : List ℕ) (scanned : IsScanned bytes hay) (i : ℕ) (after before : Option ℕ) (reads : ℕ → Bool) (accepted : List Bool)
     (after_is : after ≡ kind_beside sight (slice_get hay i)) (before_is : before ≡ kind_beside sight (byte_before hay i))
     (read_is : (q : ℕ) → q < vec_len nfa.states → reads q ≡ leads_on nfa hay q i) where
   -- `accepts` is right about a state, if the accepted states of lower rank are right

@@ -8,3 +8,6 @@ mod AutomatonLemmas
 pub mod WildcardLemmas
 pub mod WildcardStateLemmas
 pub mod WildcardTableLemmas
+pub mod CharacterLemmas
+pub mod AlikeTexts
+mod PartLemmas

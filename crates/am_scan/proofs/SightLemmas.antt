@@ -1,5 +1,5 @@
 -- An assertion sees no more of the bytes beside it than their kinds.
-use Rattle.std.proofs.Common.{◌≡◌, ℕ, zero, suc, ◌+◌, ◌-◌, ◌<◌, ◌≤◌, Bool, true, false, ◌&&◌, ◌||◌, cond, eqb, Option, Some, None, is_some, refl, sym, arith, List, [], ◌∷◌, length, slice_get, ap, ◌∙◌, ⊎_elim, subst, ltb-true, rules}
+use Rattle.std.proofs.Common.{◌≡◌, ℕ, zero, suc, ◌+◌, ◌-◌, ◌<◌, ◌≤◌, Bool, true, false, ◌&&◌, ◌||◌, cond, eqb, Option, Some, None, is_some, refl, sym, arith, List, [], ◌∷◌, length, slice_get, ap, ◌∙◌, ⊎_elim, rules}
 use Rattle.std.specs.List.{list_all}
 use Rattle.std.proofs.lemmas.Bool.{and_parts, cases_Bool, cases_lt, cond_both, or_parts}
 use Rattle.std.proofs.lemmas.Option.{none-some, slice_get-get_or}
@@ -20,6 +20,7 @@ use Rattle.regex_nfa.specs.declared.state.State.{State}
 use Rattle.regex_nfa.specs.declared.state.State.TheVariants.{Look}
 use Rattle.regex_nfa.specs.States.{state_at}
 use Rattle.am_scan.specs.Sight.{kind_beside, sees, sees_state, is_scanned, IsScanned}
+use Rattle.am_scan.specs.declared.byte_set.ByteSet.{ByteSet}
 use Rattle.am_scan.specs.declared.sight.Sight.{Sight}
 
 -- the byte on a side, if there is one, is of ASCII
@@ -76,7 +77,7 @@ module _ (sight : Sight) where
   word_char-kind words (Some b) ascii = search (rules, is_word_char-ascii, kind_is_ascii, word_byte)
 
   -- an assertion holds between two characters of one byte exactly if it holds between their kinds
-  holds_between-kinds : (l : look.Look) (a b : Option ℕ) → sees sight l ≡ true →
+  pub holds_between-kinds : (l : look.Look) (a b : Option ℕ) → sees sight l ≡ true →
       (sight.words ≡ true → IsAsciiSide a × IsAsciiSide b) →
       holds_between l (record { byte = a; char = a }) (record { byte = b; char = b })
       ≡ holds_between l (record { byte = kind_beside sight a; char = kind_beside sight a }) (record { byte = kind_beside sight b; char = kind_beside sight b })
@@ -101,7 +102,7 @@ module _ (sight : Sight) where
   holds_between-kinds WordEndHalfUnicode a b h ascii = simp (edge-kind, word_char-kind h b (ascii h).1)
 
   -- if words are not seen, no assertion asks about characters
-  not_unicode : (l : look.Look) → sees sight l ≡ true → sight.words ≡ false → is_unicode_look l ≡ false
+  pub not_unicode : (l : look.Look) → sees sight l ≡ true → sight.words ≡ false → is_unicode_look l ≡ false
   not_unicode Start h none = refl
   not_unicode End h none = refl
   not_unicode StartLf h none = refl
@@ -111,10 +112,10 @@ module _ (sight : Sight) where
   not_unicode l h none = absurd cc
 
 -- each byte of a scanned text is scanned
-pub scanned_at : (ascii : Bool) (xs : List ℕ) (k b : ℕ) → list_all (is_scanned ascii) xs ≡ true → slice_get xs k ≡ Some b → is_scanned ascii b ≡ true
-scanned_at ascii [] k b h e = absurd (none-some b e)
-scanned_at ascii (x ∷ xs) zero b h e = let same : x ≡ b = cc in ap (is_scanned ascii) (sym same) ∙ (and_parts _ _ h).0
-scanned_at ascii (x ∷ xs) (suc k) b h e = scanned_at ascii xs k b (and_parts (is_scanned ascii x) _ h).1 e
+pub scanned_at : (bytes : ByteSet) (xs : List ℕ) (k b : ℕ) → list_all (is_scanned bytes) xs ≡ true → slice_get xs k ≡ Some b → is_scanned bytes b ≡ true
+scanned_at bytes [] k b h e = absurd (none-some b e)
+scanned_at bytes (x ∷ xs) zero b h e = let same : x ≡ b = cc in ap (is_scanned bytes) (sym same) ∙ (and_parts _ _ h).0
+scanned_at bytes (x ∷ xs) (suc k) b h e = scanned_at bytes xs k b (and_parts (is_scanned bytes x) _ h).1 e
 
 module _ (hay : List ℕ) (i : ℕ) where
   -- a position without a byte is at or after the end of the text
@@ -152,9 +153,9 @@ char_before_is hay (suc i) None e ascii =
     char_before_past hay (suc i) (omega arith)
 
 -- What is seen is enough for the assertions of the compiled pattern, over these texts.
-pub record IsSeen (nfa : Nfa) (sight : Sight) (ascii : Bool) : Type 0 where
+pub record IsSeen (nfa : Nfa) (sight : Sight) (bytes : ByteSet) : Type 0 where
   pub all : list_all (sees_state sight) nfa.states.items ≡ true
-  pub words_in_ascii : sight.words ≡ true → ascii ≡ true
+  pub words_in_ascii : sight.words ≡ true → (b : ℕ) → is_scanned bytes b ≡ true → b < 128
 
 -- if what is seen is enough for all states, it is enough for the state with each number
 seen_at : (sight : Sight) (states : List State) → list_all (sees_state sight) states ≡ true → (q : ℕ) → sees_state sight (state_at states q) ≡ true
@@ -163,14 +164,14 @@ seen_at sight [] h q = refl
 seen_at sight (s ∷ states) h zero = (and_parts _ _ h).0
 seen_at sight (s ∷ states) h (suc q) = seen_at sight states (and_parts (sees_state sight s) _ h).1 q
 
-module _ (nfa : Nfa) (sight : Sight) (ascii : Bool) (seen : IsSeen nfa sight ascii) where
+module _ (nfa : Nfa) (sight : Sight) (bytes : ByteSet) (seen : IsSeen nfa sight bytes) where
   -- what is seen is enough for the assertion of the state with a number
   sees_look : (q : ℕ) (l : look.Look) (next : ℕ) → state_at nfa.states.items q ≡ Look l next → sees sight l ≡ true
   unfolding sees_state
   sees_look q l next e = sym (ap (sees_state sight) e) ∙ seen_at sight nfa.states.items seen.all q
 
   -- so the assertion holds exactly if it holds between the kinds
-  pub holds-kinds : (hay : List ℕ) (i : ℕ) → IsScanned ascii hay → (q : ℕ) (l : look.Look) (next : ℕ) → state_at nfa.states.items q ≡ Look l next →
+  pub holds-kinds : (hay : List ℕ) (i : ℕ) → IsScanned bytes hay → (q : ℕ) (l : look.Look) (next : ℕ) → state_at nfa.states.items q ≡ Look l next →
       holds l hay i
       ≡ holds_between l (record { byte = kind_beside sight (byte_before hay i); char = kind_beside sight (byte_before hay i) })
       (record { byte = kind_beside sight (slice_get hay i); char = kind_beside sight (slice_get hay i) })
@@ -179,10 +180,10 @@ module _ (nfa : Nfa) (sight : Sight) (ascii : Bool) (seen : IsSeen nfa sight asc
       let asks = sees_look q l next e in
       ⊎_elim
       (λ words.
-      let bytes : (k b : ℕ) → slice_get hay k ≡ Some b → b < 128 =
-      λ k b at. ltb-true b 128 (subst (λ a. is_scanned a b ≡ true) (seen.words_in_ascii words) (scanned_at ascii hay k b scanned at)) in
-      let before : IsAsciiSide (byte_before hay i) = λ b at. bytes (i - 1) b (byte_before_some hay i b at).1 in
-      let after : IsAsciiSide (slice_get hay i) = λ b at. bytes i b at in
+      let small : (k b : ℕ) → slice_get hay k ≡ Some b → b < 128 =
+      λ k b at. seen.words_in_ascii words b (scanned_at bytes hay k b scanned at) in
+      let before : IsAsciiSide (byte_before hay i) = λ b at. small (i - 1) b (byte_before_some hay i b at).1 in
+      let after : IsAsciiSide (slice_get hay i) = λ b at. small i b at in
       rw (char_before_is hay i _ refl before, char_at_is hay i _ refl after)
       (holds_between-kinds sight l (byte_before hay i) (slice_get hay i) asks (λ _. (before, after))))
       (λ none.

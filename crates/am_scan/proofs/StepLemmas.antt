@@ -2,8 +2,9 @@
 use Rattle.std.proofs.Common.{◌≡◌, ℕ, zero, suc, ◌+◌, ◌-◌, ◌<◌, Bool, true, false, ◌&&◌, ◌||◌, List, rules}
 use Rattle.std.proofs.Common.{[], ◌∷◌, length, drop, vec_len, slice_index_or, slice_get, Option}
 use Rattle.std.proofs.Common.{Some, None, is_some, option_map, option_and_then, refl, sym, ap}
-use Rattle.std.proofs.Common.{◌∙◌, arith, drop-drop, All, ltb-true}
+use Rattle.std.proofs.Common.{◌∙◌, arith, drop-drop, All, ltb-true, nat_lt}
 use Rattle.std.specs.Option.{option_or}
+use Rattle.std.proofs.lemmas.Bool.{and_parts}
 use Rattle.std.proofs.lemmas.Grind.{common_steps}
 use Rattle.regex_hir.specs.Re.{Trace}
 use Rattle.regex_hir.specs.Find.{Match, first_from}
@@ -14,6 +15,7 @@ use Rattle.regex_nfa.specs.States.{next_on}
 use Rattle.regex_nfa.specs.declared.nfa.Nfa.{Nfa}
 use Rattle.regex_nfa.proofs.RunLemmas.{byte_below-length, next_on_within}
 use Rattle.am_labels.specs.Pattern.{finds}
+use Rattle.am_scan.specs.declared.byte_set.ByteSet.{ByteSet}
 use Rattle.am_scan.specs.declared.sight.Sight.{Sight}
 use Rattle.am_scan.specs.Sight.{kind_of, kind_beside, is_scanned, IsScanned}
 use Rattle.am_labels.specs.PatternView.{start_at, IsSearchFor}
@@ -37,7 +39,7 @@ pub rest : (hay : List ℕ) (i byte : ℕ) (text : List ℕ) → drop i hay ≡ 
 rest hay i byte text e = sym (drop-drop 1 i hay) ∙ ap (drop 1) e
 
 -- a character begins at a position exactly if one begins at the front of what follows from there on
-same_boundary : (hay : List ℕ) (i : ℕ) (text : List ℕ) → drop i hay ≡ text → is_boundary hay i ≡ is_boundary text 0
+pub same_boundary : (hay : List ℕ) (i : ℕ) (text : List ℕ) → drop i hay ≡ text → is_boundary hay i ≡ is_boundary text 0
 unfolding is_boundary
 same_boundary hay i text e = rw (here hay i text e) refl
 
@@ -55,31 +57,30 @@ is_some-first i None later = refl
 is_some-first i (Some t) later = refl
 
 -- the state of the empty text
-pub FollowsText-end : (nfa : Nfa) (sight : Sight) (ascii : Bool) → FollowsText nfa sight ascii None true (λ q. false) false []
+pub FollowsText-end : (nfa : Nfa) (sight : Sight) (bytes : ByteSet) → FollowsText nfa sight bytes None true (λ q. false) false []
 unfolding first_from is_boundary
-FollowsText-end nfa sight ascii = grind (arith, common_steps, byte_below-length, here)
+FollowsText-end nfa sight bytes = grind (arith, common_steps, byte_below-length, here)
 
 -- a scanned number is a byte
-pub scanned_is_byte : (ascii : Bool) (b : ℕ) → is_scanned ascii b ≡ true → b < 256
-scanned_is_byte true b h = let small = ltb-true b 128 h in omega arith
-scanned_is_byte false b h = ltb-true b 256 h
+pub scanned_is_byte : (bytes : ByteSet) (b : ℕ) → is_scanned bytes b ≡ true → b < 256
+scanned_is_byte bytes b h = ltb-true b 256 (and_parts (nat_lt b 256) _ h).0
 
 -- so a scanned text has only bytes
-bytes_of_scanned : (ascii : Bool) (text : List ℕ) → IsScanned ascii text → All (λ b. b < 256) text
-bytes_of_scanned ascii text scanned = grind (arith, common_steps, scanned_is_byte)
+bytes_of_scanned : (bytes : ByteSet) (text : List ℕ) → IsScanned bytes text → All (λ b. b < 256) text
+bytes_of_scanned bytes text scanned = grind (arith, common_steps, scanned_is_byte)
 
-module _ (nfa : Nfa) (sight : Sight) (ascii : Bool) (seen : IsSeen nfa sight ascii) (first : Option ℕ) (starts : Bool) (reads : ℕ → Bool) (later : Bool) (text : List ℕ)
-    (follows : FollowsText nfa sight ascii first starts reads later text) (accepted : List Bool) where
+module _ (nfa : Nfa) (sight : Sight) (bytes : ByteSet) (seen : IsSeen nfa sight bytes) (first : Option ℕ) (starts : Bool) (reads : ℕ → Bool) (later : Bool) (text : List ℕ)
+    (follows : FollowsText nfa sight bytes first starts reads later text) (accepted : List Bool) where
   -- a state is accepted exactly if it leads to a match wherever the text comes after such a byte
-  leads_there : (before : Option ℕ) → IsClosed nfa first before reads accepted → (hay : List ℕ) (i : ℕ) → IsScanned ascii hay → drop i hay ≡ text →
+  leads_there : (before : Option ℕ) → IsClosed nfa first before reads accepted → (hay : List ℕ) (i : ℕ) → IsScanned bytes hay → drop i hay ≡ text →
       before ≡ kind_beside sight (byte_before hay i) → (q : ℕ) → q < vec_len nfa.states → slice_index_or accepted q false ≡ leads nfa hay q i
   leads_there before closed hay i scanned e before_is =
-      leads_where_accepted nfa sight ascii seen hay scanned i first before reads accepted (follows.kind ∙ ap (kind_beside sight) (sym (here hay i text e)))
+      leads_where_accepted nfa sight bytes seen hay scanned i first before reads accepted (follows.kind ∙ ap (kind_beside sight) (sym (here hay i text e)))
       before_is (follows.each hay i scanned e) closed
 
   -- whether a match begins at the start of the text, or later
   from_here : (before : Option ℕ) → IsClosed nfa first before reads accepted →
-      (hay : List ℕ) (i : ℕ) → IsScanned ascii hay → drop i hay ≡ text → before ≡ kind_beside sight (byte_before hay i) →
+      (hay : List ℕ) (i : ℕ) → IsScanned bytes hay → drop i hay ≡ text → before ≡ kind_beside sight (byte_before hay i) →
       (later || (starts && slice_index_or accepted nfa.start false)) ≡ is_some (first_from (start_at nfa hay) (suc (length text)) i)
   unfolding first_from
   from_here before closed hay i scanned e before_is =
@@ -94,7 +95,7 @@ module _ (nfa : Nfa) (sight : Sight) (ascii : Bool) (seen : IsSeen nfa sight asc
   -- one more byte before the text
   pub FollowsText-step : (byte : ℕ) (next : ℕ → Bool) → IsClosed nfa first (Some (kind_of sight byte)) reads accepted →
       ((q : ℕ) → q < vec_len nfa.states → next q ≡ goes_on nfa accepted q byte) →
-      FollowsText nfa sight ascii (Some (kind_of sight byte)) (is_boundary (byte ∷ []) 0) next
+      FollowsText nfa sight bytes (Some (kind_of sight byte)) (is_boundary (byte ∷ []) 0) next
       (later || (starts && slice_index_or accepted nfa.start false)) (byte ∷ text)
   unfolding is_boundary
   FollowsText-step byte next closed each =
@@ -112,9 +113,9 @@ module _ (nfa : Nfa) (sight : Sight) (ascii : Bool) (seen : IsSeen nfa sight asc
       }
 
   -- whether the pattern finds the whole text
-  pub finds_where_accepted : (p : List ℕ) → IsSearchFor nfa p → IsClosed nfa first None reads accepted → IsScanned ascii text →
+  pub finds_where_accepted : (p : List ℕ) → IsSearchFor nfa p → IsClosed nfa first None reads accepted → IsScanned bytes text →
       (later || (starts && slice_index_or accepted nfa.start false)) ≡ finds p text
   finds_where_accepted p search closed scanned =
       let count : suc (length text) ≡ length text + 1 - 0 = omega arith in
       from_here None closed text 0 scanned refl (ap (kind_beside sight) (sym (byte_before-zero text)))
-      ∙ ap (λ n. is_some (first_from (start_at nfa text) n 0)) count ∙ search text (bytes_of_scanned ascii text scanned)
+      ∙ ap (λ n. is_some (first_from (start_at nfa text) n 0)) count ∙ search text (bytes_of_scanned bytes text scanned)

@@ -3,6 +3,7 @@ use Rattle.std.specs.Prelude.{◌≡◌, ℕ, ◌<◌, Bool, true, List, [], ◌
 use Rattle.std.specs.Prelude.{slice_index, string_bytes, vec_len}
 use Rattle.am_labels.specs.Pattern.{finds}
 use Rattle.regex_nfa.specs.declared.nfa.Nfa.{Nfa}
+use Rattle.am_scan.specs.declared.byte_set.ByteSet.{ByteSet}
 use Rattle.am_scan.specs.declared.column.Column.{Column}
 use Rattle.am_scan.specs.declared.columns.Columns.{Columns}
 use Rattle.am_scan.specs.declared.steps.Steps.{Steps}
@@ -20,7 +21,7 @@ use Rattle.am_scan.specs.Numbers.{number_in}
 -- The class of a scanned byte, if it has one yet, is the position of its column.
 abbrev pub AreClasses : PatternScan → List Column → List ℕ → Type 0
 AreClasses scan columns classes =
-    (b class : ℕ) → slice_get classes b ≡ Some class → is_scanned scan.ascii b ≡ true
+    (b class : ℕ) → slice_get classes b ≡ Some class → is_scanned scan.bytes b ≡ true
     → (column : Column) × (slice_get columns class ≡ Some column)
     × IsColumn scan.nfa scan.sight b column
 
@@ -87,7 +88,7 @@ pub record IsRow (scan : PatternScan) (columns : List Column) (states : List Pat
   pub leads : (k : ℕ) (column : Column) (number : ℕ) → slice_get columns k ≡ Some column
       → slice_get row.next.items k ≡ Some number → (next : PatternState)
       × (slice_get states number ≡ Some next) × LeadsTo scan column state next
-  pub found : (text : List ℕ) → Follows scan state text → IsScanned scan.ascii text
+  pub found : (text : List ℕ) → Follows scan state text → IsScanned scan.bytes text
       → row.found ≡ finds (string_bytes scan.pattern) text
 
 -- There is a row for each state, and the first state is that of the empty text.
@@ -111,11 +112,12 @@ number_of automaton text = number_in automaton.rows.items automaton.classes.item
 unfoldable pub class_of : PatternAutomaton → ℕ → ℕ
 class_of automaton b = slice_index automaton.classes.items b
 
--- The automaton reads only texts of ASCII.
+-- The bytes that a text may have, so that the automaton reads it.
 -- Source: own choice.
--- Example: the automaton of `\bdb` does. For other texts, this pattern has none.
-unfoldable pub is_ascii : PatternAutomaton → Bool
-is_ascii automaton = automaton.ascii
+-- Example: the automaton of `\bdb` reads bytes of ASCII alone. With other bytes, this pattern has
+-- none.
+unfoldable pub scanned_bytes : PatternAutomaton → ByteSet
+scanned_bytes automaton = automaton.bytes
 
 -- The text of the pattern, without the anchors.
 -- Source: own choice.

@@ -5,5 +5,6 @@ pub mod Arrivals
 pub mod Scan
 pub mod Numbers
 pub mod Automaton
+pub mod Characters
 pub mod WildcardPlaces
 pub mod WildcardStates

@@ -7,6 +7,7 @@ use Rattle.regex_nfa.specs.declared.nfa.Nfa.{Nfa}
 use Rattle.am_scan.specs.Sight.{kind_beside, IsScanned}
 use Rattle.am_labels.specs.PatternView.{start_at}
 use Rattle.am_scan.specs.Closure.{leads_on, contains}
+use Rattle.am_scan.specs.declared.byte_set.ByteSet.{ByteSet}
 use Rattle.am_scan.specs.declared.sight.Sight.{Sight}
 use Rattle.am_scan.specs.declared.pattern_scan.PatternScan.{PatternScan}
 use Rattle.am_scan.specs.declared.pattern_state.PatternState.{PatternState}
@@ -16,13 +17,13 @@ use Rattle.am_scan.specs.declared.pattern_state.PatternState.{PatternState}
 -- byte; and whether a match begins at a character after the first byte.
 -- Source: own choice.
 -- Example: the empty text has no first byte, no state reads on, and no match begins later.
-pub record FollowsText (nfa : Nfa) (sight : Sight) (ascii : Bool) (first : Option ℕ)
+pub record FollowsText (nfa : Nfa) (sight : Sight) (bytes : ByteSet) (first : Option ℕ)
     (starts : Bool) (reads : ℕ → Bool) (later : Bool) (text : List ℕ) : Type 0 where
   pub kind : first ≡ kind_beside sight (slice_get text 0)
   pub boundary : starts ≡ is_boundary text 0
-  pub each : (hay : List ℕ) (i : ℕ) → IsScanned ascii hay → drop i hay ≡ text
+  pub each : (hay : List ℕ) (i : ℕ) → IsScanned bytes hay → drop i hay ≡ text
       → (q : ℕ) → q < vec_len nfa.states → reads q ≡ leads_on nfa hay q i
-  pub others : (hay : List ℕ) (i : ℕ) → IsScanned ascii hay → drop i hay ≡ text
+  pub others : (hay : List ℕ) (i : ℕ) → IsScanned bytes hay → drop i hay ≡ text
       → later ≡ is_some (first_from (start_at nfa hay) (length text) (i + 1))
 
 -- A state follows a text: it is the state of the text, for a pattern.
@@ -30,5 +31,5 @@ pub record FollowsText (nfa : Nfa) (sight : Sight) (ascii : Bool) (first : Optio
 -- Example: the state with which a scan begins follows the empty text.
 unfoldable pub Follows : PatternScan → PatternState → List ℕ → Type 0
 Follows scan state text =
-    FollowsText scan.nfa scan.sight scan.ascii state.first state.starts
+    FollowsText scan.nfa scan.sight scan.bytes state.first state.starts
     (contains state.reads.items) state.later text

@@ -1,6 +1,6 @@
 -- What the assertions of a pattern see of the bytes beside them, and the texts that are scanned.
-use Rattle.std.specs.Prelude.{ℕ, Bool, true, ◌&&◌, ◌||◌, List, Option, option_map}
-use Rattle.std.specs.Prelude.{if◌then◌else◌, ◌==◌, nat_lt, IsTrue}
+use Rattle.std.specs.Prelude.{ℕ, Bool, true, false, ◌&&◌, ◌||◌, List, Option, option_map}
+use Rattle.std.specs.Prelude.{if◌then◌else◌, ◌==◌, nat_lt, slice_index_or, IsTrue}
 use Rattle.std.specs.List.{list_all}
 use Rattle.ucd_perl.specs.Perl.{is_word_byte}
 use Rattle.regex_hir.specs.declared.look.Look as look
@@ -8,19 +8,20 @@ use Rattle.regex_hir.specs.declared.look.Look.TheVariants.{Start, End, StartLf, 
 use Rattle.regex_hir.specs.declared.look.Look.TheVariants.{StartCrlf, EndCrlf}
 use Rattle.regex_nfa.specs.declared.state.State.{State}
 use Rattle.regex_nfa.specs.declared.state.State.TheVariants.{Look}
+use Rattle.am_scan.specs.declared.byte_set.ByteSet.{ByteSet}
 use Rattle.am_scan.specs.declared.sight.Sight.{Sight}
 
--- A byte is scanned: if `ascii`, only the bytes of ASCII are, and else every byte is.
--- Source: RFC 20, section 4: ASCII has the codes below 128.
--- Example: the bytes of `é` are scanned in all texts, but not in texts of ASCII.
-abbrev pub is_scanned : Bool → ℕ → Bool
-is_scanned ascii b = nat_lt b (if ascii then 128 else 256)
+-- A byte is scanned if it is in a set of bytes.
+-- Source: own choice.
+-- Example: if only the bytes of ASCII are in the set, those of `é` are not scanned.
+abbrev pub is_scanned : ByteSet → ℕ → Bool
+is_scanned bytes b = nat_lt b 256 && slice_index_or bytes.marks b false
 
 -- A text is scanned if its bytes are.
 -- Source: own choice.
--- Example: if only texts of ASCII are scanned, `e` is, and `é` is not.
-abbrev pub IsScanned : Bool → List ℕ → Type 0
-IsScanned ascii text = IsTrue (list_all (is_scanned ascii) text)
+-- Example: if only the bytes of ASCII are scanned, the text `e` is, and `é` is not.
+abbrev pub IsScanned : ByteSet → List ℕ → Type 0
+IsScanned bytes text = IsTrue (list_all (is_scanned bytes) text)
 
 -- The kind of a byte. If lines are seen, a line feed and a carriage return are each a kind of their
 -- own. If words are seen, letters, digits and `_` are of the kind `a`. All other bytes are of the

@@ -60,11 +60,11 @@ fn class_of(
 ) -> Result<Option<u8>, AllocError>
     ensures grows { Grows columns.old.items columns.new.items }
     ensures class { IfOk result (λ found. IfSome found (λ class.
-        is_scanned scan.now.ascii byte ≡ true → (column : Column)
+        is_scanned scan.now.bytes byte ≡ true → (column : Column)
         × (slice_get columns.new.items class ≡ Some column)
         × IsColumn scan.now.nfa scan.now.sight byte column)) }
 {
-    if !is_scanned(scan.ascii, byte) {
+    if !scan.bytes.has(byte) {
         return Ok(Some(0));
     }
     let column = Column::of(alloc, &scan.nfa, scan.sight, byte)?;
@@ -91,11 +91,4 @@ fn place_of(columns: &mut Vec<Column>, column: Column) -> Result<usize, AllocErr
     let place = columns.len();
     columns.push(column)?;
     Ok(place)
-}
-
-/// Whether a byte is scanned. If `ascii`, only the bytes of ASCII are, and else every byte is.
-fn is_scanned(ascii: bool, byte: u8) -> bool
-    ensures { result ≡ is_scanned ascii byte }
-{
-    !ascii || byte.is_ascii()
 }

@@ -9,6 +9,16 @@
 // The limits of patterns.
 pub mod limits;
 
+// Which bytes texts may have.
+mod byte_set;
+
+pub use byte_set::ByteSet;
+
+// Which characters patterns can tell apart.
+mod character_sets;
+
+pub use character_sets::CharacterSets;
+
 // What the assertions of a pattern see of bytes, and how the whole pattern treats them.
 mod arrivals;
 mod column;

@@ -13,7 +13,7 @@
 //!
 //! A pattern with wildcards alone, such as `db.*|web`, is followed without the engine. Its table is
 //! refused only if the pattern has too many states.
-ghost use Rattle.std.specs.Prelude.{◌≡◌, ℕ, ◌∷◌, [], List, true, IfOk, IfSome, IfNone};
+ghost use Rattle.std.specs.Prelude.{◌≡◌, ◌↔◌, ℕ, ◌∷◌, [], List, true, IfOk, IfSome, IfNone};
 ghost use Rattle.std.specs.Prelude.{IsTrue, IsUtf8, slice_index, string_bytes};
 ghost use Rattle.am_labels.specs.Pattern.{finds};
 ghost use Rattle.am_labels.specs.Wildcards.{is_wildcards, wildcards_state};
@@ -21,6 +21,7 @@ ghost use Rattle.am_scan.specs.Sight.{IsScanned};
 ghost use Rattle.am_scan.specs.Numbers.{number_in, found_in};
 ghost use Rattle.am_scan.specs.WildcardStates.{HasManyStates};
 
+use crate::byte_set::ByteSet;
 use crate::columns::Columns;
 use crate::exploration::explored;
 use crate::pattern_scan::PatternScan;
@@ -36,13 +37,13 @@ use std::alloc::{AllocError, Global};
 #[derive(Drop)]
 pub struct PatternAutomaton {
     pattern: String,
-    /// Whether only texts of ASCII are read.
-    ascii: bool,
+    /// The bytes that texts may have.
+    bytes: ByteSet,
     /// The class of each byte; past the end it is 0. Bytes of one class lead to the same numbers.
     classes: Vec<u8>,
     /// For each number, the row of its texts.
     rows: Vec<Row>,
-    ghost exact: { (text : List ℕ) → IsScanned ascii text → IsUtf8 text
+    ghost exact: { (text : List ℕ) → IsScanned bytes text → IsUtf8 text
         → found_in rows.items (number_in rows.items classes.items text)
         ≡ finds (string_bytes pattern) text },
     ghost by_state: { is_wildcards (string_bytes pattern) ≡ true → (x y : List ℕ)
@@ -51,30 +52,29 @@ pub struct PatternAutomaton {
 }
 
 impl PatternAutomaton {
-    ghost use Rattle.am_scan.specs.Automaton.{number_of, class_of, is_ascii, pattern_of};
+    ghost use Rattle.am_scan.specs.Automaton.{number_of, class_of, scanned_bytes, pattern_of};
 
-    /// Makes the automaton of a pattern, for texts of ASCII alone if `ascii`, and else for any
-    /// text. Returns `None` if there is none: the engine's grammar does not read the pattern; the
-    /// pattern or its automaton is too large; or the pattern asks whether a word begins or ends, as
-    /// `\b` does, in texts that may have other characters than those of ASCII. A pattern with
-    /// wildcards alone has an automaton unless it has too many states. Fails only if memory runs
-    /// out.
+    /// Makes the automaton of a pattern, for texts that have only these bytes. Returns `None` if
+    /// there is none: the engine's grammar does not read the pattern; the pattern or its automaton
+    /// is too large; or the pattern asks whether a word begins or ends, as `\b` does, in texts that
+    /// may have other characters than those of ASCII. A pattern with wildcards alone has an
+    /// automaton unless it has too many states. Fails only if memory runs out.
     pub fn of(
         alloc: Global,
         pattern: &str,
-        ascii: bool,
+        bytes: ByteSet,
     ) -> Result<Option<PatternAutomaton>, AllocError>
         ensures pattern { IfOk result (λ found. IfSome found
             (λ automaton. pattern_of automaton ≡ pattern.now)) }
-        ensures ascii { IfOk result (λ found. IfSome found
-            (λ automaton. is_ascii automaton ≡ ascii)) }
+        ensures bytes { IfOk result (λ found. IfSome found
+            (λ automaton. scanned_bytes automaton ≡ bytes)) }
         ensures none { IfOk result (λ found. IfNone found
             (is_wildcards pattern.now ≡ true → HasManyStates pattern.now)) }
     {
         if is_wildcards(alloc, pattern)? {
-            return PatternAutomaton::of_wildcards(alloc, pattern, ascii);
+            return PatternAutomaton::of_wildcards(alloc, pattern, bytes);
         }
-        let Some(scan) = PatternScan::of(alloc, pattern, ascii)? else {
+        let Some(scan) = PatternScan::of(alloc, pattern, bytes)? else {
             return Ok(None);
         };
         let Some(columns) = Columns::of(alloc, &scan)? else {
@@ -85,7 +85,7 @@ impl PatternAutomaton {
         };
         Ok(Some(PatternAutomaton {
             pattern: scan.pattern,
-            ascii,
+            bytes,
             classes: columns.classes,
             rows,
         }))
@@ -93,17 +93,17 @@ impl PatternAutomaton {
 
     /// Makes the automaton of a pattern with wildcards alone. Returns `None` if it has too many
     /// states.
-    #[tactic(auto, unfolding(crate::specs::Automaton::pattern_of, crate::specs::Automaton::is_ascii))]
+    #[tactic(auto, unfolding(crate::specs::Automaton::pattern_of, crate::specs::Automaton::scanned_bytes))]
     fn of_wildcards(
         alloc: Global,
         pattern: &str,
-        ascii: bool,
+        bytes: ByteSet,
     ) -> Result<Option<PatternAutomaton>, AllocError>
         requires { is_wildcards pattern.now ≡ true }
         ensures pattern { IfOk result (λ found. IfSome found
             (λ automaton. pattern_of automaton ≡ pattern.now)) }
-        ensures ascii { IfOk result (λ found. IfSome found
-            (λ automaton. is_ascii automaton ≡ ascii)) }
+        ensures bytes { IfOk result (λ found. IfSome found
+            (λ automaton. scanned_bytes automaton ≡ bytes)) }
         ensures none { IfOk result (λ found. IfNone found (HasManyStates pattern.now)) }
     {
         let places = places_of(alloc, pattern)?;
@@ -115,10 +115,18 @@ impl PatternAutomaton {
         let pattern = String::from_str(alloc, pattern)?;
         Ok(Some(PatternAutomaton {
             pattern,
-            ascii,
+            bytes,
             classes: alphabet.classes,
             rows,
         }))
+    }
+
+    /// Whether the automaton reads a text: the text has only the bytes that texts may have.
+    #[tactic(auto, unfolding(crate::specs::Automaton::scanned_bytes))]
+    pub fn reads(&self, text: &str) -> bool
+        ensures { IsTrue result ↔ IsScanned (scanned_bytes self.now) text.now }
+    {
+        self.bytes.has_all(text)
     }
 
     /// Returns the number of the empty text.
@@ -147,10 +155,10 @@ impl PatternAutomaton {
 
     /// Whether the pattern finds a text in UTF-8 that the automaton reads, by its number, which
     /// must come from this automaton. For any other number nothing is promised.
-    #[tactic(auto, using(std::proofs::lemmas::Option::slice_get_read, std::proofs::lemmas::Option::slice_get_past), unfolding(crate::specs::Automaton::number_of, crate::specs::Automaton::is_ascii, crate::specs::Automaton::pattern_of))]
+    #[tactic(auto, using(std::proofs::lemmas::Option::slice_get_read, std::proofs::lemmas::Option::slice_get_past), unfolding(crate::specs::Automaton::number_of, crate::specs::Automaton::scanned_bytes, crate::specs::Automaton::pattern_of))]
     pub fn finds(&self, number: u32) -> bool
         ensures { (text : List ℕ) → number ≡ number_of self.now text
-            → IsScanned (is_ascii self.now) text → IsUtf8 text
+            → IsScanned (scanned_bytes self.now) text → IsUtf8 text
             → result ≡ finds (pattern_of self.now) text }
     {
         match self.rows.get(number as usize) {

@@ -4,12 +4,13 @@ ghost use Rattle.std.specs.Prelude.{string_bytes};
 ghost use Rattle.std.specs.List.{list_all};
 ghost use Rattle.regex_nfa.specs.Run.{state_of};
 ghost use Rattle.am_labels.specs.Pattern.{finds};
-ghost use Rattle.am_scan.specs.Sight.{sees_state, IsScanned};
+ghost use Rattle.am_scan.specs.Sight.{is_scanned, sees_state, IsScanned};
 ghost use Rattle.am_labels.specs.PatternView.{IsSearchFor};
 ghost use Rattle.am_scan.specs.Closure.{IsClosed, AcceptsReads, accepts, contains};
 ghost use Rattle.am_scan.specs.Closure.{reads_byte};
 
 use crate::arrivals::sources;
+use crate::byte_set::ByteSet;
 use crate::columns::Columns;
 use crate::limits::{MAX_STATES, MAX_TABLE_BYTES};
 use crate::pattern_state::PatternState;
@@ -23,8 +24,8 @@ use std::alloc::{AllocError, Global};
 #[derive(Drop)]
 pub(crate) struct PatternScan {
     pub(crate) pattern: String,
-    /// Whether only texts of ASCII are scanned.
-    pub(crate) ascii: bool,
+    /// The bytes that scanned texts may have.
+    pub(crate) bytes: ByteSet,
     pub(crate) nfa: Nfa,
     /// What the assertions of the pattern see.
     pub(crate) sight: Sight,
@@ -32,7 +33,7 @@ pub(crate) struct PatternScan {
     idle: Vec<StateId>,
     ghost faithful: { IsSearchFor nfa (string_bytes pattern) },
     ghost seen: { list_all (sees_state sight) nfa.states.items ≡ true },
-    ghost words_in_ascii: { sight.words ≡ true → ascii ≡ true },
+    ghost words_in_ascii: { sight.words ≡ true → (b : ℕ) → is_scanned bytes b ≡ true → b < 128 },
     ghost idle_alone: { All (λ q. (q < vec_len nfa.states)
         × (reads_byte (state_of nfa q) ≡ false)) idle.items },
     ghost all_idle: { (q : ℕ) → q < vec_len nfa.states
@@ -44,18 +45,18 @@ impl PatternScan {
     ghost use Rattle.am_scan.specs.Scan.{Follows};
     ghost use Rattle.am_scan.specs.Automaton.{AreNext, AreSteps, IsIndexed};
 
-    /// Compiles a pattern, to scan only texts of ASCII if `ascii`, and else any text. Returns
-    /// `None` if the pattern cannot be followed: the engine's grammar does not read it, it is too
-    /// large, or it asks whether a word begins or ends (as `\b` does) in texts that may have other
-    /// characters than those of ASCII. Fails only if memory runs out.
+    /// Compiles a pattern, to scan texts that have only these bytes. Returns `None` if the pattern
+    /// cannot be followed: the engine's grammar does not read it, it is too large, or it asks
+    /// whether a word begins or ends (as `\b` does) in texts that may have other characters than
+    /// those of ASCII. Fails only if memory runs out.
     pub(crate) fn of(
         alloc: Global,
         pattern: &str,
-        ascii: bool,
+        bytes: ByteSet,
     ) -> Result<Option<PatternScan>, AllocError>
         ensures pattern { IfOk result (λ found. IfSome found
             (λ scan. string_bytes scan.pattern ≡ pattern.now)) }
-        ensures ascii { IfOk result (λ found. IfSome found (λ scan. scan.ascii ≡ ascii)) }
+        ensures bytes { IfOk result (λ found. IfSome found (λ scan. scan.bytes ≡ bytes)) }
     {
         let Some(nfa) = compile_pattern(alloc, pattern, MAX_TABLE_BYTES)? else {
             return Ok(None);
@@ -64,14 +65,14 @@ impl PatternScan {
         if nfa.states.len() > MAX_STATES || !sight.sees_all(nfa.states.as_slice()) {
             return Ok(None);
         }
-        if sight.words && !ascii {
+        if sight.words && !bytes.is_ascii() {
             return Ok(None);
         }
         let idle = idle_states(alloc, &nfa)?;
         let pattern = String::from_str(alloc, pattern)?;
         Ok(Some(PatternScan {
             pattern,
-            ascii,
+            bytes,
             nfa,
             sight,
             idle,
@@ -173,7 +174,7 @@ impl PatternScan {
         state: &PatternState,
     ) -> Result<Option<bool>, AllocError>
         ensures { IfOk result (λ found. IfSome found (λ answer. (text : List ℕ)
-            → Follows self.now state.now text → IsScanned self.now.ascii text
+            → Follows self.now state.now text → IsScanned self.now.bytes text
             → answer ≡ finds (string_bytes self.now.pattern) text)) }
     {
         let Some(accepted) = self.closure(alloc, state, None)? else {

@@ -1,9 +1,6 @@
-use Rattle.std.proofs.Common.{◌≡◌, length}
+use Rattle.std.proofs.Common.{take}
 use Rattle.am_classes.specs.Automata.{AreClasses}
 use Rattle.am_classes.proofs.automata.byte_classes.Given as goal
 
-abbrev pub invariant-loop-byte : goal.invariant-loop-byte
-invariant-loop-byte l = record {
-  count : length l.classes.items ≡ l.byte;
-  each : AreClasses l.automata l.classes.items;
-}
+abbrev pub invariant-loop-automaton : goal.invariant-loop-automaton
+invariant-loop-automaton l = AreClasses (take l.automaton-index l.automata) l.classes

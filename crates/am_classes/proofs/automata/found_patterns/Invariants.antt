@@ -6,4 +6,4 @@ use Rattle.am_classes.proofs.automata.found_patterns.Given as goal
 abbrev pub invariant-loop-i : goal.invariant-loop-i
 invariant-loop-i l =
     (text : List ℕ) → l.numbers ≡ numbers_of l.automata text → AreScanned l.automata text
-    → IsUtf8 text → l.answers.items ≡ found_by (take l.i l.automata) text
+    → IsUtf8 text → l.found.items ≡ found_by (take l.i l.automata) text

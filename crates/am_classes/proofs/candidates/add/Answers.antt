@@ -1,4 +1,4 @@
-use Rattle.std.proofs.Common.{◌≡◌, ◌<◌, Some, slice_get, length, string_bytes, inl, inr, refl, sym, ap, ◌∙◌, subst, arith}
+use Rattle.std.proofs.Common.{◌≡◌, Some, slice_get, length, string_bytes, inl, inr, sym, ap, ◌∙◌, subst, arith}
 use Rattle.std.specs.Str.{IsUtf8}
 use Rattle.std.proofs.lemmas.Bool.{cases_lt}
 use Rattle.am_classes.specs.declared.candidate.Candidate.{Candidate}
@@ -61,7 +61,7 @@ returns-clause-distinct c =
           let named' = (c.names_followed.ensures c.args.item.now.text.items c.requires.follows).1 (subst (IsNamed q) bytes named) in
           let missed = c.if-names_followed.false in
           absurd cc;
-      over = followed_over q.alphabet q c.args.item.now.state c.in_ok-text.text refl
+      over = followed_over q c.args.item.now.state c.in_ok-text.text
           (subst (FollowsLabel q c.args.item.now.state) (sym bytes) c.requires.follows);
     } in
     subst (AreApartCandidates q) (sym c.in_ok-push.ensures.items) (apart_pushed q c.args.candidates.now.items x c.requires.distinct own (new here))
@@ -77,12 +77,6 @@ returns-clause-shortest c = λ old shorter.
           absurd (new here (has.0, has.1, has.2, has.3 ∙ same))
       | inr long ↦ omega (arith, long, ap length (bytes here))
     ])
-
-pub returns-clause-short : goal.returns-clause-short
-returns-clause-short c = λ n below old.
-    let here = (goal.at.returns-clause-short c).After-push in
-    each_more (λ x. length (string_bytes x.text) < n) c.args.candidates.now.items c.push.new.self.items _ c.in_ok-push.ensures.items old
-    (omega (arith, below, ap length (bytes here)))
 
 pub returns-clause-grows : goal.returns-clause-grows
 returns-clause-grows c =

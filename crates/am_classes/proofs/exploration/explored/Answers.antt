@@ -46,7 +46,7 @@ returns-in_default-clause-all c = λ _.
     let done = c.loop-at.invariant.done in record {
       distinct = c.loop-at.invariant.distinct;
       all = λ text over unnamed.
-          elim (represented c.args.questions.now listed c.loop-at.at c.loop-at.items.items
+          elim (represented c.args.questions.now listed c.loop-at.at c.loop-at.items.items c.requires
           (record { first = c.loop-at.invariant.first; leads = λ k byte item below at. (done k item below at).0 byte })
           (λ k item below at. (done k item below at).1) text over unnamed) [
             | inl has ↦ has
@@ -66,7 +66,7 @@ shortest c =
     let done = c.loop-at.invariant.done in
     c.add.ensures.shortest c.loop-at.invariant.shortest
     (λ text over unnamed short.
-    elim (represented c.args.questions.now listed c.loop-at.at c.loop-at.items.items
+    elim (represented c.args.questions.now listed c.loop-at.at c.loop-at.items.items c.requires
     (record { first = c.loop-at.invariant.first; leads = λ k byte item below at. (done k item below at).0 byte })
     (λ k item below at. (done k item below at).1) text over unnamed) [
       | inl has ↦ has

@@ -28,14 +28,14 @@ loop-text-preserved c = λ ms tested wanted.
     let before = map string_bytes c.loop-text.texts.items in
     let parts = all_pushed _ c.loop-text.yielded text wanted in
     let so_far = c.loop-text.invariant ms tested parts.0 in
-    let none = sym (so_far.0 text.truths)
+    let none = sym (so_far.0 text.hits)
     ∙ not-true _ (sym c.in_ok-is_new.ensures.added ∙ c.if-not-is_new.false) in
     simp (c.in_ok-push.ensures.items, map-append) (
       subst (AreSeen ms c.insert.new.self) (append_assoc there before (x ∷ []))
-          (λ found. seen_more ms (there ++ before) x text.truths parts.1 found _ _ (so_far.0 found)
+          (λ found. seen_more ms (there ++ before) x text.hits parts.1 found _ _ (so_far.0 found)
           (c.in_ok-is_new.ensures.updates.0 found)),
       one_new ms there (texts_of c.loop-text.yielded) before x so_far.1
-          (none_alike ms (there ++ before) x text.truths parts.1 none),
+          (none_alike ms (there ++ before) x text.hits parts.1 none),
     )
 
 pub loop-text-preserved-then-not-is_new : goal.loop-text-preserved-then-not-is_new
@@ -47,11 +47,11 @@ loop-text-preserved-then-not-is_new c = λ ms tested wanted.
     let parts = all_pushed _ c.loop-text.yielded text wanted in
     let so_far = c.loop-text.invariant ms tested parts.0 in
     let added = c.in_ok-is_new.ensures.added in
-    let some = sym (so_far.0 text.truths) ∙ not-false _ (sym added ∙ c.if-not-is_new.true) in (
+    let some = sym (so_far.0 text.hits) ∙ not-false _ (sym added ∙ c.if-not-is_new.true) in (
       λ found. ap (list_any _) (OnFalse_at c.if-not-is_new.true c.in_ok-is_new.ensures.unchanged)
           ∙ so_far.0 found,
       simp map-append (one_old ms there (texts_of c.loop-text.yielded) before x so_far.1
-          (alike_there ms (there ++ before) x text.truths parts.1 some)),
+          (alike_there ms (there ++ before) x text.hits parts.1 some)),
     )
 
 pub returns : goal.returns

@@ -4,7 +4,7 @@ use Rattle.am_classes.specs.Truths.{AreTested, AreNewIn, texts_of}
 use Rattle.am_classes.proofs.TestedTexts.{AreSeen}
 use Rattle.am_classes.proofs.tested.new_texts.Given as goal
 
--- the truths that were seen are those on the texts that are there and the new ones so far
+-- the hits that were seen are those of the texts that are there and the new ones so far
 abbrev pub invariant-loop-text : goal.invariant-loop-text
 invariant-loop-text l =
     let there = texts_of l.fn.there.items in

@@ -3,10 +3,9 @@ use Rattle.am_complete.proofs.NeededTexts.{all_from}
 use Rattle.am_complete.proofs.representatives.representatives.Goals as goal
 
 pub returns-clause-classes : goal.returns-clause-classes
-returns-clause-classes c =
-    let all = c.args.classes.all in
+returns-clause-classes c = λ all is classes.
     c.put_in_order.ensures.classes c.args.alphabet c.args.label.now.matchers all
-    (c.in_ok-chosen.ensures.classes all c.requires)
+    (c.in_ok-chosen.ensures.classes all is classes)
 
 pub returns-clause-from : goal.returns-clause-from
 returns-clause-from c =

@@ -5,12 +5,17 @@ use Rattle.am_complete.specs.Covering.{AreClasses}
 use Rattle.std.specs.List.{AllByRecursion}
 use Rattle.std.specs.Option.{option_map_or}
 use Rattle.am_classes.specs.declared.tested.Tested.{Tested}
-use Rattle.am_classes.specs.Truths.{AreTested}
 use Rattle.am_complete.specs.Chosen.{AreChosenEach}
 use Rattle.am_complete.specs.Representatives.{GainsOnly, IsUsual}
 use Rattle.am_complete.proofs.ChosenTexts.{classes_chosen}
-use Rattle.am_complete.proofs.RepresentativeTexts.{chosen_gained}
+use Rattle.am_complete.proofs.RepresentativeTexts.{chosen_gained, none_gained}
 use Rattle.am_complete.proofs.representatives.usual_where_alike.Goals as goal
+
+pub returns-then-len-gt-MAX_VALUES-clause-classes : goal.returns-then-len-gt-MAX_VALUES-clause-classes
+returns-then-len-gt-MAX_VALUES-clause-classes c = λ all is classes. classes
+
+pub returns-then-len-gt-MAX_VALUES-clause-from : goal.returns-then-len-gt-MAX_VALUES-clause-from
+returns-then-len-gt-MAX_VALUES-clause-from c = none_gained _ (map string_bytes c.args.texts.items)
 
 pub returns-clause-classes : goal.returns-clause-classes
 returns-clause-classes c =
@@ -18,12 +23,9 @@ returns-clause-classes c =
     let ms = c.args.label.now.matchers in
     let usual = c.in_ok-usual-2.usual.items in
     let wanted = c.in_ok-wanted.wanted.items in
-    IfOk-weaker c.chosen_texts.result _ _ (λ chosen each all classes.
+    IfOk-weaker c.chosen_texts.result _ _ (λ chosen each all is classes.
     classes_chosen a ms usual wanted (map string_bytes chosen.items)
-    (subst (λ ns. AreTested ns usual) c.matchers-matchers.ensures.matchers
-    c.in_ok-usual-2.ensures.truths)
-    (subst (λ ns. AreTested ns wanted) c.matchers-matchers.ensures.matchers
-    c.in_ok-wanted.ensures.truths)
+    (c.in_ok-usual-2.ensures.tested ms is) (c.in_ok-wanted.ensures.tested ms is)
     (subst (AreOver a) (sym c.in_ok-usual-2.ensures.texts) c.in_ok-usual.ensures.over)
     (subst (λ (ws : List Tested). AreChosenEach usual ws (map string_bytes chosen.items))
     c.as_slice-2.ensures.value

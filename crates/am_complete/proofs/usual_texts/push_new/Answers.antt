@@ -25,5 +25,5 @@ returns-in_ok-push c =
     subst (GainsOnly _ (map string_bytes old)) (sym texts)
     (one_gained _ (map string_bytes old) (string_bytes copy) (over, c.in_ok-from_str.ensures.ok))
 
-pub returns-else-has : goal.returns-else-has
-returns-else-has c = none_gained _ (map string_bytes c.args.texts.now.items)
+pub returns-else-len-lt-MAX_VALUES : goal.returns-else-len-lt-MAX_VALUES
+returns-else-len-lt-MAX_VALUES c = none_gained _ (map string_bytes c.args.texts.now.items)

@@ -2,8 +2,7 @@ use Rattle.std.proofs.Common.{◌≡◌, ◌∷◌, [], List, option_copied, map
 use Rattle.std.specs.Prelude.{position}
 use Rattle.std.specs.List.{AllByRecursion}
 use Rattle.std.specs.Cmp.Lexicographic.{bytes_decides}
-use Rattle.am_labels.specs.Matcher.{Matcher}
-use Rattle.am_classes.specs.Truths.{AreTested, are_same, texts_of}
+use Rattle.am_classes.specs.Truths.{are_same, texts_of}
 use Rattle.am_rule_outcomes.specs.Narrowing.{alike_position}
 use Rattle.am_rule_outcomes.proofs.LabelTexts.{IsKnown, known_position, known_more}
 use Rattle.am_rule_outcomes.proofs.LabelTexts.{first_position, the_text}
@@ -22,18 +21,17 @@ returns-clause-position c = λ ms label is.
     let texts : texts_of all ≡ c.args.text.now ∷ [] =
     c.in_ok-tested.ensures.texts ∙ ap (map string_bytes) c.in_ok-wanted.ensures.items
     ∙ (λ i. c.in_ok-from_str.ensures.ok i ∷ []) in
-    let tested = subst (λ (ms : List Matcher). AreTested ms all) (ap (map (λ m. m.now)) c.as_slice.ensures.value ∙ is.matchers)
-    c.in_ok-tested.ensures.truths in
-    let one = the_text ms all w c.args.text.now texts tested c.index.ensures in
+    let one = the_text ms all w c.args.text.now texts (c.in_ok-tested.ensures.tested ms is.tests)
+    c.index.ensures in
     c.first_alike-position.ensures
-    ∙ ap (position (λ t. are_same t.truths w.truths)) c.as_slice-2.ensures.value
+    ∙ ap (position (λ t. are_same t.hits w.hits)) c.as_slice.ensures.value
     ∙ first_position ms c.args.self.now.texts.items w c.args.text.now label is.tested
-    one.truths_are is.are
+    one.hits_are is.are
 
 pub returns-clause-same : goal.returns-clause-same
 returns-clause-same c = λ ms label is. record {
   name = is.name;
-  matchers = is.matchers;
+  tests = is.tests;
   are = is.are;
   tested = is.tested;
   known = subst (AllByRecursion (IsKnown ms label)) (sym c.in_ok-insert.ensures.entries)

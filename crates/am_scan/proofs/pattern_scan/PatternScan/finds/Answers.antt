@@ -13,6 +13,6 @@ returns c = λ text follows scanned.
     let accepted = c.in-Some.accepted.items in
     c.matches_from.ensures
     ∙ ap (λ xs. state.later || (state.starts && slice_index_or xs scan.nfa.start false)) c.as_slice.ensures.value
-    ∙ finds_where_accepted scan.nfa scan.sight scan.ascii (record { all = scan.seen; words_in_ascii = scan.words_in_ascii })
+    ∙ finds_where_accepted scan.nfa scan.sight scan.bytes (record { all = scan.seen; words_in_ascii = scan.words_in_ascii })
     state.first state.starts (contains state.reads.items) state.later text follows accepted (string_bytes scan.pattern) scan.faithful
     (rw c.in-Some.is at c.in_ok-accepted.ensures) scanned

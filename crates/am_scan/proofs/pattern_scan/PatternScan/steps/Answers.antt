@@ -20,7 +20,7 @@ returns-clause-steps c = λ class column next at kind is byte text own follows.
     let later = is.later ∙ c.matches_from.ensures ∙ ap (λ xs. state.later || (state.starts && slice_index_or xs scan.nfa.start false)) slice in
     let closed : IsClosed scan.nfa state.first (Some c.args.kind) (contains state.reads.items) accepted = rw c.in-Some.is at c.in_ok-accepted.ensures in
     rw (is.first ∙ before, is.starts_is ∙ own.starts, later)
-    (FollowsText-step scan.nfa scan.sight scan.ascii (record { all = scan.seen; words_in_ascii = scan.words_in_ascii })
+    (FollowsText-step scan.nfa scan.sight scan.bytes (record { all = scan.seen; words_in_ascii = scan.words_in_ascii })
     state.first state.starts (contains state.reads.items) state.later text follows accepted byte (contains next.reads.items)
     (subst (λ o. IsClosed scan.nfa state.first o (contains state.reads.items) accepted) before closed)
     (λ q inside.

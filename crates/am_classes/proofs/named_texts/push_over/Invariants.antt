@@ -1,8 +1,0 @@
-use Rattle.std.proofs.Common.{List, ℕ, ◌++◌, map, take, filter, string_bytes}
-use Rattle.am_classes.specs.Alphabet.{is_over}
-use Rattle.am_classes.specs.Named.{AreEachOnce}
-use Rattle.am_classes.proofs.named_texts.push_over.Given as goal
-
-abbrev pub invariant-loop-text : goal.invariant-loop-text
-invariant-loop-text l = (wanted : List (List ℕ)) → AreEachOnce wanted (map string_bytes l.fn.texts.items)
-    → AreEachOnce (wanted ++ filter (is_over l.alphabet) (map (λ t. t.now) (take l.text-index l.named))) (map string_bytes l.texts.items)
