@@ -23,20 +23,21 @@ _amcover() {
         ;;
     esac
     if ((COMP_CWORD == 1)); then
-        options="lint where routes compare outcomes ask dead receivers explain alerts universe --help --version"
+        options="lint where routes compare explain alerts outcomes universe ask dead receivers help --help --version"
     else
         case ${COMP_WORDS[1]} in
-        lint) options="--config --rules --silences --alerts --at --universe --ascii --json --help" ;;
-        where) options="--config --rules --receiver --silences --at --universe --ascii --json --help" ;;
-        routes) options="--config --receiver --universe --ascii --json --help" ;;
-        compare) options="--old --new --rules --universe --ascii --json --help" ;;
-        outcomes) options="--config --universe --ascii --json --help" ;;
-        ask) options="--universe --config --silences --alerts --at --limit --steps --after --help" ;;
-        dead) options="--universe --config --help" ;;
-        receivers) options="--universe --config --help" ;;
-        explain) options="--config --silences --alerts --at --help" ;;
-        alerts) options="--config --alerts --silences --at --json --help" ;;
-        universe) options="--check --from --config --question --routes --ascii --silences --alerts --open --help" ;;
+        lint) options="--config --rules --silences --alerts --at --universe --ascii --json --notes --no-notes --help" ;;
+        where) options="--config --rules --receiver --silences --at --universe --ascii --json --notes --no-notes --help" ;;
+        routes) options="--config --receiver --universe --ascii --json --notes --no-notes --help" ;;
+        compare) options="--old --new --rules --universe --ascii --json --notes --no-notes --help" ;;
+        explain) options="--config --silences --alerts --at --notes --no-notes --help" ;;
+        alerts) options="--config --alerts --silences --at --json --notes --no-notes --help" ;;
+        outcomes) options="--config --universe --ascii --json --notes --no-notes --help" ;;
+        universe) options="--check --from --config --question --routes --ascii --silences --alerts --open --notes --no-notes --help" ;;
+        ask) options="--universe --config --silences --alerts --at --limit --steps --after --notes --no-notes --help" ;;
+        dead) options="--universe --config --notes --no-notes --help" ;;
+        receivers) options="--universe --config --notes --no-notes --help" ;;
+        help) ((COMP_CWORD == 2)) && options="lint where routes compare explain alerts outcomes universe ask dead receivers" ;;
         esac
     fi
     for it in $options; do

@@ -44,14 +44,16 @@ class Argument:
 
 
 class Command:
-    """A command: its name, what it is for, its help, and its arguments."""
+    """A command: its name, what it is for, its help, and its arguments. `offered` are its options and
+    those that every command takes."""
 
-    def __init__(self, name, about, help_text, arguments):
+    def __init__(self, name, about, help_text, arguments, of_each):
         self.name, self.about, self.help, self.arguments = name, about, help_text, arguments
         self.options = [it for it in arguments if it.name]
         self.words = [it for it in arguments if not it.name]
-        for option in self.options:
-            for other in [it for it in self.options if it.id in option.conflicts]:
+        self.offered = [*self.options, *of_each]
+        for option in self.offered:
+            for other in [it for it in self.offered if it.id in option.conflicts]:
                 option.excludes.add(other.name)
                 other.excludes.add(option.name)
 
@@ -73,8 +75,9 @@ class Program:
         if len(rows) + 1 != (reports + table).count(' name: "'):
             stop("a command of table.rt or reports.rt is not read")
         self.about, self.example = meant(about), meant(example)
+        of_each = re.search(r"const OF_EACH_COMMAND: .*? = \[\n(.*?)\];", options, re.S)
         self.commands = [
-            Command(name, meant(about), meant(help_text), self.taken(takes))
+            Command(name, meant(about), meant(help_text), self.taken(takes), self.taken(of_each[1]))
             for name, about, help_text, takes in rows
         ]
 

@@ -29,10 +29,11 @@ VALUES)
         ;;
     esac
     if ((COMP_CWORD == 1)); then
-        options="COMMANDS --help --version"
+        options="COMMANDS help --help --version"
     else
         case ${COMP_WORDS[1]} in
 OPTIONS
+        help) ((COMP_CWORD == 2)) && options="COMMANDS" ;;
         esac
     fi
     for it in $options; do
@@ -58,6 +59,7 @@ _amcover() {
     local -A opt_args
     commands=(
 COMMANDS
+        'help:Print the help of a command'
     )
     _arguments -C \\
         '(- *)'{-h,--help}'[Print help]' \\
@@ -71,6 +73,9 @@ COMMANDS
     arguments)
         case $words[1] in
 OPTIONS
+        help)
+            _describe -t commands command commands && ret=0
+            ;;
         esac
         ;;
     esac
@@ -98,18 +103,20 @@ complete -c amcover -f
 complete -c amcover -n '__amcover_is_at ""' -s h -l help -d 'Print help'
 complete -c amcover -n '__amcover_is_at ""' -s V -l version -d 'Print version'
 COMMANDS
+complete -c amcover -n '__amcover_is_at ""' -a help -d 'Print the help of a command'
+complete -c amcover -n '__amcover_is_at help' -a 'NAMES'
 OPTIONS
 """
 
 
 def bash(program):
-    options = [it for command in program.commands for it in command.options]
+    options = [it for command in program.commands for it in command.offered]
     repeated = {f"--{it.name}" for it in options if it.is_repeated}
     of_files = sorted({f"--{it.name}" for it in options if it.takes_file()})
     of_values = sorted({f"--{it.name}" for it in options if it.value} - set(of_files))
     cases = []
     for command in program.commands:
-        names = " ".join(f"--{it.name}" for it in command.options)
+        names = " ".join(f"--{it.name}" for it in command.offered)
         cases.append(f'        {command.name}) options="{names} --help" ;;')
     text = BASH.replace("OPTIONS", "\n".join(cases))
     text = text.replace("COMMANDS", " ".join(it.name for it in program.commands))
@@ -139,7 +146,7 @@ def zsh(program):
     names = [f"        '{it.name}:{zsh_text(it.about)}'" for it in program.commands]
     cases = []
     for command in program.commands:
-        lines = ["'(- *)'{-h,--help}'[Print help]'", *map(zsh_option, command.options)]
+        lines = ["'(- *)'{-h,--help}'[Print help]'", *map(zsh_option, command.offered)]
         lines += [zsh_word(i, it) for i, it in enumerate(command.words, 1)]
         text = " \\\n".join(f"                {it}" for it in lines) + " && ret=0"
         cases.append(f"        {command.name})\n            _arguments \\\n{text}\n            ;;")
@@ -166,7 +173,8 @@ def fish(program):
     ]
     lines = []
     for command in program.commands:
-        lines += [fish_option(command, it) for it in command.options]
+        lines += [fish_option(command, it) for it in command.offered]
         place = fish_text(f"__amcover_is_at {command.name}")
         lines.append(f"complete -c amcover -n {place} -s h -l help -d 'Print help'")
-    return FISH.replace("COMMANDS", "\n".join(names)).replace("OPTIONS", "\n".join(lines))
+    text = FISH.replace("NAMES", " ".join(it.name for it in program.commands))
+    return text.replace("COMMANDS", "\n".join(names)).replace("OPTIONS", "\n".join(lines))

@@ -7,6 +7,8 @@ TOKEN = re.compile("[ts]2:([0-9a-f]{32}):")
 # The options whose values are parts, in the order in which these are joined. The question is last.
 FILES = ["--universe", "--config", "--silences", "--alerts"]
 INSTANT = "--at"
+# The options that take no value.
+WITHOUT_VALUE = ["--notes", "--no-notes"]
 
 
 def joined(parts):
@@ -29,6 +31,8 @@ def options_of(words):
         word = rest.pop(0)
         if word == "--":
             return values, rest[0] if rest else question
+        if word in WITHOUT_VALUE:
+            continue
         if word.startswith("--"):
             name, sign, value = word.partition("=")
             values[name] = value if sign else rest.pop(0)

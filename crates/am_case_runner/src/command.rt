@@ -41,6 +41,8 @@ pub struct Command {
     pub status: Option<usize>,
     /// The notes that must end standard error, if the command is run as on a terminal.
     pub notes: Option<Vec<u8>>,
+    /// Whether the clock cannot be read.
+    pub clock_fails: bool,
 }
 
 /// What a run gave.
@@ -133,6 +135,7 @@ impl Command {
             stops: false,
             status: None,
             notes: None,
+            clock_fails: false,
         }
     }
 
@@ -150,6 +153,9 @@ impl Command {
         }
         let is_taken = if line == b"writer stops at each call".as_slice() {
             self.stops = true;
+            true
+        } else if line == b"clock fails".as_slice() {
+            self.clock_fails = true;
             true
         } else if let Some(words) = line.strip_prefix(b"writer ") {
             self.out.take_writer(words)

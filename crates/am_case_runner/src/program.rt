@@ -2,13 +2,13 @@
 
 use crate::problem::Problem;
 use std::io::Write;
-use std::rt::Files;
+use std::rt::{Clock, Files};
 
 /// A program whose command lines are cases.
 pub trait Program {
     /// Runs the program, with its name as the first word, and returns its exit status. If `notes`
     /// is set, it runs as on a terminal.
-    fn run<R: Files + AllocGlobal, W: Write + Drop, E: Write + Drop>(
+    fn run<R: Files + Input + Clock + AllocGlobal, W: Write + Drop, E: Write + Drop>(
         &self,
         files: &R,
         words: &[String],

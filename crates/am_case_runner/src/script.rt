@@ -181,6 +181,7 @@ impl<'a, 'r, R: Files + AllocGlobal, P: Program> Script<'a, 'r, R, P> {
                     program: self.program,
                     made: &[],
                     files: self.known.files.as_slice(),
+                    clock_fails: command.clock_fails,
                 };
                 let outcome = stage.check(&mut command);
                 tally.count(command.line, outcome)?;

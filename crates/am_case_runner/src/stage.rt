@@ -1,14 +1,20 @@
-//! A program and the files that it can read: those that a case makes, those that the file of cases
-//! defines, and otherwise those of the system.
+//! A program, the files that it can read, its standard input and its clock. The files are those
+//! that a case makes, those that the file of cases defines, and otherwise those of the system.
+
+ghost use Rattle.std.specs.Prelude.{◌≡◌, ◌+◌, IfOk, string_len};
 
 use crate::inserts::{Named, text_named};
 use std::alloc::{Allocator, Global};
 use std::fs::{Metadata, OpenFile, OpenOptions};
 use std::io;
-use std::io::{Cursor, ErrorKind, Read, Seek, SeekFrom, Write};
-use std::rt::Files;
+use std::io::{BufRead, Cursor, ErrorKind, Lines, Read, Seek, SeekFrom, Write};
+use std::rt::{Clock, Files};
+use std::time::Duration;
 
-/// A program, and the files that it can read.
+/// The clock's instant, 2024-05-01T10:30:00.000000001Z, in seconds and nanoseconds since 1970.
+const CLOCK: (u64, u32) = (1714559400, 1);
+
+/// A program, and what it can read: files, standard input and the clock.
 #[derive(Drop)]
 pub struct Stage<'s, R, P> {
     pub host: &'s R,
@@ -17,6 +23,8 @@ pub struct Stage<'s, R, P> {
     pub made: &'s [Named],
     /// The files that the file of cases defines.
     pub files: &'s [Named],
+    /// Whether the clock cannot be read.
+    pub clock_fails: bool,
 }
 
 /// An open file: one of the case, or one of the system.
@@ -24,6 +32,14 @@ pub struct Stage<'s, R, P> {
 pub enum Opened<'s, F> {
     Shown(Cursor<&'s [u8]>),
     Host(F),
+}
+
+impl<'s, R, P> Stage<'s, R, P> {
+    /// The bytes of a file of the case.
+    fn shown(&self, path: &str) -> Option<&'s [u8]> {
+        let name = path.as_bytes();
+        text_named(self.made, name).or(text_named(self.files, name))
+    }
 }
 
 fn unsupported<T>() -> io::Result<T> {
@@ -44,8 +60,7 @@ impl<'s, R: Files, P> Files for Stage<'s, R, P> {
     type Dir = R::Dir;
 
     fn open_file(&self, how: &OpenOptions, path: &str) -> io::Result<Opened<'s, R::File>> {
-        let name = path.as_bytes();
-        match text_named(self.made, name).or(text_named(self.files, name)) {
+        match self.shown(path) {
             Some(bytes) => Ok(Opened::Shown(Cursor::new(bytes))),
             None => Ok(Opened::Host(self.host.open_file(how, path)?)),
         }
@@ -85,6 +100,39 @@ impl<'s, R: Files, P> Files for Stage<'s, R, P> {
 
     fn remove_dir_all<B: Allocator>(&self, _alloc: B, _path: &str) -> io::Result<()> {
         unsupported()
+    }
+}
+
+/// Standard input is the file `-` of the case, or empty.
+impl<'s, R: Files, P> Input for Stage<'s, R, P> {
+    type Reader = Cursor<&'s [u8]>;
+
+    fn read_line<A: Allocator + Clone>(&self, buf: &mut String<A>) -> io::Result<usize>
+        ensures ok { IfOk result (λ n. string_len buf.new ≡ string_len buf.old + n) }
+    {
+        self.reader().read_line(buf)
+    }
+
+    fn lines<A: Allocator>(&self, alloc: A) -> Lines<Cursor<&'s [u8]>, A> {
+        self.reader().lines(alloc)
+    }
+
+    fn reader(&self) -> Cursor<&'s [u8]> {
+        Cursor::new(self.shown("-").unwrap_or(b""))
+    }
+}
+
+impl<'s, R: Files, P> Clock for Stage<'s, R, P> {
+    fn monotonic(&self) -> io::Result<Duration> {
+        unsupported()
+    }
+
+    fn since_1970(&self) -> io::Result<Duration> {
+        if self.clock_fails {
+            return unsupported();
+        }
+        let (seconds, nanoseconds) = CLOCK;
+        Ok(Duration::new(seconds, nanoseconds))
     }
 }
 

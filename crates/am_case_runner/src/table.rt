@@ -194,6 +194,7 @@ impl<'s, R: Files + AllocGlobal, P: Program> Ground<'s, R, P> {
             program: self.program,
             made: made.as_slice(),
             files: self.known.files.as_slice(),
+            clock_fails: false,
         };
         let words = heading.completed(alloc, text)?;
         if words.first().is_some_and(|name| name.as_str() == "amcover") {

@@ -4,13 +4,13 @@ use am_case_parts::{call, digits_of_command};
 use am_case_runner::{Problem, Program};
 use am_program::run_with_notes;
 use std::io::Write;
-use std::rt::Files;
+use std::rt::{Clock, Files};
 
 /// The program `amcover`.
 pub struct Amcover;
 
 impl Program for Amcover {
-    fn run<R: Files + AllocGlobal, W: Write + Drop, E: Write + Drop>(
+    fn run<R: Files + Input + Clock + AllocGlobal, W: Write + Drop, E: Write + Drop>(
         &self,
         files: &R,
         words: &[String],

@@ -1,8 +1,12 @@
-use crate::commands::command;
+use crate::commands::{command, row_of};
+use crate::standard_input::check_standard_input;
 use crate::table::{Request, request_of};
-use clap::Error;
 use clap::error::ErrorKind;
+use clap::{ArgMatches, Error};
 use std::alloc::Global;
+
+/// The word of `--at` that stands for the clock's instant.
+pub const NOW: &str = "now";
 
 /// A command line: what it asks for, the files that it names, and the instant. The files are
 /// optional, but for those that the request needs. `F` is the path of a file, or its bytes once it
@@ -22,6 +26,28 @@ pub struct CommandLine<'a, F> {
     pub at: Option<&'a str>,
     /// Whether the report is to be JSON.
     pub json: bool,
+    pub notes: NotesOption,
+}
+
+/// Whether notes are printed, by what the command line says.
+#[derive(Clone, Copy, Debug, PartialEq, Eq)]
+pub enum NotesOption {
+    /// It says nothing: they are printed on a terminal.
+    OnTerminal,
+    Always,
+    Never,
+}
+
+impl NotesOption {
+    fn of(matches: &ArgMatches<'_>) -> NotesOption {
+        if matches.get_flag("notes") {
+            NotesOption::Always
+        } else if matches.get_flag("no-notes") {
+            NotesOption::Never
+        } else {
+            NotesOption::OnTerminal
+        }
+    }
 }
 
 /// A command line whose files are read.
@@ -36,8 +62,10 @@ pub fn parse_command_line<'a>(
     let mut command = command(alloc)?;
     let matches = command.try_get_matches_from_mut(words)?;
     if let Some((name, matches)) = matches.subcommand()
+        && let Some(row) = row_of(name)
         && let Some(request) = request_of(alloc, name, matches)?
     {
+        check_standard_input(alloc, &row, matches)?;
         return Ok(CommandLine {
             request,
             universe: matches.get_str("universe").or(matches.get_str("from")),
@@ -49,6 +77,7 @@ pub fn parse_command_line<'a>(
             rules: matches.get_str("rules"),
             at: matches.get_str("at"),
             json: matches.get_flag("json"),
+            notes: NotesOption::of(matches),
         });
     }
     Err(command.error(ErrorKind::MissingSubcommand, "a command is missing")?)

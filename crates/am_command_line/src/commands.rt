@@ -1,6 +1,6 @@
 //! The commands as `clap` takes them, made from the table.
 
-use crate::options::{Argument, CommandRow, Form, Need};
+use crate::options::{Argument, CommandRow, Form, Need, OF_EACH_COMMAND};
 use crate::reports::REPORTS;
 use crate::table::{COMMANDS, PROGRAM};
 use clap::builder::ValueParser;
@@ -12,9 +12,18 @@ const MAX_NUMBER: u64 = 4294967295;
 
 /// The program with its commands.
 pub(crate) fn command<'a>(alloc: Global) -> Result<Command<'a>, AllocError> {
-    let program = with_settings(command_of(alloc, &PROGRAM)?)?;
+    let program = Command::new(alloc, PROGRAM.name)
+        .about(PROGRAM.about)
+        .after_long_help(PROGRAM.help);
+    let program = with_settings(program)?;
     let program = with_commands(alloc, program, &REPORTS)?;
     with_commands(alloc, program, &COMMANDS)
+}
+
+/// The row of the command of this name.
+pub(crate) fn row_of(name: &str) -> Option<CommandRow<'static>> {
+    let mut rows = REPORTS.iter().chain(COMMANDS.iter());
+    rows.find(|row| row.name == name).copied()
 }
 
 /// Gives the program these commands.
@@ -39,15 +48,28 @@ fn needs_subcommand<'a>(command: Command<'a>) -> Command<'a> {
     command
         .arg_required_else_help(true)
         .subcommand_required(true)
-        .disable_help_subcommand(true)
 }
 
 /// The command of a row, with what it takes.
-fn command_of<'a>(alloc: Global, row: &CommandRow<'a>) -> Result<Command<'a>, AllocError> {
-    let mut command = Command::new(alloc, row.name)
+pub(crate) fn command_of<'a>(
+    alloc: Global,
+    row: &CommandRow<'a>,
+) -> Result<Command<'a>, AllocError> {
+    let command = Command::new(alloc, row.name)
         .about(row.about)
-        .after_help(row.help);
-    for (argument, need) in row.takes {
+        .after_long_help(row.help);
+    let command = with_arguments(alloc, command, row.takes)?;
+    with_arguments(alloc, command, &OF_EACH_COMMAND)
+}
+
+/// Gives a command these arguments.
+fn with_arguments<'a>(
+    alloc: Global,
+    command: Command<'a>,
+    arguments: &[(Argument<'a>, Need<'a>)],
+) -> Result<Command<'a>, AllocError> {
+    let mut command = command;
+    for (argument, need) in arguments {
         command = command.arg(with_need(with_form(alloc, argument), *need)?)?;
     }
     Ok(command)

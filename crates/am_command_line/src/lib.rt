@@ -11,9 +11,11 @@ mod commands;
 mod options;
 mod reports;
 mod requests;
+mod standard_input;
 mod steps;
 mod table;
 
-pub use command_line::{Call, CommandLine, parse_command_line};
+pub use command_line::{Call, CommandLine, NOW, NotesOption, parse_command_line};
+pub use standard_input::STANDARD_INPUT;
 pub use steps::{MIN_STEPS, Steps};
 pub use table::Request;

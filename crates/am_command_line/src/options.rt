@@ -46,6 +46,12 @@ pub(crate) enum Need<'a> {
     Without(&'a str),
 }
 
+/// What every command takes, behind what is its own.
+pub(crate) const OF_EACH_COMMAND: [(Argument, Need); 2] = [
+    (NOTES, Need::Without("no-notes")),
+    (NO_NOTES, Need::Optional),
+];
+
 pub(crate) const CONFIG: Argument = Argument {
     id: "config",
     form: Form::Value("config", "FILE"),
@@ -85,6 +91,13 @@ pub(crate) const RULES: Argument = Argument {
 pub(crate) const AT: Argument = Argument {
     id: "at",
     form: Form::Value("at", "TIME"),
+    help: "The time to ask about: now, or one such as 2024-05-01T10:00:00Z",
+};
+
+/// The time of `ask`, which does not take `now`: each page is asked for with the same words.
+pub(crate) const AT_OF_ASK: Argument = Argument {
+    id: "at",
+    form: Form::Value("at", "TIME"),
     help: "The time to ask about, such as 2024-05-01T10:00:00Z",
 };
 
@@ -111,6 +124,18 @@ pub(crate) const JSON: Argument = Argument {
     id: "json",
     form: Form::Flag("json"),
     help: "Print one JSON document, for programs such as jq",
+};
+
+pub(crate) const NOTES: Argument = Argument {
+    id: "notes",
+    form: Form::Flag("notes"),
+    help: "Print notes to standard error, even if it is no terminal",
+};
+
+pub(crate) const NO_NOTES: Argument = Argument {
+    id: "no-notes",
+    form: Form::Flag("no-notes"),
+    help: "Print no notes, even on a terminal",
 };
 
 pub(crate) const LIMIT: Argument = Argument {

@@ -1,12 +1,12 @@
-//! The commands that speak of every alert: what each takes, and its help text.
+//! The commands with which the help begins: what each takes, and its help text.
 
 use crate::options::{
     ALERTS, ASCII, AT, CONFIG, CommandRow, IMPOSSIBLE, JSON, NEW, Need, OLD, RECEIVER, RULES,
     SILENCES,
 };
 
-/// These commands, which come first in the help, in its order.
-pub(crate) const REPORTS: [CommandRow; 5] = [
+/// These commands, in the order of the help. Those of `COMMANDS` follow.
+pub(crate) const REPORTS: [CommandRow; 4] = [
     CommandRow {
         name: "lint",
         about: "Say what is wrong with a configuration, and why",
@@ -86,8 +86,8 @@ With --silences and --at, lint also checks the silences, except those that are o
 time. With --alerts, notes say what the alerts of that file show. Numbers of silences and of
 alerts are positions in their files, from 0:
 
-  amcover lint --config alertmanager.json --silences silences.json \\
-    --at \"$(date -u +%FT%TZ)\" --alerts alerts.json
+  amcover lint --config alertmanager.json --silences silences.json --at now \\
+    --alerts alerts.json
 
   silence 3 idle: no alert matches {team=\"db\",team=\"web\"}
              a finding: it can hide no alert
@@ -187,7 +187,7 @@ With --silences and --at, a line ends in `silenced` if active silences hide all 
 rule that go to these receivers, and in `partly silenced` if they hide some of them:
 
   amcover where --config alertmanager.json --rules rules.json --silences silences.json \\
-    --at \"$(date -u +%FT%TZ)\"
+    --at now
 
 The JSON has the field groups of a rules file. Rules without alert are passed over. Several
 files, the answer of Prometheus at /api/v1/rules, and a PrometheusRule of Kubernetes:
@@ -347,60 +347,6 @@ output failed, 5 done with a change.",
             (OLD, Need::Required),
             (NEW, Need::Required),
             (RULES, Need::Optional),
-            (IMPOSSIBLE, Need::Optional),
-            (ASCII, Need::Optional),
-            (JSON, Need::Optional),
-        ],
-    },
-    CommandRow {
-        name: "outcomes",
-        about: "Show each list of receivers that some alert goes to",
-        help: "\
-Convert your alertmanager.yml to JSON, and list where alerts go:
-
-  yq -o=json . alertmanager.yml > alertmanager.json  # Debian's yq: yq . alertmanager.yml
-  amcover outcomes --config alertmanager.json
-
-This prints a line for each list of receivers that some alert goes to, and then `# end`. For
-example:
-
-  \"default\" {}
-  \"db-mail\" {team=\"db\"}
-  \"db-pager\",\"incident-log\" {team=\"db\",severity=\"critical\"}
-  # end
-
-The receivers are in the order of the routes at which an alert ends. A receiver appears twice
-if the alert ends at two routes that have it. The line ends with the first label set of such
-an alert. Every alert counts: whatever its labels are, its receivers are one of these lists.
-
-Keep the output beside the configuration. A review then shows which lists come and go:
-
-  amcover outcomes --config alertmanager.json > outcomes.txt
-
-To see which alerts go elsewhere, use `amcover compare`.
-
-If some alerts never occur, say so in a universe file, such as never.json:
-
-  {\"labels\": [], \"impossible\": [\"team=web,severity=critical\"]}
-
-  amcover outcomes --config alertmanager.json --universe never.json
-
-The file may declare labels too. Then each needs a value for every case that the matchers of
-the routes tell apart. If one lacks such a value, outcomes refuses the file:
-
-  amcover: universe: /labels/0: incomplete
-
-amcover universe --from never.json --config alertmanager.json adds what a file lacks.
-
-With --ascii, only alerts count whose values consist of printable ASCII, from the space to ~.
-So an alert does not count if a value has a line feed, which . does not match. If a pattern
-has \\b, use --ascii: without it, outcomes refuses the configuration as unproved.
-
-outcomes ignores silences, inhibition and time intervals.
-
-Exit status: 0 done, 1 refused input, 2 usage, 3 out of memory, 4 the output failed.",
-        takes: &[
-            (CONFIG, Need::Required),
             (IMPOSSIBLE, Need::Optional),
             (ASCII, Need::Optional),
             (JSON, Need::Optional),

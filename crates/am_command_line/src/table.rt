@@ -2,8 +2,8 @@
 //! completions are made from the texts too.
 
 use crate::options::{
-    AFTER, ALERTS, ASCII, ASKED, ASKED_OF_ALERTS, AT, CHECK, CONFIG, COUNTED, CommandRow, FROM,
-    JSON, LIMIT, Need, OPEN, ROUTES, SET, SILENCES, STEPS, UNIVERSE,
+    AFTER, ALERTS, ASCII, ASKED, ASKED_OF_ALERTS, AT, AT_OF_ASK, CHECK, CONFIG, COUNTED,
+    CommandRow, FROM, IMPOSSIBLE, JSON, LIMIT, Need, OPEN, ROUTES, SET, SILENCES, STEPS, UNIVERSE,
 };
 use crate::requests::{ask_request, universe_request, words_of};
 use crate::steps::Steps;
@@ -126,258 +126,24 @@ Examples:
   amcover where --config alertmanager.json --rules rules.json
   amcover routes --config alertmanager.json --receiver db-pager
   amcover compare --old old.json --new alertmanager.json
-  amcover outcomes --config alertmanager.json
   amcover explain --config alertmanager.json 'team=db,severity=warning'
   amcover alerts --config alertmanager.json --alerts alerts.json 'receiver db-pager'
+  amcover outcomes --config alertmanager.json
   amcover universe --config alertmanager.json > u.json
   amcover ask --universe u.json --config alertmanager.json 'receiver db-pager'
   amcover dead --universe u.json --config alertmanager.json
   amcover receivers --universe u.json --config alertmanager.json
 
-Each command has help on what it reads and prints, for example `amcover lint --help`.",
+The file - is standard input, for one option of a command:
+
+  yq -o=json . alertmanager.yml | amcover lint --config -
+
+Each command has help on what it reads and prints, for example `amcover help lint`.",
     takes: &[],
 };
 
 /// The commands behind those of `REPORTS`, in the order of the help.
-pub(crate) const COMMANDS: [CommandRow; 6] = [
-    CommandRow {
-        name: "ask",
-        about: "List the label sets of a universe for which a question is true",
-        help: "\
-Convert your alertmanager.yml to JSON, make a universe for it, and ask:
-
-  yq -o=json . alertmanager.yml > alertmanager.json  # Debian's yq: yq . alertmanager.yml
-  amcover universe --config alertmanager.json > u.json
-  amcover ask --universe u.json --config alertmanager.json 'receiver db-pager'
-
-This prints the label sets of the alerts that go to the receiver db-pager.
-
-The universe is a JSON file. It declares labels, and the values that each may have. null
-stands for a missing label:
-
-  {\"labels\": [
-    {\"name\": \"team\", \"values\": [\"db\", \"web\", null]},
-    {\"name\": \"severity\", \"values\": [\"critical\", \"warning\"]}
-  ]}
-
-Beside the labels, it may have lists of matchers that say which label sets never occur. ask
-leaves out a label set that matches all matchers of one of these lists:
-
-  \"impossible\": [\"team=web,severity=critical\"]
-
-A label set has one of the values of each label. It stands for an alert with these labels,
-and the configuration of --config says where this alert goes. Without --config there is one
-route, /, and its receiver is called none. If ask refuses a file, it names the file and, as a
-JSON Pointer, the part at fault.
-
-amtool exports the file of --silences:
-
-  amtool --alertmanager.url=http://localhost:9093 \\
-    silence query -o json > silences.json
-
-Silences need --at, the time that you ask about: a silence hides alerts from its start on,
-and until its end. The time has a date, and Z or an offset from UTC, as in
-2024-05-01T10:00:00Z and 2024-05-01T12:00:00+02:00. Now is
-
-  --at \"$(date -u +%FT%TZ)\"
-
-amtool exports the file of --alerts too: the alerts that fire. Without -a -s -i -u it leaves
-out the silenced and the inhibited ones, which still inhibit others:
-
-  amtool --alertmanager.url=http://localhost:9093 \\
-    alert query -a -s -i -u -o json > alerts.json
-
-Every alert of that file counts as firing, whatever --at says. Without --silences no alert
-is silenced, and without --alerts none is inhibited. ask ignores time intervals.
-
-A question is one of these:
-
-  receiver NAME    the alert goes to this receiver
-                     receiver db-pager
-  ends PATH        this route handles the alert, and none below it does
-                     ends /2
-  enters PATH      this route or one below it handles the alert
-                     enters /2
-  silenced         a silence hides the alert at the time of --at
-                     silenced
-  inhibited        an alert of --alerts inhibits the alert, by a rule of --config
-                     inhibited
-  any              every alert
-                     any
-  {MATCHERS}       the labels of the alert match all of these matchers
-                     {team=\"db\",severity=~\"crit.*\"}
-  not Q            the question Q is false
-                     not enters /2
-  Q and Q          both questions are true
-                     enters /2 and not ends /2/0
-  Q or Q           one of the questions is true, or both are
-                     receiver db-pager or receiver web-pager
-  (Q)              the question Q, as one part of another
-                     not (ends /2 or ends /3)
-
-`not` binds closest, then `and`, then `or`. In a shell, put the question between single
-quotes.
-
-A PATH names a route, and counts from 0: / is the top-level route, /2 is its third child, and
-/2/0 is the first child of /2. A NAME may be in quotes. It needs quotes if it has whitespace,
-a quote, a parenthesis or a { in it: receiver \"on call\".
-
-The matchers are in the classic syntax of Alertmanager, with =, !=, =~ and !~. A pattern must
-match the whole value. A missing label counts as the empty value.
-
-ask prints a line for each label set for which the question is true, and then `# end`. The
-lines are in declared order, in which the first label counts most. With the universe above as
-u.json:
-
-  amcover ask --universe u.json '{team=\"db\"}'
-
-  {team=\"db\",severity=\"critical\"}
-  {team=\"db\",severity=\"warning\"}
-  # end
-
-This prints the label sets that go to db-pager and that a silence hides now:
-
-  amcover ask --universe u.json --config alertmanager.json \\
-    --silences silences.json --at \"$(date -u +%FT%TZ)\" \\
-    'silenced and receiver db-pager'
-
-And this prints those that go to db-pager and that no firing alert inhibits:
-
-  amcover ask --universe u.json --config alertmanager.json --alerts alerts.json \\
-    'receiver db-pager and not inhibited'
-
-With --limit 1, ask prints only the first answer. If there are more, the last line has a
-token:
-
-  amcover ask --universe u.json --limit 1 '{team=\"db\"}'
-
-  {team=\"db\",severity=\"critical\"}
-  # next t2:05333def3ae3b054572609919ffa7605:0.0
-
-To continue, run the same command with --after and that token. Without --limit it prints all
-that is left. The 32 digits stand for the bytes of the files, the time and the question. If
-one of them has changed, ask refuses the token.
-
-  amcover ask --universe u.json --limit 1 \\
-    --after t2:05333def3ae3b054572609919ffa7605:0.0 '{team=\"db\"}'
-
-  {team=\"db\",severity=\"warning\"}
-  # end
-
-A search may take long to find an answer, or to see that none is left. --steps stops it. A
-step looks once at the values of the first labels. It shows that all label sets with these
-values are answers, that none is, or that the search must look at more labels. For example,
-switches.json has seven labels a to g, each with the values 0 and 1:
-
-  amcover ask --universe switches.json --steps 65 '{g=\"0\"}'
-
-This prints 16 label sets, and then
-
-  # stopped s2:f8767580b17370ba6de9d23d71956bec:0.1
-
-The answer is complete up to there. To continue, run the same command with --after and that
-token:
-
-  amcover ask --universe switches.json --steps 65 \\
-    --after s2:f8767580b17370ba6de9d23d71956bec:0.1 '{g=\"0\"}'
-
-The output of one run is a page. It may stop before its first line although more answers
-follow: continue until `# end`. With --steps 1000000 a page ends after at most a million
-steps.
-
-Exit status: 0 done, 1 refused input, 2 usage, 3 out of memory, 4 the output failed.",
-        takes: &[
-            (UNIVERSE, Need::Required),
-            (CONFIG, Need::Optional),
-            (SILENCES, Need::Optional),
-            (ALERTS, Need::Optional),
-            (AT, Need::Optional),
-            (LIMIT, Need::Optional),
-            (STEPS, Need::Optional),
-            (AFTER, Need::Optional),
-            (ASKED, Need::Required),
-        ],
-    },
-    CommandRow {
-        name: "dead",
-        about: "Say which routes are dead: no label set of a universe ends there",
-        help: "\
-Convert your alertmanager.yml to JSON, make a universe for its routes, and check them:
-
-  yq -o=json . alertmanager.yml > alertmanager.json  # Debian's yq: yq . alertmanager.yml
-  amcover universe --routes --config alertmanager.json > u.json
-  amcover dead --universe u.json --config alertmanager.json
-
-This prints a line for each route, a route before those below it, and then `# end`. For
-example:
-
-  / live {team=\"web\",severity=\"critical\"}
-  /0 dead entered
-  /0/0 live {team=\"db\",severity=\"critical\"}
-  /1 dead never-entered
-  # end
-
-A path names a route, and counts from 0: / is the top-level route, /0 is its first child, and
-/0/0 is the first child of /0. After the path comes one of these:
-
-  live SET             the label set SET ends there. It is the first of the universe that does
-  dead entered         none ends there, but some end below it: its children take every alert
-                       that enters it
-  dead never-entered   none ends there or below it. For example, earlier routes without
-                       continue take all that it matches; or its matchers and those of its
-                       parent are never true together; or they ask for a value that the
-                       universe does not declare
-
-The universe is a JSON file that declares labels and the values that each may have, as
-`amcover ask --help` shows. Each of its label sets stands for the labels of an alert. A label
-set ends at a route if that route handles the alert, and none below it does. dead ignores
-silences, inhibition and time intervals.
-
-A route is dead for this universe alone. An alert with other labels or values may end there,
-unless the universe stands for every alert. `amcover universe` makes such a universe, and
-`amcover universe --check` says what another one lacks. `amcover lint` needs no universe.
-
-Labels that no route asks about cost no time, and neither do many label sets. A label set that
-never occurs may keep a route live, unless the universe calls it impossible.
-
-Exit status: 0 done, with dead routes or without, 1 refused input, 2 usage, 3 out of
-memory, 4 the output failed.",
-        takes: &[(UNIVERSE, Need::Required), (CONFIG, Need::Required)],
-    },
-    CommandRow {
-        name: "receivers",
-        about: "Say which receivers are unmatched: no label set of a universe goes there",
-        help: "\
-Convert your alertmanager.yml to JSON, make a universe for its routes, and check the receivers:
-
-  yq -o=json . alertmanager.yml > alertmanager.json  # Debian's yq: yq . alertmanager.yml
-  amcover universe --routes --config alertmanager.json > u.json
-  amcover receivers --universe u.json --config alertmanager.json
-
-This prints a line for each receiver, in the order of the configuration, and then `# end`.
-For example:
-
-  \"db-pager\" live {team=\"db\",severity=\"critical\"}
-  \"db-mail\" unmatched
-  # end
-
-The label set is the first of the universe that goes to db-pager. None goes to db-mail: no
-route has that receiver, or each route that has it is dead, as `amcover dead` shows.
-
-The universe is a JSON file that declares labels and the values that each may have, as
-`amcover ask --help` shows. Each of its label sets stands for the labels of an alert. The alert
-goes to the receiver of each route that handles it, if no route below that one does. A route
-that names no receiver has that of its parent. receivers ignores silences, inhibition and time
-intervals.
-
-A receiver is unmatched for this universe alone. An alert with other labels or values may go
-there, unless the universe stands for every alert, as one of `amcover universe` does.
-`amcover lint` needs no universe.
-
-Exit status: 0 done, with unmatched receivers or without, 1 refused input, 2 usage, 3 out
-of memory, 4 the output failed.",
-        takes: &[(UNIVERSE, Need::Required), (CONFIG, Need::Required)],
-    },
+pub(crate) const COMMANDS: [CommandRow; 7] = [
     CommandRow {
         name: "explain",
         about: "Say where an alert goes, and what hides it",
@@ -403,7 +169,7 @@ inhibit others. Every alert of the file counts as firing, whatever --at says. Si
 --at, the time that you ask about, such as 2024-05-01T10:00:00Z, or now:
 
   amcover explain --config alertmanager.json --silences silences.json \\
-    --alerts alerts.json --at \"$(date -u +%FT%TZ)\" 'team=db,severity=warning'
+    --alerts alerts.json --at now 'team=db,severity=warning'
 
 This prints the label set, and then the reasons, for example
 
@@ -445,10 +211,7 @@ and the inhibited ones, which still inhibit others. amtool exports the file of -
   amtool --alertmanager.url=http://localhost:9093 \\
     silence query -o json > silences.json
 
-Silences need --at, the time that you ask about, such as 2024-05-01T10:00:00Z. Now is
-
-  --at \"$(date -u +%FT%TZ)\"
-
+Silences need --at, the time that you ask about, such as 2024-05-01T10:00:00Z, or now.
 Without --silences no alert is silenced.
 
 alerts prints a line for each alert of the file for which the question is true, in the order
@@ -456,7 +219,7 @@ of the file, and then `# end`. `amcover ask --help` lists the questions. Without
 alerts asks `any`, which is true of every alert. For example,
 
   amcover alerts --config alertmanager.json --alerts alerts.json \\
-    --silences silences.json --at \"$(date -u +%FT%TZ)\" 'enters /0'
+    --silences silences.json --at now 'enters /0'
 
 may print
 
@@ -473,7 +236,7 @@ of these files hides the alert.
 This prints the alerts of web-pager that no silence and no other alert hides now:
 
   amcover alerts --config alertmanager.json --alerts alerts.json \\
-    --silences silences.json --at \"$(date -u +%FT%TZ)\" \\
+    --silences silences.json --at now \\
     'receiver web-pager and not silenced and not inhibited'
 
 With the question `silenced or inhibited` it prints the alerts that are hidden, and with
@@ -490,6 +253,60 @@ Exit status: 0 done, 1 refused input, 2 usage, 3 out of memory, 4 the output fai
             (AT, Need::Optional),
             (JSON, Need::Optional),
             (ASKED_OF_ALERTS, Need::Optional),
+        ],
+    },
+    CommandRow {
+        name: "outcomes",
+        about: "Show each list of receivers that some alert goes to",
+        help: "\
+Convert your alertmanager.yml to JSON, and list where alerts go:
+
+  yq -o=json . alertmanager.yml > alertmanager.json  # Debian's yq: yq . alertmanager.yml
+  amcover outcomes --config alertmanager.json
+
+This prints a line for each list of receivers that some alert goes to, and then `# end`. For
+example:
+
+  \"default\" {}
+  \"db-mail\" {team=\"db\"}
+  \"db-pager\",\"incident-log\" {team=\"db\",severity=\"critical\"}
+  # end
+
+The receivers are in the order of the routes at which an alert ends. A receiver appears twice
+if the alert ends at two routes that have it. The line ends with the first label set of such
+an alert. Every alert counts: whatever its labels are, its receivers are one of these lists.
+
+Keep the output beside the configuration. A review then shows which lists come and go:
+
+  amcover outcomes --config alertmanager.json > outcomes.txt
+
+To see which alerts go elsewhere, use `amcover compare`.
+
+If some alerts never occur, say so in a universe file, such as never.json:
+
+  {\"labels\": [], \"impossible\": [\"team=web,severity=critical\"]}
+
+  amcover outcomes --config alertmanager.json --universe never.json
+
+The file may declare labels too. Then each needs a value for every case that the matchers of
+the routes tell apart. If one lacks such a value, outcomes refuses the file:
+
+  amcover: universe: /labels/0: incomplete
+
+amcover universe --from never.json --config alertmanager.json adds what a file lacks.
+
+With --ascii, only alerts count whose values consist of printable ASCII, from the space to ~.
+So an alert does not count if a value has a line feed, which . does not match. If a pattern
+has \\b, use --ascii: without it, outcomes refuses the configuration as unproved.
+
+outcomes ignores silences, inhibition and time intervals.
+
+Exit status: 0 done, 1 refused input, 2 usage, 3 out of memory, 4 the output failed.",
+        takes: &[
+            (CONFIG, Need::Required),
+            (IMPOSSIBLE, Need::Optional),
+            (ASCII, Need::Optional),
+            (JSON, Need::Optional),
         ],
     },
     CommandRow {
@@ -596,5 +413,245 @@ output failed.",
             (ALERTS, Need::Optional),
             (OPEN, Need::Without("universe")),
         ],
+    },
+    CommandRow {
+        name: "ask",
+        about: "List the label sets of a universe for which a question is true",
+        help: "\
+Convert your alertmanager.yml to JSON, make a universe for it, and ask:
+
+  yq -o=json . alertmanager.yml > alertmanager.json  # Debian's yq: yq . alertmanager.yml
+  amcover universe --config alertmanager.json > u.json
+  amcover ask --universe u.json --config alertmanager.json 'receiver db-pager'
+
+This prints the label sets of the alerts that go to the receiver db-pager.
+
+The universe is a JSON file. It declares labels, and the values that each may have. null
+stands for a missing label:
+
+  {\"labels\": [
+    {\"name\": \"team\", \"values\": [\"db\", \"web\", null]},
+    {\"name\": \"severity\", \"values\": [\"critical\", \"warning\"]}
+  ]}
+
+Beside the labels, it may have lists of matchers that say which label sets never occur. ask
+leaves out a label set that matches all matchers of one of these lists:
+
+  \"impossible\": [\"team=web,severity=critical\"]
+
+A label set has one of the values of each label. It stands for an alert with these labels,
+and the configuration of --config says where this alert goes. Without --config there is one
+route, /, and its receiver is called none. If ask refuses a file, it names the file and, as a
+JSON Pointer, the part at fault.
+
+amtool exports the file of --silences:
+
+  amtool --alertmanager.url=http://localhost:9093 \\
+    silence query -o json > silences.json
+
+Silences need --at, the time that you ask about: a silence hides alerts from its start on,
+and until its end. The time has a date, and Z or an offset from UTC, as in
+2024-05-01T10:00:00Z and 2024-05-01T12:00:00+02:00. Now is
+
+  --at \"$(date -u +%FT%T.%NZ)\"
+
+ask refuses --at now, since the other pages of an answer are asked for at the same time.
+
+amtool exports the file of --alerts too: the alerts that fire. Without -a -s -i -u it leaves
+out the silenced and the inhibited ones, which still inhibit others:
+
+  amtool --alertmanager.url=http://localhost:9093 \\
+    alert query -a -s -i -u -o json > alerts.json
+
+Every alert of that file counts as firing, whatever --at says. Without --silences no alert
+is silenced, and without --alerts none is inhibited. ask ignores time intervals.
+
+A question is one of these:
+
+  receiver NAME    the alert goes to this receiver
+                     receiver db-pager
+  ends PATH        this route handles the alert, and none below it does
+                     ends /2
+  enters PATH      this route or one below it handles the alert
+                     enters /2
+  silenced         a silence hides the alert at the time of --at
+                     silenced
+  inhibited        an alert of --alerts inhibits the alert, by a rule of --config
+                     inhibited
+  any              every alert
+                     any
+  {MATCHERS}       the labels of the alert match all of these matchers
+                     {team=\"db\",severity=~\"crit.*\"}
+  not Q            the question Q is false
+                     not enters /2
+  Q and Q          both questions are true
+                     enters /2 and not ends /2/0
+  Q or Q           one of the questions is true, or both are
+                     receiver db-pager or receiver web-pager
+  (Q)              the question Q, as one part of another
+                     not (ends /2 or ends /3)
+
+`not` binds closest, then `and`, then `or`. In a shell, put the question between single
+quotes.
+
+A PATH names a route, and counts from 0: / is the top-level route, /2 is its third child, and
+/2/0 is the first child of /2. A NAME may be in quotes. It needs quotes if it has whitespace,
+a quote, a parenthesis or a { in it: receiver \"on call\".
+
+The matchers are in the classic syntax of Alertmanager, with =, !=, =~ and !~. A pattern must
+match the whole value. A missing label counts as the empty value.
+
+ask prints a line for each label set for which the question is true, and then `# end`. The
+lines are in declared order, in which the first label counts most. With the universe above as
+u.json:
+
+  amcover ask --universe u.json '{team=\"db\"}'
+
+  {team=\"db\",severity=\"critical\"}
+  {team=\"db\",severity=\"warning\"}
+  # end
+
+This prints the label sets that go to db-pager and that a silence hides now:
+
+  amcover ask --universe u.json --config alertmanager.json \\
+    --silences silences.json --at \"$(date -u +%FT%T.%NZ)\" \\
+    'silenced and receiver db-pager'
+
+And this prints those that go to db-pager and that no firing alert inhibits:
+
+  amcover ask --universe u.json --config alertmanager.json --alerts alerts.json \\
+    'receiver db-pager and not inhibited'
+
+With --limit 1, ask prints only the first answer. If there are more, the last line has a
+token:
+
+  amcover ask --universe u.json --limit 1 '{team=\"db\"}'
+
+  {team=\"db\",severity=\"critical\"}
+  # next t2:05333def3ae3b054572609919ffa7605:0.0
+
+To continue, run the same command with --after and that token. Without --limit it prints all
+that is left. The 32 digits stand for the bytes of the files, the time and the question. If
+one of them has changed, ask refuses the token.
+
+  amcover ask --universe u.json --limit 1 \\
+    --after t2:05333def3ae3b054572609919ffa7605:0.0 '{team=\"db\"}'
+
+  {team=\"db\",severity=\"warning\"}
+  # end
+
+A search may take long to find an answer, or to see that none is left. --steps stops it. A
+step looks once at the values of the first labels. It shows that all label sets with these
+values are answers, that none is, or that the search must look at more labels. For example,
+switches.json has seven labels a to g, each with the values 0 and 1:
+
+  amcover ask --universe switches.json --steps 65 '{g=\"0\"}'
+
+This prints 16 label sets, and then
+
+  # stopped s2:f8767580b17370ba6de9d23d71956bec:0.1
+
+The answer is complete up to there. To continue, run the same command with --after and that
+token:
+
+  amcover ask --universe switches.json --steps 65 \\
+    --after s2:f8767580b17370ba6de9d23d71956bec:0.1 '{g=\"0\"}'
+
+The output of one run is a page. It may stop before its first line although more answers
+follow: continue until `# end`. With --steps 1000000 a page ends after at most a million
+steps.
+
+Exit status: 0 done, 1 refused input, 2 usage, 3 out of memory, 4 the output failed.",
+        takes: &[
+            (UNIVERSE, Need::Required),
+            (CONFIG, Need::Optional),
+            (SILENCES, Need::Optional),
+            (ALERTS, Need::Optional),
+            (AT_OF_ASK, Need::Optional),
+            (LIMIT, Need::Optional),
+            (STEPS, Need::Optional),
+            (AFTER, Need::Optional),
+            (ASKED, Need::Required),
+        ],
+    },
+    CommandRow {
+        name: "dead",
+        about: "Say which routes are dead: no label set of a universe ends there",
+        help: "\
+Convert your alertmanager.yml to JSON, make a universe for its routes, and check them:
+
+  yq -o=json . alertmanager.yml > alertmanager.json  # Debian's yq: yq . alertmanager.yml
+  amcover universe --routes --config alertmanager.json > u.json
+  amcover dead --universe u.json --config alertmanager.json
+
+This prints a line for each route, a route before those below it, and then `# end`. For
+example:
+
+  / live {team=\"web\",severity=\"critical\"}
+  /0 dead entered
+  /0/0 live {team=\"db\",severity=\"critical\"}
+  /1 dead never-entered
+  # end
+
+A path names a route, and counts from 0: / is the top-level route, /0 is its first child, and
+/0/0 is the first child of /0. After the path comes one of these:
+
+  live SET             the label set SET ends there. It is the first of the universe that does
+  dead entered         none ends there, but some end below it: its children take every alert
+                       that enters it
+  dead never-entered   none ends there or below it. For example, earlier routes without
+                       continue take all that it matches; or its matchers and those of its
+                       parent are never true together; or they ask for a value that the
+                       universe does not declare
+
+The universe is a JSON file that declares labels and the values that each may have, as
+`amcover ask --help` shows. Each of its label sets stands for the labels of an alert. A label
+set ends at a route if that route handles the alert, and none below it does. dead ignores
+silences, inhibition and time intervals.
+
+A route is dead for this universe alone. An alert with other labels or values may end there,
+unless the universe stands for every alert. `amcover universe` makes such a universe, and
+`amcover universe --check` says what another one lacks. `amcover lint` needs no universe.
+
+Labels that no route asks about cost no time, and neither do many label sets. A label set that
+never occurs may keep a route live, unless the universe calls it impossible.
+
+Exit status: 0 done, with dead routes or without, 1 refused input, 2 usage, 3 out of
+memory, 4 the output failed.",
+        takes: &[(UNIVERSE, Need::Required), (CONFIG, Need::Required)],
+    },
+    CommandRow {
+        name: "receivers",
+        about: "Say which receivers are unmatched: no label set of a universe goes there",
+        help: "\
+Convert your alertmanager.yml to JSON, make a universe for its routes, and check the receivers:
+
+  yq -o=json . alertmanager.yml > alertmanager.json  # Debian's yq: yq . alertmanager.yml
+  amcover universe --routes --config alertmanager.json > u.json
+  amcover receivers --universe u.json --config alertmanager.json
+
+This prints a line for each receiver, in the order of the configuration, and then `# end`.
+For example:
+
+  \"db-pager\" live {team=\"db\",severity=\"critical\"}
+  \"db-mail\" unmatched
+  # end
+
+The label set is the first of the universe that goes to db-pager. None goes to db-mail: no
+route has that receiver, or each route that has it is dead, as `amcover dead` shows.
+
+The universe is a JSON file that declares labels and the values that each may have, as
+`amcover ask --help` shows. Each of its label sets stands for the labels of an alert. The alert
+goes to the receiver of each route that handles it, if no route below that one does. A route
+that names no receiver has that of its parent. receivers ignores silences, inhibition and time
+intervals.
+
+A receiver is unmatched for this universe alone. An alert with other labels or values may go
+there, unless the universe stands for every alert, as one of `amcover universe` does.
+`amcover lint` needs no universe.
+
+Exit status: 0 done, with unmatched receivers or without, 1 refused input, 2 usage, 3 out
+of memory, 4 the output failed.",
+        takes: &[(UNIVERSE, Need::Required), (CONFIG, Need::Required)],
     },
 ];

@@ -1,4 +1,4 @@
--- Notes on a terminal. (This project's own.)
+-- The lines of notes. (This project's own.)
 use Rattle.std.specs.Prelude.{ℕ, List, ◌++◌, ◌≡◌, codes, IsTrue}
 use Rattle.std.specs.List.{flat_map, AllByRecursion}
 use Rattle.am_report_texts.specs.Lines.{is_unbroken}

@@ -3,7 +3,7 @@
 ghost use Rattle.std.specs.Prelude.{IfOk, string_bytes};
 ghost use Rattle.am_notes.specs.NoteText.{AreNoteLines};
 
-use crate::likeness::Likeness;
+use crate::groups::has_groups;
 use crate::matchers::add_set_matchers;
 use crate::notes::Notes;
 use crate::questions::{add_question, asks_of_routes};
@@ -11,14 +11,13 @@ use crate::universes::add_incomplete;
 use am_command_line::{Call, Request};
 use am_config::{Config, read_config};
 use am_files::Files;
-use am_json::read_json;
 use am_labels::{Space, parse_matchers};
 use am_list_files::read_universe;
 use am_questions::parse_question;
 use std::alloc::{AllocError, Global};
 
-const GROUPS: &str = "the alerts file has groups, each of which is read as one alert; \
-    export it with amtool alert query -a -s -i -u -o json";
+const GROUPS: &str = "the file given as alerts looks like an export of groups, each of which is \
+    read as one alert; amtool alert query -a -s -i -u -o json exports alerts";
 
 /// Returns the notes of a call that is done: none or more lines, each with its line feed. Fails
 /// only if memory runs out.
@@ -30,7 +29,10 @@ pub fn notes_of_answer(alloc: Global, call: &Call<'_>) -> Result<String, AllocEr
     match &call.request {
         Request::Ask { question, .. } => add_ask(alloc, &mut notes, call, question)?,
         Request::Dead | Request::Receivers => {
-            let (space, config) = (space_of(alloc, call)?, config_of(alloc, call)?);
+            let (space, config) = (
+                space_of(alloc, call)?,
+                config_of(alloc, call.config.as_deref())?,
+            );
             add_incomplete(alloc, &mut notes, &space, &config)?;
         }
         Request::Compare { .. } => add_compare(alloc, &mut notes, call)?,
@@ -41,16 +43,26 @@ pub fn notes_of_answer(alloc: Global, call: &Call<'_>) -> Result<String, AllocEr
     notes.text(alloc)
 }
 
-/// Adds a note if the alerts file has groups of alerts.
+/// Returns those of these notes that are written without a terminal too: that the alerts file has
+/// groups of alerts. Fails only if memory runs out.
+pub fn note_of_groups(alloc: Global, call: &Call<'_>) -> Result<String, AllocError>
+    ensures lines { IfOk result (λ text. AreNoteLines (string_bytes text)) }
+{
+    let mut notes = Notes::none(alloc);
+    add_groups(alloc, &mut notes, call)?;
+    notes.text(alloc)
+}
+
+/// Adds a note if the alerts file has groups of alerts. `lint` and `alerts` refuse such a file, so
+/// there is none after their answers.
 fn add_groups(alloc: Global, notes: &mut Notes, call: &Call<'_>) -> Result<(), AllocError> {
-    let Some(bytes) = &call.alerts else {
+    if matches!(call.request, Request::Lint { .. } | Request::Alerts { .. }) {
         return Ok(());
-    };
-    let value = read_json(alloc, bytes.as_slice()).map_err(|_| AllocError)?;
-    if Likeness::of(&value) == Some(Likeness::Groups) {
-        notes.add_str(alloc, GROUPS)?;
     }
-    Ok(())
+    match &call.alerts {
+        Some(bytes) if has_groups(alloc, bytes.as_slice())? => notes.add_str(alloc, GROUPS),
+        _ => Ok(()),
+    }
 }
 
 /// Adds a note if the old and the new file have the same bytes.
@@ -67,7 +79,10 @@ fn add_ask(
     call: &Call<'_>,
     text: &str,
 ) -> Result<(), AllocError> {
-    let (space, config) = (space_of(alloc, call)?, config_of(alloc, call)?);
+    let (space, config) = (
+        space_of(alloc, call)?,
+        config_of(alloc, call.config.as_deref())?,
+    );
     let question = parse_question(alloc, text, &config).map_err(|_| AllocError)?;
     add_question(alloc, notes, call, text, Some(space.universe()), &question)?;
     if asks_of_routes(&question) {
@@ -85,7 +100,7 @@ fn add_alerts(
     let Some(text) = question else {
         return Ok(());
     };
-    let config = config_of(alloc, call)?;
+    let config = config_of(alloc, call.config.as_deref())?;
     let question = parse_question(alloc, text, &config).map_err(|_| AllocError)?;
     add_question(alloc, notes, call, text, None, &question)
 }
@@ -108,9 +123,10 @@ fn space_of(alloc: Global, call: &Call<'_>) -> Result<Space, AllocError> {
     read_universe(alloc, bytes).map_err(|_| AllocError)
 }
 
-fn config_of(alloc: Global, call: &Call<'_>) -> Result<Config, AllocError> {
+/// The configuration of a file, or that of a call without one.
+pub(crate) fn config_of(alloc: Global, config: Option<&[u8]>) -> Result<Config, AllocError> {
     let files = Files {
-        config: call.config.as_deref(),
+        config,
         silences: None,
         alerts: None,
         at: None,

@@ -1,5 +1,6 @@
 //! The kind of file that a JSON value looks like.
 
+use crate::groups::begins_with_group;
 use am_universe::Place;
 use serde_json::Value;
 
@@ -24,6 +25,9 @@ pub(crate) enum Likeness {
 impl Likeness {
     /// What a JSON value looks like, if that can be told.
     pub(crate) fn of(value: &Value) -> Option<Likeness> {
+        if begins_with_group(value) {
+            return Some(Likeness::Groups);
+        }
         match value.as_array() {
             Some(items) => Likeness::of_record(items.first()?),
             None => Likeness::of_object(value),
@@ -32,9 +36,7 @@ impl Likeness {
 
     /// What a list looks like if it begins with this record.
     fn of_record(first: &Value) -> Option<Likeness> {
-        if has_field(first, "alerts") {
-            Some(Likeness::Groups)
-        } else if has_field(first, "labels") {
+        if has_field(first, "labels") {
             Some(Likeness::Alerts)
         } else if has_field(first, "matchers") {
             Some(Likeness::Silences)
@@ -76,14 +78,17 @@ impl Likeness {
         }
     }
 
-    /// The words for it in a note.
-    pub(crate) fn text(self) -> &'static str {
+    /// The words for it in a note on the file at this place.
+    pub(crate) fn text(self, place: Place) -> &'static str {
         match self {
             Likeness::Universe => "a universe",
             Likeness::Config => "a configuration",
             Likeness::Silences => "an export of silences",
             Likeness::Alerts => "an export of alerts",
-            Likeness::Groups => "an export of alerts in groups",
+            Likeness::Groups if place == Place::Alerts => {
+                "an export of groups; amtool alert query -a -s -i -u -o json exports alerts"
+            }
+            Likeness::Groups => "an export of groups",
             Likeness::ApiAnswer => "an answer of an HTTP API, not an export of amtool",
             Likeness::Rules => "a rules file",
             Likeness::RulesAnswer => {

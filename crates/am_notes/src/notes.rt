@@ -32,6 +32,10 @@ impl Notes {
         self.add(String::from_str(alloc, note)?)
     }
 
+    pub(crate) fn is_empty(&self) -> bool {
+        self.notes.is_empty()
+    }
+
     fn has(&self, note: &str) -> bool {
         self.notes.iter().any(|other| other.as_str() == note)
     }

@@ -1,10 +1,13 @@
 //! What to type after a refusal.
 
+use crate::bad_matchers::{add_bad_text, add_bad_words};
 use crate::likeness::Likeness;
+use crate::not_json::add_not_json;
 use crate::notes::Notes;
 use crate::receivers::add_similar_receivers;
 use crate::sentences::looks_like;
-use am_command_line::{Call, Request};
+use crate::stray_words::add_question_syntax;
+use am_command_line::{Call, NOW, Request};
 use am_json::limits::MAX_FILE_BYTES;
 use am_json::read_json;
 use am_universe::{Fault, Kind, Place};
@@ -14,20 +17,20 @@ use std::alloc::{AllocError, Global};
 pub(crate) fn add_remedy(
     alloc: Global,
     notes: &mut Notes,
-    call: Option<&Call<'_>>,
+    call: &Call<'_>,
     fault: &Fault,
 ) -> Result<(), AllocError> {
-    // If a file could not be read, there is no call.
-    let Some(call) = call else {
-        return match fault.kind {
-            Kind::Read => notes.add_str(alloc, "standard input is the file /dev/stdin"),
-            _ => Ok(()),
-        };
-    };
     match fault.kind {
-        Kind::NotJson => add_if_any(alloc, notes, not_json_remedy(call, fault.place)),
+        Kind::NotJson => match file_at(call, fault.place) {
+            Some(bytes) => add_not_json(alloc, notes, bytes, fault.place),
+            None => Ok(()),
+        },
         Kind::Shape | Kind::UnknownField => add_likeness(alloc, notes, call, fault.place),
-        Kind::BadMatcher => add_bad_matcher(alloc, notes, call, fault),
+        Kind::BadMatcher => match file_at(call, fault.place) {
+            Some(bytes) => add_bad_text(alloc, notes, bytes, fault.pointer.as_str()),
+            None => add_bad_words(alloc, notes, call, fault),
+        },
+        Kind::QuestionSyntax => add_question_syntax(alloc, notes, call, fault),
         Kind::Limit => add_if_any(alloc, notes, limit_remedy(call, fault)),
         Kind::UnknownReceiver => add_unknown_receiver(alloc, notes, call, fault),
         kind => add_if_any(alloc, notes, remedy(call, kind, fault.place)),
@@ -59,27 +62,6 @@ fn file_at<'a>(call: &'a Call<'_>, place: Place) -> Option<&'a [u8]> {
     }
 }
 
-/// The remedy for a file that is not JSON.
-fn not_json_remedy(call: &Call<'_>, place: Place) -> Option<&'static str> {
-    if file_at(call, place)?.trim_ascii().is_empty() {
-        return Some("the file is empty: did the command that wrote it fail?");
-    }
-    match place {
-        Place::Universe => Some("a universe is JSON: amcover universe --config FILE writes one"),
-        Place::Config | Place::Old | Place::New => Some(
-            "a configuration is JSON: yq -o=json . alertmanager.yml (the yq in Go) or \
-            yq . alertmanager.yml (the yq in Python)",
-        ),
-        Place::Silences => Some("--silences takes JSON: amtool silence query -o json"),
-        Place::Alerts => Some("--alerts takes JSON: amtool alert query -a -s -i -u -o json"),
-        Place::Rules => Some(
-            "--rules takes JSON: yq -o=json . rules.yml (the yq in Go) or \
-            yq . rules.yml (the yq in Python)",
-        ),
-        _ => None,
-    }
-}
-
 /// Adds a note on what a file looks like, if that does not belong at its place.
 fn add_likeness(
     alloc: Global,
@@ -93,26 +75,10 @@ fn add_likeness(
     let value = read_json(alloc, bytes).map_err(|_| AllocError)?;
     match Likeness::of(&value) {
         Some(likeness) if !likeness.belongs_at(place) => {
-            notes.add(looks_like(alloc, place.text(), likeness.text())?)
+            notes.add(looks_like(alloc, place.text(), likeness.text(place))?)
         }
         _ => Ok(()),
     }
-}
-
-/// Adds a note on how matchers are written, for a text that does not spell them.
-fn add_bad_matcher(
-    alloc: Global,
-    notes: &mut Notes,
-    call: &Call<'_>,
-    fault: &Fault,
-) -> Result<(), AllocError> {
-    if has_quoted_name_at(alloc, call, fault)? {
-        return notes.add_str(
-            alloc,
-            "a label name stands without quotes, as in team=\"db\"",
-        );
-    }
-    add_if_any(alloc, notes, bad_matcher_remedy(fault.place))
 }
 
 /// Adds a note on a name that no receiver has.
@@ -122,68 +88,15 @@ fn add_unknown_receiver(
     call: &Call<'_>,
     fault: &Fault,
 ) -> Result<(), AllocError> {
-    if add_similar_receivers(alloc, notes, call)? {
+    if add_similar_receivers(alloc, notes, call, fault)? {
         return Ok(());
     }
     add_if_any(alloc, notes, remedy(call, fault.kind, fault.place))
 }
 
-fn bad_matcher_remedy(place: Place) -> Option<&'static str> {
-    match place {
-        Place::Set => Some("a label set is written as team=\"db\",severity=\"warning\""),
-        Place::Question => Some("matchers are written as {team=\"db\",severity=~\"crit.*\"}"),
-        _ => None,
-    }
-}
-
-/// Whether a label name is in quotes in the text that is at fault.
-fn has_quoted_name_at(alloc: Global, call: &Call<'_>, fault: &Fault) -> Result<bool, AllocError> {
-    match &call.request {
-        Request::Ask { question: text, .. }
-        | Request::Alerts {
-            question: Some(text),
-        } if fault.place == Place::Question => Ok(has_quoted_name(text)),
-        Request::Universe { questions, .. } | Request::CheckUniverse { questions, .. }
-            if fault.place == Place::Question => {
-            Ok(questions.iter().any(|text| has_quoted_name(text)))
-        }
-        Request::Explain { set } if fault.place == Place::Set => {
-            Ok(set.iter().any(|word| has_quoted_name(word)))
-        }
-        _ => has_quoted_name_in_file(alloc, call, fault),
-    }
-}
-
-/// The same for a text in a file.
-fn has_quoted_name_in_file(
-    alloc: Global,
-    call: &Call<'_>,
-    fault: &Fault,
-) -> Result<bool, AllocError> {
-    let Some(bytes) = file_at(call, fault.place) else {
-        return Ok(false);
-    };
-    let value = read_json(alloc, bytes).map_err(|_| AllocError)?;
-    match value.pointer(fault.pointer.as_str()) {
-        Some(text) => Ok(has_quoted_name(text.as_str().unwrap_or(""))),
-        None => Ok(false),
-    }
-}
-
-/// Whether there is a quote where a name would begin: at the start, or after a brace or a comma and
-/// at most one blank.
-fn has_quoted_name(text: &str) -> bool {
-    text.starts_with('"')
-        || text.contains("{\"")
-        || text.contains("{ \"")
-        || text.contains(",\"")
-        || text.contains(", \"")
-}
-
 /// The remedy for any other fault.
 fn remedy(call: &Call<'_>, kind: Kind, place: Place) -> Option<&'static str> {
     match kind {
-        Kind::QuestionSyntax => Some(question_remedy(&call.request)),
         Kind::UnknownReceiver | Kind::UnknownRoute if call.config.is_none() => {
             Some("without --config there is one receiver, none, and one route, /")
         }
@@ -194,10 +107,11 @@ fn remedy(call: &Call<'_>, kind: Kind, place: Place) -> Option<&'static str> {
             Some("positions count from 0: / is the top-level route, /0 its first child")
         }
         // Only for the text on the command line, not for one in a file.
-        Kind::BadTime if place == Place::Instant => Some(
-            "a time is written as 2024-05-01T10:00:00Z; now is --at \"$(date -u +%FT%TZ)\"",
-        ),
-        Kind::NeedAt => Some("silences need a time; now is --at \"$(date -u +%FT%TZ)\""),
+        Kind::BadTime if place == Place::Instant => Some(time_remedy(call)),
+        Kind::NeedAt => Some(match call.request {
+            Request::Ask { .. } => { "silences need a time; now is --at \"$(date -u +%FT%T.%NZ)\"" }
+            _ => "silences need a time, such as --at now",
+        }),
         Kind::BadToken => Some("--after takes the word behind # next or # stopped"),
         Kind::OtherInputs => {
             Some("an input has changed since the page before: start again without --after")
@@ -208,28 +122,18 @@ fn remedy(call: &Call<'_>, kind: Kind, place: Place) -> Option<&'static str> {
     }
 }
 
-/// The remedy for a question that does not fit the grammar.
-fn question_remedy(request: &Request<'_>) -> &'static str {
-    let is_without_braces = match request {
-        Request::Ask { question: text, .. }
-        | Request::Alerts {
-            question: Some(text),
-        } => is_without_braces(text),
-        Request::Universe { questions, .. } | Request::CheckUniverse { questions, .. } => {
-            questions.iter().any(|text| is_without_braces(text))
+/// The remedy for a text that is no instant.
+fn time_remedy(call: &Call<'_>) -> &'static str {
+    match call.request {
+        Request::Ask { .. } if call.at == Some(NOW) => {
+            "each page of an answer is asked for with the same words, so ask does not take now: \
+            --at \"$(date -u +%FT%T.%NZ)\""
         }
-        _ => false,
-    };
-    if is_without_braces {
-        return "matchers stand in braces, as in {team=\"db\"}";
+        Request::Ask { .. } => {
+            "a time is written as 2024-05-01T10:00:00Z; now is --at \"$(date -u +%FT%T.%NZ)\""
+        }
+        _ => "a time is now, or one such as 2024-05-01T10:00:00Z",
     }
-    "amcover ask --help lists the forms; a name with a blank stands in quotes: \
-    receiver \"on call\""
-}
-
-/// Whether a question looks as if its matchers are not in braces.
-fn is_without_braces(question: &str) -> bool {
-    question.contains('=') && !question.contains('{')
 }
 
 /// The remedy for a universe file that lacks a value. If it lacks one for two configurations

@@ -6,11 +6,13 @@
 //! streams of its process. `main` only makes this call.
 #![tactic(auto)]
 
-// A request, and the call that it asks for.
+// A request: what is refused before its call, and the call.
 mod calling;
+mod groups;
 
 // A run of the program.
+mod clock;
 mod program;
-mod read_file;
+mod read_files;
 
 pub use program::{run, run_process, run_with_notes};

@@ -1,14 +1,16 @@
 use crate::calling::make_call;
-use crate::read_file::read_file;
-use am_command_line::{Call, CommandLine, parse_command_line};
-use am_notes::{notes_of_answer, notes_of_refusal};
-use am_universe::{Fault, Out, Place, Terminal, report};
+use crate::clock::instant_now;
+use crate::groups::check_groups;
+use crate::read_files::{Unread, read_files};
+use am_command_line::{Call, CommandLine, NOW, NotesOption, Request, parse_command_line};
+use am_notes::{note_of_groups, note_of_unread, notes_of_answer, notes_of_refusal};
+use am_universe::{Fault, Kind, Out, Place, Terminal, report};
 use clap::Error;
 use clap::error::ErrorKind;
 use std::alloc::{AllocError, Global};
-use std::io::{BufWriter, IsTerminal, Write};
+use std::io::{BufWriter, ErrorKind as IoKind, IsTerminal, Write};
 use std::process::ExitCode;
-use std::rt::Files;
+use std::rt::{Clock, Files};
 use std::{env, io};
 
 const DONE: u8 = 0;
@@ -22,13 +24,40 @@ const FOUND: u8 = 5;
 /// How many bytes of output are buffered.
 const BUFFER: usize = 65536;
 
-/// Runs the program and returns its exit status. `words` is the command line, with the program's
-/// name first. Answers, help and the version go to `out`. A fault is one line on `err`, and a usage
-/// fault is the message of `clap` there.
+/// Which notes a run writes: all, only the one on groups of alerts, or none.
+#[derive(Clone, Copy, PartialEq, Eq)]
+enum ShownNotes {
+    All,
+    OfGroups,
+    None,
+}
+
+impl ShownNotes {
+    fn of(option: NotesOption, on_terminal: bool) -> ShownNotes {
+        match option {
+            NotesOption::Always => ShownNotes::All,
+            NotesOption::Never => ShownNotes::None,
+            NotesOption::OnTerminal if on_terminal => ShownNotes::All,
+            NotesOption::OnTerminal => ShownNotes::OfGroups,
+        }
+    }
+
+    /// The same of a call that is refused for groups of alerts.
+    fn with_groups(self) -> ShownNotes {
+        match self {
+            ShownNotes::OfGroups => ShownNotes::All,
+            notes => notes,
+        }
+    }
+}
+
+/// Runs the program as where standard error is no terminal, and returns its exit status. `words` is
+/// the command line, with the program's name first. Answers, help and the version go to `out`. A
+/// fault is one line on `err`, and a usage fault is the message of `clap` there.
 ///
 /// The exit status is 0 if all is done, 1 if an input was refused, 2 for a usage fault, 3 if memory
 /// ran out, 4 if writing failed, and 5 if all is done and something wrong, or a change, was found.
-pub fn run<R: Files + AllocGlobal, W: Write + Drop, E: Write + Drop>(
+pub fn run<R: Files + Input + Clock + AllocGlobal, W: Write + Drop, E: Write + Drop>(
     rt: &R,
     words: &[String],
     out: &mut W,
@@ -37,10 +66,12 @@ pub fn run<R: Files + AllocGlobal, W: Write + Drop, E: Write + Drop>(
     run_with_notes(rt, words, out, err, false)
 }
 
-/// Runs the program as [`run`] does and, if `notes` is set, as on a terminal, writes notes to `err`
-/// after all else. Notes are lines that begin with `note: ` and say what a person might miss. They
-/// change neither `out`, nor the line of a fault, nor the exit status.
-pub fn run_with_notes<R: Files + AllocGlobal, W: Write + Drop, E: Write + Drop>(
+/// Runs the program as [`run`] does or, if `notes` is set, as on a terminal. There notes are
+/// written to `err` after all else, unless the command line has `--no-notes`. Elsewhere only the
+/// one on groups of alerts is written, or all if it has `--notes`. Notes are lines that begin with
+/// `note: ` and say what a person might miss. They change neither `out`, nor the line of a fault,
+/// nor the exit status.
+pub fn run_with_notes<R: Files + Input + Clock + AllocGlobal, W: Write + Drop, E: Write + Drop>(
     rt: &R,
     words: &[String],
     out: &mut W,
@@ -56,9 +87,9 @@ pub fn run_with_notes<R: Files + AllocGlobal, W: Write + Drop, E: Write + Drop>(
     }
 }
 
-/// Runs the program with the command line, the files and the streams of its process. Notes are
-/// written if standard error is a terminal. A terminal gets hidden characters as escapes, so that
-/// no text of a file can change it. A command line that is not UTF-8 is a usage fault.
+/// Runs the program with the command line, the files and the streams of its process. A terminal
+/// gets hidden characters as escapes, so that no text of a file can change it. A command line that
+/// is not UTF-8 is a usage fault.
 pub fn run_process(rt: &HostRuntime) -> ExitCode {
     let mut out = Terminal::new(Out::new(io::writer(rt)), rt.stdout().is_terminal());
     let notes = rt.stderr().is_terminal();
@@ -78,7 +109,7 @@ fn arguments(rt: &HostRuntime) -> io::Result<Vec<String>> {
 /// Writes to `err` why the command line could not be read: memory ran out, or it is not UTF-8.
 /// Returns the exit status.
 fn refuse_arguments<E: Write>(error: &io::Error, alloc: Global, err: &mut E) -> u8 {
-    if error.kind() == io::ErrorKind::OutOfMemory {
+    if error.kind() == IoKind::OutOfMemory {
         return report(alloc, &Fault::memory(alloc), err);
     }
     let _ = writeln!(err, "error: the command line is not UTF-8");
@@ -86,40 +117,69 @@ fn refuse_arguments<E: Write>(error: &io::Error, alloc: Global, err: &mut E) -> 
 }
 
 /// Reads the files that a command line names, and does what it asks for. Returns the exit status.
-fn run_line<R: Files + AllocGlobal, W: Write + Drop, E: Write + Drop>(
+fn run_line<'a, R: Files + Input + Clock + AllocGlobal, W: Write + Drop, E: Write + Drop>(
     rt: &R,
-    line: CommandLine<'_, &str>,
+    line: CommandLine<'a, &'a str>,
     out: &mut W,
     err: &mut E,
     notes: bool,
 ) -> u8 {
     let alloc = rt.alloc();
+    let notes = ShownNotes::of(line.notes, notes);
     let call = match read_files(rt, line) {
         Ok(call) => call,
-        Err(fault) => return refuse(alloc, None, &fault, err, notes),
+        Err(unread) => return refuse_unread(alloc, &unread, err, notes),
     };
+    let now = match now_if_asked(rt, &call) {
+        Ok(now) => now,
+        Err(fault) => return refuse(alloc, &call, &fault, err, notes),
+    };
+    let call = at_instant(call, now.as_deref());
+    if let Err(fault) = check_groups(alloc, &call) {
+        return refuse(alloc, &call, &fault, err, notes.with_groups());
+    }
     match call_buffered(alloc, &call, out) {
         Ok(status) => {
-            if notes {
-                write_notes(notes_of_answer(alloc, &call), err);
+            match notes {
+                ShownNotes::All => write_notes(notes_of_answer(alloc, &call), err),
+                ShownNotes::OfGroups => write_notes(note_of_groups(alloc, &call), err),
+                ShownNotes::None => {}
             }
             status
         }
-        Err(fault) => refuse(alloc, Some(&call), &fault, err, notes),
+        Err(fault) => refuse(alloc, &call, &fault, err, notes),
     }
 }
 
-/// Writes why a call was refused and, if `notes` is set, what may help. Returns the exit status.
+/// Writes why a call was refused and, if all notes are written, what may help. Returns the exit
+/// status.
 fn refuse<E: Write + Drop>(
     alloc: Global,
-    call: Option<&Call<'_>>,
+    call: &Call<'_>,
     fault: &Fault,
     err: &mut E,
-    notes: bool,
+    notes: ShownNotes,
 ) -> u8 {
     let status = report(alloc, fault, err);
-    if notes {
+    if notes == ShownNotes::All {
         write_notes(notes_of_refusal(alloc, call, fault), err);
+    }
+    status
+}
+
+/// The same as [`refuse`] for a file that could not be read, or if memory ran out for it.
+fn refuse_unread<E: Write + Drop>(
+    alloc: Global,
+    unread: &Unread<'_>,
+    err: &mut E,
+    notes: ShownNotes,
+) -> u8 {
+    if unread.error.kind() == IoKind::OutOfMemory {
+        return report(alloc, &Fault::memory(alloc), err);
+    }
+    let status = report(alloc, &Fault::at(alloc, Kind::Read, unread.place), err);
+    if notes == ShownNotes::All {
+        write_notes(note_of_unread(alloc, unread.path, &unread.error), err);
     }
     status
 }
@@ -132,23 +192,24 @@ fn write_notes<E: Write + Drop>(notes: Result<String, AllocError>, err: &mut E) 
     }
 }
 
-/// Reads the files that a command line names, in the order in which commands look at them.
-fn read_files<'a, R: Files + AllocGlobal>(
-    rt: &R,
-    line: CommandLine<'a, &str>,
-) -> Result<Call<'a>, Fault> {
-    Ok(CommandLine {
-        universe: read_input(rt, line.universe, Place::Universe)?,
-        config: read_input(rt, line.config, Place::Config)?,
-        old: read_input(rt, line.old, Place::Old)?,
-        new: read_input(rt, line.new, Place::New)?,
-        silences: read_input(rt, line.silences, Place::Silences)?,
-        alerts: read_input(rt, line.alerts, Place::Alerts)?,
-        rules: read_input(rt, line.rules, Place::Rules)?,
-        request: line.request,
-        at: line.at,
-        json: line.json,
-    })
+/// The text of the clock's instant, if a call asks for it. `ask` does not: the other pages of its
+/// answer are asked for with the same words. A clock that cannot be read is a fault at the instant.
+fn now_if_asked<R: Clock + AllocGlobal>(rt: &R, call: &Call<'_>) -> Result<Option<String>, Fault> {
+    match call.request {
+        Request::Ask { .. } => Ok(None),
+        _ if call.at == Some(NOW) => match instant_now(rt) {
+            Ok(now) => Ok(Some(now)),
+            Err(kind) => Err(Fault::at(rt.alloc(), kind, Place::Instant)),
+        },
+        _ => Ok(None),
+    }
+}
+
+/// The call at this instant, or at its own if there is none.
+fn at_instant<'a>(call: Call<'a>, instant: Option<&'a str>) -> Call<'a> {
+    let mut call = call;
+    call.at = instant.or(call.at);
+    call
 }
 
 /// Makes a call that writes to a buffer over the output. The buffer is flushed if the call
@@ -178,17 +239,6 @@ fn call_buffered<W: Write + Drop>(
     } else {
         Err(Fault::write(alloc))
     }
-}
-
-/// Reads an optional input file. A file that cannot be read is a fault at its place. If memory runs
-/// out, the fault is at `Memory`.
-fn read_input<R: Files + AllocGlobal>(
-    rt: &R,
-    path: Option<&str>,
-    place: Place,
-) -> Result<Option<Vec<u8>>, Fault> {
-    let read = path.map(|path| read_file(rt, path)).transpose();
-    read.map_err(|kind| Fault::at(rt.alloc(), kind, place))
 }
 
 /// Writes the message of `clap`: help and the version to `out`, a usage fault to `err`.
