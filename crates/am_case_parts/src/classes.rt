@@ -14,15 +14,31 @@ pub fn of_classes(alloc: Global, alphabet: Alphabet, text: &str) -> Result<Vec<u
     for i in 0..list.len() {
         matchers.push(list.get(i))?;
     }
-    let matchers = matchers.as_slice();
+    classes_text(alloc, alphabet, matchers.as_slice())
+}
+
+fn classes_text(
+    alloc: Global,
+    alphabet: Alphabet,
+    matchers: &[&Matcher],
+) -> Result<Vec<u8>, Refusal> {
     let Some(found) = classes(alloc, alphabet, matchers)? else {
         return Ok(Vec::from_slice(alloc, b"unproved")?);
     };
     if !found.all {
         return Ok(Vec::from_slice(alloc, b"many")?);
     }
+    truths_text(alloc, alphabet, matchers, found.texts.as_slice())
+}
+
+fn truths_text(
+    alloc: Global,
+    alphabet: Alphabet,
+    matchers: &[&Matcher],
+    texts: &[String],
+) -> Result<Vec<u8>, Refusal> {
     let mut truths = Vec::new(alloc);
-    for text in &found.texts {
+    for text in texts {
         if !alphabet.has(text.as_str()) {
             return Err(Refusal::wrong(alloc, "a text that is not over the alphabet"));
         }

@@ -4,7 +4,7 @@ use crate::asked::read_file;
 use crate::matchers::write_matchers;
 use crate::texts::{Refusal, begun};
 use am_config::{Config, Path, Route, Rule, read_config};
-use am_list_files::{Timestamp, parse_instant, read_silences};
+use am_list_files::{Silences, Timestamp, parse_instant, read_silences};
 use am_universe::{Kind, Out, put_str, write_text};
 use std::alloc::Global;
 use std::rt::Files;
@@ -13,8 +13,12 @@ use std::rt::Files;
 pub fn of_config<R: Files + AllocGlobal>(files: &R, path: &str) -> Result<Vec<u8>, Refusal> {
     let alloc = files.alloc();
     let config = read_config(alloc, read_file(files, path)?.as_slice())?;
+    config_text(alloc, &config)
+}
+
+fn config_text(alloc: Global, config: &Config) -> Result<Vec<u8>, Refusal> {
     let mut out = begun(alloc, "ok: receivers")?;
-    write_config(alloc, &config, &mut out)?;
+    write_config(alloc, config, &mut out)?;
     Ok(out.into_inner())
 }
 
@@ -71,6 +75,10 @@ fn write_rule(rule: &Rule, out: &mut Out<Vec<u8>>) -> Result<(), Kind> {
 pub fn of_silences<R: Files + AllocGlobal>(files: &R, path: &str) -> Result<Vec<u8>, Refusal> {
     let alloc = files.alloc();
     let silences = read_silences(alloc, read_file(files, path)?.as_slice())?;
+    silences_text(alloc, &silences)
+}
+
+fn silences_text(alloc: Global, silences: &Silences) -> Result<Vec<u8>, Refusal> {
     let mut out = begun(alloc, "ok:")?;
     for i in 0..silences.len() {
         put_str(&mut out, if i > 0 { "; " } else { " " })?;

@@ -10,8 +10,10 @@ use crate::asked::{read_file, read_words};
 use crate::texts::{Refusal, add_positions, word};
 use am_case_runner::Problem;
 use am_first_sets::{Budget, PossibleSets, Unfinished};
+use am_labels::Space;
 use am_list_files::read_universe;
 use am_plans::Plan;
+use am_questions::AcceptedInputs;
 use am_search::{Answers, Judge, Start, State, Verdict, first};
 use am_universe::{Choice, Universe};
 use std::alloc::{AllocError, Global};
@@ -26,8 +28,12 @@ pub fn of_judge<R: rt::Files + AllocGlobal>(
     files: &R,
     words: &[String],
 ) -> Result<Vec<u8>, Refusal> {
-    let alloc = files.alloc();
     let inputs = read_words(files, words, 1)?;
+    verdict_at_start(files.alloc(), &inputs)
+}
+
+/// What the plan of the inputs' question says of the prefix at which the answers begin.
+fn verdict_at_start(alloc: Global, inputs: &AcceptedInputs) -> Result<Vec<u8>, Refusal> {
     let plan = Plan::new(alloc, &inputs.space, &inputs.world, &inputs.question)?;
     let Some(prefix) = prefix_of(inputs.space.universe(), inputs.start) else {
         return Err(Refusal::wrong(alloc, "no prefix"));
@@ -94,14 +100,18 @@ pub fn of_count<R: rt::Files + AllocGlobal>(
     files: &R,
     words: &[String],
 ) -> Result<Vec<u8>, Refusal> {
-    let alloc = files.alloc();
     let inputs = read_words(files, words, 2)?;
+    count_answers(files.alloc(), &inputs, word(words, 1))
+}
+
+fn count_answers(alloc: Global, inputs: &AcceptedInputs, most: &str) -> Result<Vec<u8>, Refusal>
+    requires { IsStart (sizes inputs.now.space.labels) inputs.now.start }
+{
     let plan = Plan::new(alloc, &inputs.space, &inputs.world, &inputs.question)?;
     let counted = CountedPlan {
         plan: &plan,
         asked: Cell::new(0),
     };
-    let most = word(words, 1);
     if most == "first" {
         let given = usize::from(first(&counted).is_some());
         return Ok(count_text(alloc, given, &counted, State::Ended)?);
@@ -157,12 +167,16 @@ fn count_text(
 pub fn of_boxes<R: rt::Files + AllocGlobal>(files: &R, universe: &str) -> Result<Vec<u8>, Refusal> {
     let alloc = files.alloc();
     let space = read_universe(alloc, read_file(files, universe)?.as_slice())?;
-    let possible = PossibleSets::of(alloc, &space)?;
-    let text = match possible.some_meeting(alloc, &[], &[], &mut Budget::limited()) {
-        Ok(Some(_)) => "some",
-        Ok(None) => "none",
-        Err(Unfinished::Memory) => return Err(Refusal::from(AllocError)),
-        Err(Unfinished::UsedUp(_)) => "used up",
-    };
+    let text = found_text(alloc, &space)?;
     Ok(Vec::from_slice(alloc, text.as_bytes())?)
+}
+
+fn found_text(alloc: Global, space: &Space) -> Result<&'static str, AllocError> {
+    let possible = PossibleSets::of(alloc, space)?;
+    match possible.some_meeting(alloc, &[], &[], &mut Budget::limited()) {
+        Ok(Some(_)) => Ok("some"),
+        Ok(None) => Ok("none"),
+        Err(Unfinished::Memory) => Err(AllocError),
+        Err(Unfinished::UsedUp(_)) => Ok("used up"),
+    }
 }

@@ -28,20 +28,41 @@ const MOST_CHOICES: usize = 999;
 pub fn of_whole<R: Files + AllocGlobal>(files: &R, words: &[String]) -> Result<Vec<u8>, Refusal> {
     let alloc = files.alloc();
     let inputs = read_words(files, words, 1)?;
-    let all = all_choices(alloc, &inputs)?;
+    let (starts, items) = compare_all(alloc, &inputs)?;
+    let text = format!(in alloc; "ok: {starts} starts, {items} given")?;
+    Ok(text.into_bytes())
+}
+
+/// Compares at all starts. Returns how many there are, and how many choices are given.
+fn compare_all(alloc: Global, inputs: &AcceptedInputs) -> Result<(usize, usize), Refusal>
+    requires { IsStart (sizes inputs.now.space.labels) inputs.now.start }
+{
+    let all = all_choices(alloc, inputs)?;
     let plan = Plan::new(alloc, &inputs.space, &inputs.world, &inputs.question)?;
     let universe = inputs.space.universe();
-    let mut items = compare(alloc, &plan, universe, inputs.start, all.as_slice())?;
+    let items = compare(alloc, &plan, universe, inputs.start, all.as_slice())?;
+    let more = compare_behind(alloc, &plan, universe, all.as_slice())?;
+    Ok((all.len().saturating_add(1), items.saturating_add(more)))
+}
+
+/// Compares behind each choice, and returns how many choices are given in all.
+fn compare_behind(
+    alloc: Global,
+    plan: &Plan<'_>,
+    universe: &Universe,
+    all: &[(Choice, bool)],
+) -> Result<usize, Refusal>
+    requires { plan_sizes plan.now ≡ sizes universe.now }
+{
+    let mut items = 0_usize;
     for (i, (choice, _)) in all.iter().enumerate() {
         let Some(start) = start_after(universe, *choice) else {
             return Err(Refusal::wrong(alloc, "a choice that is not whole"));
         };
-        let rest = all.as_slice().get(i.saturating_add(1)..).unwrap_or(&[]);
-        items = items.saturating_add(compare(alloc, &plan, universe, start, rest)?);
+        let rest = all.get(i.saturating_add(1)..).unwrap_or(&[]);
+        items = items.saturating_add(compare(alloc, plan, universe, start, rest)?);
     }
-    let starts = all.len().saturating_add(1);
-    let text = format!(in alloc; "ok: {starts} starts, {items} given")?;
-    Ok(text.into_bytes())
+    Ok(items)
 }
 
 /// All whole choices in declared order, each with the truth of the question on its label set.
