@@ -3,15 +3,16 @@
 //! Matchers name texts: the text behind `=` or `!=`, and the alternatives of a pattern that is an
 //! alternation of plain texts, such as `db|web`. Of named texts that are alike one is kept. If no
 //! matcher takes any other pattern, all texts that are not named are one more class. If some do,
-//! the states of the label are explored. At a state where a character may begin, the truth of each
-//! matcher follows from the state. So one text is kept for each different row of truths.
+//! the states of the label are explored. At a state where a character may begin, it follows from
+//! the state which patterns find the text. So one text is kept for each set of patterns that find
+//! one.
 //!
 //! The classes are found for all matchers together, and not joined from the classes of each.
 //! Patterns of one label mostly exclude each other, and a class without a text is never listed.
 //!
 //! The search stops once there are more classes than a label may have values. If there are many
 //! matchers, some of them may tell so many texts apart, and then all do. So those that name texts
-//! are looked at first, and then `PART` matchers at a time, with a text that each pattern finds.
+//! are looked at first, and then `PART` matchers at a time, with texts that their patterns find.
 
 ghost use Rattle.std.specs.Prelude.{◌≡◌, ◌++◌, ◌<◌, ◌⊎◌, List, [], false, map, IfOk, IfSome};
 ghost use Rattle.std.specs.Prelude.{IfNone, IsTrue, Contains, length, string_bytes, vec_len};
@@ -41,8 +42,9 @@ use am_scan::PatternAutomaton;
 use am_universe::limits::MAX_VALUES;
 use std::alloc::{AllocError, Global};
 
-/// How many matchers are looked at together, before all are.
-const PART: usize = 2 * MAX_VALUES;
+/// How many matchers are looked at together, before all are. How long that takes grows with the
+/// square of it.
+const PART: usize = MAX_VALUES + MAX_VALUES / 2;
 
 /// Texts of a label, no two of which are alike to its matchers.
 #[derive(Drop)]
@@ -158,8 +160,8 @@ fn has_other_pattern(matchers: &[&Matcher]) -> bool
     false
 }
 
-/// Tests the texts that matchers name, and a text that each of their patterns finds. Returns those
-/// that are alike to none before them, if they are more than a label may have values.
+/// Tests the texts that matchers name, and texts that their patterns find. Returns those that are
+/// alike to none before them, if they are more than a label may have values.
 fn many_of_part<'m>(
     alloc: Global,
     alphabet: Alphabet,
@@ -175,12 +177,13 @@ fn many_of_part<'m>(
     let Some(automata) = automata_of(alloc, bytes, patterns)? else {
         return Ok(None);
     };
+    // Each text is tested by each pattern. So if there are patterns, only the first texts are.
     texts.truncate(if automata.is_empty() {
         usize::MAX
     } else {
         PART
     });
-    texts.append(&mut samples(alloc, alphabet, automata.as_slice())?)?;
+    texts.append(&mut samples(alloc, alphabet, patterns, automata.as_slice())?)?;
     let texts = apart_texts(alloc, &tests, automata.as_slice(), texts.as_slice())?;
     if texts.len() <= MAX_VALUES {
         return Ok(None);

@@ -12,11 +12,12 @@ use std::alloc::{AllocError, Global};
 use std::collections::HashSet;
 use std::str::from_utf8;
 
-/// Returns short texts over an alphabet, one for each pattern. Most are texts that their patterns
-/// find.
+/// Returns short texts over an alphabet, at most two for each pattern. Most are texts that their
+/// patterns find.
 pub(crate) fn samples(
     alloc: Global,
     alphabet: Alphabet,
+    patterns: &[&str],
     automata: &[PatternAutomaton],
 ) -> Result<Vec<String>, AllocError>
     ensures { IfOk result (λ texts. AllByRecursion
@@ -33,7 +34,29 @@ pub(crate) fn samples(
             texts.push(String::from_str(alloc, text)?)?;
         }
     }
+    for pattern in patterns {
+        let text = plain_part(pattern);
+        if text.len() < MAX_SAMPLE_NUMBERS && alphabet.has(text) {
+            texts.push(String::from_str(alloc, text)?)?;
+        }
+    }
     Ok(texts)
+}
+
+/// Returns the first part of a pattern between bars that has letters and digits alone, or the empty
+/// text if there is none. Nothing is promised about it.
+fn plain_part(pattern: &str) -> &str {
+    for part in pattern.split('|') {
+        if is_plain(part) {
+            return part;
+        }
+    }
+    ""
+}
+
+/// Whether a text has letters and digits of ASCII alone.
+fn is_plain(part: &str) -> bool {
+    part.bytes().all(|byte| byte.is_ascii_alphanumeric())
 }
 
 /// A number of an automaton, and a text that leads to it.

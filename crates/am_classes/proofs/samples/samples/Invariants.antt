@@ -8,3 +8,8 @@ abbrev pub invariant-loop-automaton : goal.invariant-loop-automaton
 invariant-loop-automaton l =
     AllByRecursion (λ text. IsTrue (is_over l.alphabet text) × (length text < MAX_SAMPLE_NUMBERS))
     (map string_bytes l.texts.items)
+
+abbrev pub invariant-loop-pattern : goal.invariant-loop-pattern
+invariant-loop-pattern l =
+    AllByRecursion (λ text. IsTrue (is_over l.alphabet text) × (length text < MAX_SAMPLE_NUMBERS))
+    (map string_bytes l.texts.items)
