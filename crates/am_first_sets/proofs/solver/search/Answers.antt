@@ -7,7 +7,7 @@ use Rattle.am_judged_lists.specs.Cube.{MaskedLabels}
 use Rattle.am_judged_lists.specs.Boxes.{IsOpen, HasChoice, count_positions}
 use Rattle.am_first_sets.specs.Solving.{avoids, marked}
 use Rattle.am_first_sets.proofs.SolverLemmas.{AreLeft, IsKept, left_start, left_nothing, left_done, left_refuted, left_narrowed, left_split, weight, lighter_none, lighter_one, lighter_two}
-use Rattle.am_first_sets.proofs.solver.search.Goals.{then-has_choice+in_ok-push, else-has_choice}
+use Rattle.am_first_sets.proofs.solver.search.Goals.{After-narrow, then-has_choice+in_ok-push, else-has_choice}
 use Rattle.am_first_sets.proofs.solver.search.Goals as goal
 
 pub loop-positions-init : goal.loop-positions-init
@@ -29,18 +29,26 @@ loop-positions-init c = elim c.if-has_choice.branch [
       })
 ]
 
+-- what is left to look at once a pass has narrowed the last box
+left_after : (c : After-narrow)
+    → AreLeft c.args.start (marked c.narrow.new.used c.args.unwanted.now)
+    (c.pop.new.self.items ++ c.narrow.new.positions ∷ [])
+left_after c =
+    let start = c.args.start in
+    let before = marked c.loop-positions.used c.args.unwanted.now in
+    left_narrowed start (marked c.narrow.new.used c.args.unwanted.now) before c.pop.new.self.items
+    c.in-Some.positions c.narrow.new.positions
+    (subst (AreLeft start before) c.in-Some.ensures.items c.loop-positions.invariant.left)
+    c.narrow.ensures.narrowed
+
 pub returns-in-Done-clause-found : goal.returns-in-Done-clause-found
 returns-in-Done-clause-found c =
     let start = c.args.start in
     let cubes = c.args.unwanted.now in
-    let before = marked c.loop-positions.used cubes in
-    let after = marked c.narrow.new.used cubes in
+    let after = marked c.narrow.new.used c.args.unwanted.now in
     let boxes = c.pop.new.self.items in
-    let b = c.in-Some.positions in
     let n = c.narrow.new.positions in
-    let left = left_narrowed start after before boxes b n
-    (subst (AreLeft start before) c.in-Some.ensures.items c.loop-positions.invariant.left)
-    c.narrow.ensures.narrowed in
+    let left = left_after (goal.at.returns-in-Done-clause-found c).After-narrow in
     left_done start after cubes boxes n left c.in-Done.ensures.step
 
 pub loop-positions-smaller-in-Refuted-1 : goal.loop-positions-smaller-in-Refuted-1
@@ -51,15 +59,10 @@ loop-positions-smaller-in-Refuted-1 c =
 pub loop-positions-preserved-in-Refuted-1 : goal.loop-positions-preserved-in-Refuted-1
 loop-positions-preserved-in-Refuted-1 c =
     let start = c.args.start in
-    let cubes = c.args.unwanted.now in
-    let before = marked c.loop-positions.used cubes in
-    let after = marked c.narrow.new.used cubes in
+    let after = marked c.narrow.new.used c.args.unwanted.now in
     let boxes = c.pop.new.self.items in
-    let b = c.in-Some.positions in
     let n = c.narrow.new.positions in
-    let left = left_narrowed start after before boxes b n
-    (subst (AreLeft start before) c.in-Some.ensures.items c.loop-positions.invariant.left)
-    c.narrow.ensures.narrowed in
+    let left = left_after (goal.at.loop-positions-preserved-in-Refuted-1 c).After-narrow in
     record {
       long = c.narrow.ensures.long ∙ c.loop-positions.invariant.long;
       left = left_refuted start after boxes n left
@@ -78,15 +81,8 @@ pub loop-positions-preserved-in-Continue-branch-2 :
     goal.loop-positions-preserved-in-Continue-branch-2
 loop-positions-preserved-in-Continue-branch-2 c =
     let start = c.args.start in
-    let cubes = c.args.unwanted.now in
-    let before = marked c.loop-positions.used cubes in
-    let after = marked c.narrow.new.used cubes in
-    let boxes = c.pop.new.self.items in
-    let b = c.in-Some.positions in
-    let n = c.narrow.new.positions in
-    let left = left_narrowed start after before boxes b n
-    (subst (AreLeft start before) c.in-Some.ensures.items c.loop-positions.invariant.left)
-    c.narrow.ensures.narrowed in
+    let after = marked c.narrow.new.used c.args.unwanted.now in
+    let left = left_after (goal.at.loop-positions-preserved-in-Continue-branch-2 c).After-narrow in
     record {
       long = c.narrow.ensures.long ∙ c.loop-positions.invariant.long;
       left = subst (AreLeft start after) (sym c.in_ok-push-in-Narrowed.ensures.items) left;
@@ -130,14 +126,10 @@ pub loop-positions-preserved : goal.loop-positions-preserved
 loop-positions-preserved c =
     let start = c.args.start in
     let cubes = c.args.unwanted.now in
-    let before = marked c.loop-positions.used cubes in
-    let after = marked c.narrow.new.used cubes in
+    let after = marked c.narrow.new.used c.args.unwanted.now in
     let boxes = c.pop.new.self.items in
-    let b = c.in-Some.positions in
     let n = c.narrow.new.positions in
-    let left = left_narrowed start after before boxes b n
-    (subst (AreLeft start before) c.in-Some.ensures.items c.loop-positions.invariant.left)
-    c.narrow.ensures.narrowed in
+    let left = left_after (goal.at.loop-positions-preserved c).After-narrow in
     let label = c.in-Split.label in
     let first = c.index-unwanted-index.result in
     let again = c.index-unwanted-index-in-Split.result in
