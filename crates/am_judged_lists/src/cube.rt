@@ -17,7 +17,7 @@ use crate::rows::rows_of;
 use am_labels::{Matchers, Row};
 use am_search::Verdict;
 use am_universe::limits::MAX_LABELS;
-use am_universe::{Choice, Universe};
+use am_universe::{Choice, Position, Universe};
 use std::alloc::{AllocError, Global};
 use std::marker::Model;
 
@@ -245,7 +245,7 @@ impl Cube {
     }
 
     /// Whether a label has no mask.
-    pub(crate) fn is_free(&self, label: usize) -> bool
+    pub fn is_free(&self, label: usize) -> bool
         ensures free { result ≡ list_all (λ m. not (m.label == label)) self.now.masks }
     {
         self.masks.iter().all(|m| m.label != label)
@@ -281,6 +281,26 @@ impl Cube {
             }
         }
         true
+    }
+
+    /// Returns the choice that has the positions of another one where they are permitted, and the
+    /// first permitted ones elsewhere. So the cube matches it, if it matches any choice.
+    pub fn nearest(&self, choice: &Choice) -> Choice
+        ensures long { length result ≡ length choice.now }
+    {
+        let mut nearest = Choice::empty();
+        for label in 0..choice.len() {
+            nearest.push(self.nearest_position(label, choice.get(label)));
+        }
+        nearest
+    }
+
+    /// Returns a position of a label, or the first permitted one if it is not permitted.
+    fn nearest_position(&self, label: usize, position: Position) -> Position {
+        match self.mask_of(label) {
+            Some(mask) if !mask.permits(position) => mask.first().unwrap_or(position),
+            _ => position,
+        }
     }
 
     /// Whether the verdict at a prefix is `Yes`: the list matches every completion.

@@ -154,6 +154,19 @@ impl Mask {
         self.contains(usize::from(position))
     }
 
+    /// The first permitted position, if there is one that a label can have.
+    pub(crate) fn first(&self) -> Option<Position> {
+        for i in 0..self.words() {
+            let word = self.word(i);
+            if word != 0 {
+                let before = i.saturating_mul(WORD);
+                let first = before.saturating_add(word.trailing_zeros() as usize);
+                return Position::try_from(first).ok();
+            }
+        }
+        None
+    }
+
     /// Whether two masks permit the same positions.
     pub(crate) fn is_same(&self, other: &Mask) -> bool
         ensures same { IsTrue result → self.now ≡ other.now }

@@ -12,7 +12,7 @@ ghost use Rattle.am_judged_lists.specs.Boxes.{is_in_part, count_positions};
 
 use crate::cube::Cube;
 use crate::mask::{Mask, Part};
-use am_universe::Universe;
+use am_universe::{Choice, Universe};
 use std::alloc::{AllocError, Global};
 use std::marker::Model;
 
@@ -98,6 +98,21 @@ impl PositionBox {
             Some(mask) => mask.contains(position),
             None => false,
         }
+    }
+
+    /// Whether a choice is in the box.
+    pub fn has(&self, choice: &Choice) -> bool
+        ensures { IsTrue result ↔ IsInBox self.now choice.now }
+    {
+        if choice.len() != self.masks.len() {
+            return false;
+        }
+        for label in 0..self.masks.len() {
+            if !self.masks[label].permits(choice.get(label)) {
+                return false;
+            }
+        }
+        true
     }
 
     /// Whether each label has some permitted position.
