@@ -1,6 +1,7 @@
 ghost use Rattle.std.specs.Prelude.{◌≡◌, None, IsTrue, not, ◌&&◌};
 
 use am_judged_lists::Cube;
+use am_universe::Choice;
 
 /// A literal: the cube of a list of matchers, which a label set has to match or must not match.
 ///
@@ -16,6 +17,16 @@ pub struct Candidate<'a> {
 }
 
 impl<'a> Candidate<'a> {
+    ghost use Rattle.am_first_sets.specs.Literals.{holds_at};
+
+    /// Whether the literal is true at a choice.
+    #[tactic(auto, using(crate::proofs::CubeTruth::matches_is))]
+    pub fn holds(&self, choice: &Choice) -> bool
+        ensures { result ≡ holds_at choice.now self.now }
+    {
+        self.cube.must(choice) == self.wanted
+    }
+
     /// Whether the literal is named, and asks for no match.
     pub(crate) fn asks_for_no_match(&self) -> bool
         ensures { result ≡ (self.now.named && not self.now.wanted) }

@@ -10,6 +10,7 @@ ghost use Rattle.am_first_sets.specs.Solving.{avoids, marked};
 use crate::budget::{Budget, Unfinished};
 use crate::solver::{refute, solve};
 use am_judged_lists::{Cube, PositionBox};
+use am_universe::Choice;
 use std::alloc::{AllocError, Global};
 
 /// The choices of a box that match none of some cubes.
@@ -21,6 +22,13 @@ pub struct PossibleChoices {
 
 impl PossibleChoices {
     ghost use Rattle.am_first_sets.specs.PossibleChoices.{IsPossible, AreFound};
+
+    /// Whether a choice is one of these.
+    pub fn has(&self, choice: &Choice) -> bool
+        ensures { IsTrue result ↔ IsPossible self.now choice.now }
+    {
+        self.all.has(choice) && is_possible_by(self.impossible.as_slice(), choice)
+    }
 
     /// Finds choices that all wanted cubes match and none of the unwanted ones.
     ///
@@ -108,4 +116,12 @@ impl PossibleChoices {
         }
         Ok(cubes)
     }
+}
+
+/// Whether a choice matches none of some cubes.
+#[tactic(auto, using(crate::proofs::CubeTruth::matches_is))]
+fn is_possible_by(impossible: &[Cube], choice: &Choice) -> bool
+    ensures { result ≡ is_possible_by impossible.now choice.now }
+{
+    impossible.iter().all(|cube| !cube.must(choice))
 }
