@@ -8,7 +8,6 @@ use Rattle.std.specs.Cmp.Lexicographic.{pointwise, same_text}
 use Rattle.std.specs.Option.{option_eq}
 use Rattle.std.proofs.lemmas.Bool.{and_parts, eqb-true}
 use Rattle.std.proofs.lemmas.Option.{slice_get-get_or, slice_get_within}
-use Rattle.std.proofs.lemmas.Grind.{common_steps}
 use Rattle.am_labels.specs.Pattern.{finds}
 use Rattle.am_scan.specs.declared.column.Column.{Column}
 use Rattle.am_scan.specs.declared.row.Row.{Row}
@@ -16,7 +15,7 @@ use Rattle.am_scan.specs.declared.pattern_scan.PatternScan.{PatternScan}
 use Rattle.am_scan.specs.declared.pattern_state.PatternState.{PatternState}
 use Rattle.am_scan.specs.Sight.{is_scanned, IsScanned}
 use Rattle.am_scan.specs.Scan.{Follows}
-use Rattle.am_scan.specs.Numbers.{next_in, number_in, found_in}
+use Rattle.am_scan.specs.Numbers.{next_in, number_in, found_at, found_in}
 use Rattle.am_scan.specs.Column.{IsColumn}
 use Rattle.am_scan.specs.Automaton.{AreClasses, Grows, IsNumber, IsRow, AreRows}
 use Rattle.am_scan.proofs.Places.{get_within, get_pushed}
@@ -56,7 +55,10 @@ module _ (scan : PatternScan) (columns : List Column) (classes : List ℕ) (stat
 
   -- So what is said about the number holds for the text.
   pub found_in-exact : (text : List ℕ) → IsScanned scan.bytes text → found_in rows (number_in rows classes text) ≡ finds (string_bytes scan.pattern) text
-  found_in-exact text scanned = grind (arith, common_steps, stands_for, row_at)
+  found_in-exact text scanned =
+      let here = stands_for text scanned in
+      let row = row_at (number_in rows classes text) here.0 here.1 in
+      ap found_at row.1 ∙ row.2.found text here.2 scanned
 
 -- A row stays a row when states are added.
 pub IsRow_kept : (scan : PatternScan) (columns : List Column) (old new : List PatternState) (state : PatternState) (row : Row) → Grows old new →

@@ -11,3 +11,4 @@ pub mod WildcardTableLemmas
 pub mod CharacterLemmas
 pub mod AlikeTexts
 mod PartLemmas
+mod TrimmingLemmas

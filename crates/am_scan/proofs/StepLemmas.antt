@@ -18,9 +18,10 @@ use Rattle.am_labels.specs.Pattern.{finds}
 use Rattle.am_scan.specs.declared.byte_set.ByteSet.{ByteSet}
 use Rattle.am_scan.specs.declared.sight.Sight.{Sight}
 use Rattle.am_scan.specs.Sight.{kind_of, kind_beside, is_scanned, IsScanned}
-use Rattle.am_labels.specs.PatternView.{start_at, IsSearchFor}
+use Rattle.am_labels.specs.PatternView.{start_at}
 use Rattle.am_scan.specs.Closure.{leads, IsClosed, goes_on}
 use Rattle.am_scan.specs.Scan.{FollowsText}
+use Rattle.am_scan.specs.Trimming.{IsScannedSearch}
 use Rattle.am_scan.proofs.SightLemmas.{IsSeen}
 use Rattle.am_scan.proofs.ClosureLemmas.{is_some-cond, leads_where_accepted}
 
@@ -66,7 +67,7 @@ pub scanned_is_byte : (bytes : ByteSet) (b : ℕ) → is_scanned bytes b ≡ tru
 scanned_is_byte bytes b h = ltb-true b 256 (and_parts (nat_lt b 256) _ h).0
 
 -- so a scanned text has only bytes
-bytes_of_scanned : (bytes : ByteSet) (text : List ℕ) → IsScanned bytes text → All (λ b. b < 256) text
+pub bytes_of_scanned : (bytes : ByteSet) (text : List ℕ) → IsScanned bytes text → All (λ b. b < 256) text
 bytes_of_scanned bytes text scanned = grind (arith, common_steps, scanned_is_byte)
 
 module _ (nfa : Nfa) (sight : Sight) (bytes : ByteSet) (seen : IsSeen nfa sight bytes) (first : Option ℕ) (starts : Bool) (reads : ℕ → Bool) (later : Bool) (text : List ℕ)
@@ -113,9 +114,9 @@ module _ (nfa : Nfa) (sight : Sight) (bytes : ByteSet) (seen : IsSeen nfa sight 
       }
 
   -- whether the pattern finds the whole text
-  pub finds_where_accepted : (p : List ℕ) → IsSearchFor nfa p → IsClosed nfa first None reads accepted → IsScanned bytes text →
+  pub finds_where_accepted : (p : List ℕ) → IsScannedSearch bytes nfa p → IsClosed nfa first None reads accepted → IsScanned bytes text →
       (later || (starts && slice_index_or accepted nfa.start false)) ≡ finds p text
   finds_where_accepted p search closed scanned =
       let count : suc (length text) ≡ length text + 1 - 0 = omega arith in
       from_here None closed text 0 scanned refl (ap (kind_beside sight) (sym (byte_before-zero text)))
-      ∙ ap (λ n. is_some (first_from (start_at nfa text) n 0)) count ∙ search text (bytes_of_scanned bytes text scanned)
+      ∙ ap (λ n. is_some (first_from (start_at nfa text) n 0)) count ∙ search text scanned

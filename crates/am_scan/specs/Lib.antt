@@ -1,5 +1,6 @@
 pub mod Sight
 pub mod Closure
+pub mod Trimming
 pub mod Column
 pub mod Arrivals
 pub mod Scan

@@ -29,6 +29,11 @@ mod sight;
 mod pattern_state;
 mod steps;
 
+// A compiled pattern without the states that do not matter.
+mod renaming;
+mod trim_check;
+mod trimming;
+
 // How a pattern is followed from the end of a text.
 mod pattern_scan;
 

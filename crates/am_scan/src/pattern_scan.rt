@@ -5,7 +5,7 @@ ghost use Rattle.std.specs.List.{list_all};
 ghost use Rattle.regex_nfa.specs.Run.{state_of};
 ghost use Rattle.am_labels.specs.Pattern.{finds};
 ghost use Rattle.am_scan.specs.Sight.{is_scanned, sees_state, IsScanned};
-ghost use Rattle.am_labels.specs.PatternView.{IsSearchFor};
+ghost use Rattle.am_scan.specs.Trimming.{IsScannedSearch};
 ghost use Rattle.am_scan.specs.Closure.{IsClosed, AcceptsReads, accepts, contains};
 ghost use Rattle.am_scan.specs.Closure.{reads_byte};
 
@@ -16,6 +16,7 @@ use crate::limits::{MAX_STATES, MAX_TABLE_BYTES};
 use crate::pattern_state::PatternState;
 use crate::sight::{Sight, holds};
 use crate::steps::Steps;
+use crate::trimming::trim;
 use am_labels::compile_pattern;
 use regex_nfa::{Nfa, State, StateId};
 use std::alloc::{AllocError, Global};
@@ -26,12 +27,13 @@ pub(crate) struct PatternScan {
     pub(crate) pattern: String,
     /// The bytes that scanned texts may have.
     pub(crate) bytes: ByteSet,
+    /// The compiled pattern. If it is large, it has only the states that scanned texts reach.
     pub(crate) nfa: Nfa,
     /// What the assertions of the pattern see.
     pub(crate) sight: Sight,
     /// The states that read no byte, from last to first, because most of them lead to later ones.
     idle: Vec<StateId>,
-    ghost faithful: { IsSearchFor nfa (string_bytes pattern) },
+    ghost faithful: { IsScannedSearch bytes nfa (string_bytes pattern) },
     ghost seen: { list_all (sees_state sight) nfa.states.items ≡ true },
     ghost words_in_ascii: { sight.words ≡ true → (b : ℕ) → is_scanned bytes b ≡ true → b < 128 },
     ghost idle_alone: { All (λ q. (q < vec_len nfa.states)
@@ -61,8 +63,12 @@ impl PatternScan {
         let Some(nfa) = compile_pattern(alloc, pattern, MAX_TABLE_BYTES)? else {
             return Ok(None);
         };
+        if nfa.states.len() > MAX_STATES {
+            return Ok(None);
+        }
+        let nfa = trim(alloc, nfa, bytes)?;
         let sight = Sight::of(nfa.states.as_slice());
-        if nfa.states.len() > MAX_STATES || !sight.sees_all(nfa.states.as_slice()) {
+        if !sight.sees_all(nfa.states.as_slice()) {
             return Ok(None);
         }
         if sight.words && !bytes.is_ascii() {
