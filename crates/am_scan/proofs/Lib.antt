@@ -5,6 +5,7 @@ mod StepLemmas
 mod ColumnLemmas
 mod ArrivalLemmas
 mod AutomatonLemmas
+pub mod LostLemmas
 pub mod WildcardLemmas
 pub mod WildcardStateLemmas
 pub mod WildcardTableLemmas

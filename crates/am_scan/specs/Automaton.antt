@@ -1,6 +1,6 @@
 -- The automaton of a pattern, and how it is made.
 use Rattle.std.specs.Prelude.{◌≡◌, ℕ, ◌<◌, Bool, true, List, [], ◌∷◌, length, Some, slice_get}
-use Rattle.std.specs.Prelude.{slice_index, string_bytes, vec_len}
+use Rattle.std.specs.Prelude.{false, slice_index, slice_index_or, string_bytes, vec_len}
 use Rattle.am_labels.specs.Pattern.{finds}
 use Rattle.regex_nfa.specs.declared.nfa.Nfa.{Nfa}
 use Rattle.am_scan.specs.declared.byte_set.ByteSet.{ByteSet}
@@ -124,3 +124,9 @@ scanned_bytes automaton = automaton.bytes
 -- Example: for the automaton of `db|web`, it is `db|web`.
 unfoldable pub pattern_of : PatternAutomaton → List ℕ
 pattern_of automaton = string_bytes automaton.pattern
+
+-- The texts of a number are lost: the pattern finds none of them, whatever comes before them.
+-- Source: own choice; in automata theory such states are dead.
+-- Example: for the pattern `db`, the number of the text `x` is lost.
+unfoldable pub is_lost : PatternAutomaton → ℕ → Bool
+is_lost automaton number = slice_index_or automaton.lost.items number false

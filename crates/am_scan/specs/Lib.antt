@@ -5,6 +5,7 @@ pub mod Column
 pub mod Arrivals
 pub mod Scan
 pub mod Numbers
+pub mod Lost
 pub mod Automaton
 pub mod Characters
 pub mod WildcardPlaces

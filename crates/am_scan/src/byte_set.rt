@@ -41,7 +41,7 @@ impl ByteSet {
     }
 
     /// Whether each byte of a text is in the set.
-    pub(crate) fn has_all(&self, text: &str) -> bool
+    pub fn has_all(&self, text: &str) -> bool
         ensures { result ≡ list_all (is_scanned self.now) text.now }
     {
         text.as_bytes().iter().all(|byte| self.has(*byte))

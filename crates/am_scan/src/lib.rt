@@ -45,6 +45,7 @@ mod wildcard_place;
 
 // The automaton, and the rows of its table.
 mod exploration;
+mod lost;
 mod pattern_automaton;
 mod row;
 

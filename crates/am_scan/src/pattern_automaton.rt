@@ -19,11 +19,13 @@ ghost use Rattle.am_labels.specs.Pattern.{finds};
 ghost use Rattle.am_labels.specs.Wildcards.{is_wildcards, wildcards_state};
 ghost use Rattle.am_scan.specs.Sight.{IsScanned};
 ghost use Rattle.am_scan.specs.Numbers.{number_in, found_in};
+ghost use Rattle.am_scan.specs.Lost.{AreLost};
 ghost use Rattle.am_scan.specs.WildcardStates.{HasManyStates};
 
 use crate::byte_set::ByteSet;
 use crate::columns::Columns;
 use crate::exploration::explored;
+use crate::lost::{is_marked, lost_numbers};
 use crate::pattern_scan::PatternScan;
 use crate::row::Row;
 use crate::wildcard_alphabet::Alphabet;
@@ -43,16 +45,21 @@ pub struct PatternAutomaton {
     classes: Vec<u8>,
     /// For each number, the row of its texts.
     rows: Vec<Row>,
+    /// For each number, whether its texts are known to be lost: the pattern finds none of them,
+    /// whatever comes before them.
+    lost: Vec<bool>,
     ghost exact: { (text : List ℕ) → IsScanned bytes text → IsUtf8 text
         → found_in rows.items (number_in rows.items classes.items text)
         ≡ finds (string_bytes pattern) text },
     ghost by_state: { is_wildcards (string_bytes pattern) ≡ true → (x y : List ℕ)
         → wildcards_state (string_bytes pattern) x ≡ wildcards_state (string_bytes pattern) y
         → number_in rows.items classes.items x ≡ number_in rows.items classes.items y },
+    ghost gone: { AreLost rows.items classes.items lost.items },
 }
 
 impl PatternAutomaton {
     ghost use Rattle.am_scan.specs.Automaton.{number_of, class_of, scanned_bytes, pattern_of};
+    ghost use Rattle.am_scan.specs.Automaton.{is_lost};
 
     /// Makes the automaton of a pattern, for texts that have only these bytes. Returns `None` if
     /// there is none: the engine's grammar does not read the pattern; the pattern or its automaton
@@ -83,11 +90,13 @@ impl PatternAutomaton {
         let Some(rows) = explored(alloc, &scan, &columns)? else {
             return Ok(None);
         };
+        let lost = lost_numbers(alloc, rows.as_slice(), columns.classes.as_slice())?;
         Ok(Some(PatternAutomaton {
             pattern: scan.pattern,
             bytes,
             classes: columns.classes,
             rows,
+            lost,
         }))
     }
 
@@ -112,12 +121,14 @@ impl PatternAutomaton {
         let Some(rows) = wildcard_rows(alloc, places, alphabet.symbols.as_slice())? else {
             return Ok(None);
         };
+        let lost = lost_numbers(alloc, rows.as_slice(), alphabet.classes.as_slice())?;
         let pattern = String::from_str(alloc, pattern)?;
         Ok(Some(PatternAutomaton {
             pattern,
             bytes,
             classes: alphabet.classes,
             rows,
+            lost,
         }))
     }
 
@@ -151,6 +162,15 @@ impl PatternAutomaton {
             Some(next) => *next,
             None => 0,
         }
+    }
+
+    /// Whether the texts of a number are known to be lost: the pattern finds none of them, whatever
+    /// comes before them.
+    #[tactic(auto, unfolding(crate::specs::Automaton::is_lost))]
+    pub fn is_lost(&self, number: u32) -> bool
+        ensures { result ≡ is_lost self.now number }
+    {
+        is_marked(self.lost.as_slice(), number)
     }
 
     /// Whether the pattern finds a text in UTF-8 that the automaton reads, by its number, which

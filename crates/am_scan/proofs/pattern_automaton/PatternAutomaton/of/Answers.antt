@@ -20,6 +20,7 @@ invariant_of-result c =
           found_in-exact scan columns.columns.items columns.classes.items are.0 c.in-Some-3.rows.items bytes own are.1 text
           (subst (λ a. IsScanned a text) (sym same) scanned);
       by_state = λ yes. let name = rw c.in-Some.is at c.in_ok-scan.ensures.pattern in absurd (true≢false (sym yes ∙ ap is_wildcards name ∙ sym c.in_ok-is_wildcards.ensures ∙ c.if-branch.false));
+      gone = rw (c.as_slice.ensures.value, c.as_slice-2.ensures.value) at c.in_ok-lost.ensures;
     }
 
 pub returns-clause-pattern : goal.returns-clause-pattern

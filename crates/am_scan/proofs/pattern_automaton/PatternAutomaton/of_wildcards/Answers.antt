@@ -34,4 +34,5 @@ invariant_of-result c =
           ∙ sym (ap (λ q. finds q text) name ∙ finds_wildcards p text c.requires utf8);
       by_state = λ _ x y same.
           same_number _ _ _ _ some.0 are own x y (subst (λ qs. marked_places qs x ≡ marked_places qs y) (sym is) (state_marks p x y (subst (λ q. wildcards_state q x ≡ wildcards_state q y) name same)));
+      gone = rw (c.as_slice-2.ensures.value, c.as_slice-3.ensures.value) at c.in_ok-lost.ensures;
     }
