@@ -1,27 +1,16 @@
 -- Many patterns, with one more.
 use Rattle.std.proofs.Common.{◌≡◌, ℕ, zero, suc, refl, ◌+◌, ◌∷◌, ◌<◌, Some, slice_get, List, [], ◌++◌, length, map, arith}
-use Rattle.std.proofs.Common.{take, get_or, ap, ap₂, sym, option_map, ◌∙◌}
-use Rattle.std.proofs.Common.{◌≢◌, Bool, if◌then◌else◌, inl, inr, set, subst}
+use Rattle.std.proofs.Common.{get_or, ap, ap₂, sym, option_map, ◌∙◌}
+use Rattle.std.proofs.Common.{◌≢◌, inl, inr, set, subst}
 use Rattle.std.proofs.Common.{get_or-set_other, get_or-set_same}
 use Rattle.std.proofs.Common.{Bor}
 use Rattle.std.proofs.lemmas.Bool.{cases_lt}
-use Rattle.std.proofs.lemmas.List.{length-take, map-append}
-use Rattle.std.proofs.lemmas.Option.{same_Some, slice_get-map, slice_get_read, slice_get-get_or}
+use Rattle.std.proofs.lemmas.List.{map-append}
+use Rattle.std.proofs.lemmas.Option.{same_Some, slice_get-map, slice_get-get_or}
 use Rattle.std.proofs.lemmas.Option.{get_or_from_slice_get}
-use Rattle.std.proofs.lemmas.Grind.{common_steps}
-use Rattle.am_universe.proofs.Members.{in_at}
 use Rattle.am_scan.specs.declared.pattern_automaton.PatternAutomaton.{PatternAutomaton}
-use Rattle.am_labels.specs.Pattern.{finds}
 use Rattle.am_scan.specs.Automaton.{number_of, pattern_of}
-use Rattle.am_scan.proofs.Places.{map_front, take_front}
-use Rattle.am_classes.specs.Automata.{found_by, numbers_of, MakeSame, AreAutomataOf}
-use Rattle.am_classes.proofs.PlaceLemmas.{places_more}
-
--- The results of a function for a prefix, with one more, are those for a prefix that is one longer.
-pub mapped_more : {X Y : Type 0} (f : X → Y) (xs : List X) (i : ℕ) (x : X) (ys all : List Y) (y : Y)
-    → i < length xs → x ≡ get_or xs i x → all ≡ ys ++ y ∷ [] → ys ≡ map f (take i xs) → y ≡ f x
-    → all ≡ map f (take (i + 1) xs)
-mapped_more f xs i x ys all y below is more before here = grind (arith, common_steps, map_front)
+use Rattle.am_classes.specs.Automata.{MakeSame, AreAutomataOf}
 
 -- The result of a function for the element at a position is at the same position.
 pub get_under : {X Y : Type 0} (f : X → Y) (xs : List X) (k : ℕ) (x : X) → slice_get xs k ≡ Some x
@@ -34,26 +23,6 @@ pub get_mapped : {X Y : Type 0} (f : X → Y) (xs : List X) (k : ℕ) (y : Y) �
 get_mapped f [] k y e = absurd cc
 get_mapped f (x ∷ xs) zero y e = (x, refl, same_Some (f x) y e)
 get_mapped f (x ∷ xs) (suc k) y e = get_mapped f xs k y e
-
--- The number that one pattern gives a text.
-pub number_at : (automata : List PatternAutomaton) (numbers : List ℕ) (text : List ℕ) (k : ℕ)
-    (automaton : PatternAutomaton) (number : ℕ) → numbers ≡ numbers_of automata text
-    → slice_get automata k ≡ Some automaton → slice_get numbers k ≡ Some number
-    → number ≡ number_of automaton text
-number_at automata numbers text k automaton number is at also =
-    grind (arith, common_steps, same_Some, get_under)
-
--- The places of those that find a text, with one pattern more.
-pub found_more : (automata : List PatternAutomaton) (text : List ℕ) (i : ℕ) (a : PatternAutomaton)
-    (says : Bool) (found all : List ℕ) → i < length automata → a ≡ get_or automata i a
-    → says ≡ finds (pattern_of a) text → found ≡ found_by (take i automata) text
-    → all ≡ found ++ (if says then i ∷ [] else []) → all ≡ found_by (take (i + 1) automata) text
-found_more automata text i a says found all below is here before more =
-    let front = take i automata in
-    let place : 0 + length front ≡ i = omega (arith, length-take i automata) in
-    more ∙ (λ j. before j ++ (if here j then sym place j ∷ [] else []))
-    ∙ sym (ap (λ xs. found_by xs text) (take_front automata i a below is)
-    ∙ places_more 0 (λ s. finds (pattern_of s) text) front a)
 
 -- If some patterns treat two bytes like a third one, and a further pattern treats them alike, all
 -- together do.
@@ -94,5 +63,3 @@ pub automata_for : (patterns : List (Bor (List ℕ))) (automata : List PatternAu
 automata_for patterns automata same = λ k automaton pattern at also.
     same_Some (pattern_of automaton) pattern.now (sym (get_under pattern_of automata k automaton at)
     ∙ ap (λ l. slice_get l k) same ∙ get_under (λ p. p.now) patterns k pattern also)
-
-pub ruleset more_numbers = (slice_get_read, slice_get-get_or, mapped_more, number_at, in_at)

@@ -4,11 +4,13 @@ pub mod OverLemmas
 pub mod Utf8Lemmas
 pub mod WholeTexts
 pub mod AutomataLemmas
+pub mod LiveLemmas
 pub mod EnoughLemmas
 pub mod FrontLemmas
 pub mod StateLemmas
 pub mod AskedLemmas
 pub mod HitLemmas
+pub mod PlacedPatterns
 pub mod AlikeLemmas
 pub mod TestedTexts
 pub mod ListedStates

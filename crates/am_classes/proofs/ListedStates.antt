@@ -1,8 +1,9 @@
--- States that are listed: two are equal if their tails, their fronts and their numbers are.
-use Rattle.std.proofs.Common.{◌≡◌, ◌<◌, Bool, true, ◌&&◌, List, [], ◌∷◌, ◌++◌, ℕ, length, Bor, Some, slice_get, map, ap, subst, sym, refl, ◌∙◌, inl, inr, is_some, arith, nat_eq}
+-- States that are listed: two are equal if their tails, their fronts and their live patterns are.
+use Rattle.std.proofs.Common.{◌≡◌, ◌<◌, Bool, true, ◌&&◌, List, [], ◌∷◌, ◌++◌, ℕ, length, Bor, Some, slice_get, map, ap, ap₂, subst, sym, refl, ◌∙◌, inl, inr, is_some, arith, nat_eq}
 use Rattle.std.specs.List.{IsDistinct, list_any}
 use Rattle.std.specs.Cmp.Lexicographic.{pointwise}
-use Rattle.std.proofs.lemmas.Bool.{and_parts, and_from, cases_Bool, cases_lt}
+use Rattle.std.specs.Bool.{Decides}
+use Rattle.std.proofs.lemmas.Bool.{and_parts, and_from, cases_Bool, cases_lt, eqb-true}
 use Rattle.std.proofs.lemmas.List.{length-map}
 use Rattle.std.proofs.lemmas.Map.Keys.{apart_from_distinct}
 use Rattle.std.proofs.lemmas.Option.{same_Some, slice_get_within, get_or_from_slice_get}
@@ -17,6 +18,7 @@ use Rattle.am_scan.specs.Sight.{is_scanned}
 use Rattle.am_scan.proofs.Places.{all_from_places, grows_pushed}
 use Rattle.am_classes.specs.declared.limits.TheConstants.{MAX_STATES}
 use Rattle.am_classes.specs.declared.questions.Questions.{Questions}
+use Rattle.am_classes.specs.declared.live.LivePattern.{LivePattern}
 use Rattle.am_classes.specs.declared.reached_state.ReachedState.{ReachedState}
 use Rattle.am_classes.specs.Automata.{numbers_of}
 use Rattle.am_classes.specs.Fronts.{fronts_of}
@@ -25,11 +27,16 @@ use Rattle.am_classes.specs.Utf8.{tail_with}
 use Rattle.am_classes.specs.Exploration.{AreListed, AreShortFirst, HasState}
 use Rattle.am_classes.specs.Exploration.{HasManyLabelStates}
 use Rattle.am_classes.specs.contracts.reached_state.ReachedStatePartialEq.TheImpl.{eq-value}
+use Rattle.am_classes.specs.contracts.live.LivePatternPartialEq.TheImpl.{eq-value as live_value}
 use Rattle.am_classes.proofs.AutomataLemmas.{get_mapped}
+use Rattle.am_classes.proofs.LiveLemmas.{same_live}
 use Rattle.am_classes.proofs.ExplorationLemmas.{each_more, has_kept, has_pushed, short_more}
 
 abbrev pub is_same : ReachedState → ReachedState → Bool
 is_same = eq-value.it
+
+abbrev is_same_pattern : LivePattern → LivePattern → Bool
+is_same_pattern = live_value.it
 
 abbrev pub fronts_of_state : ReachedState → List (List ℕ)
 fronts_of_state x = map (λ f. f.now) x.state.fronts.items
@@ -44,23 +51,34 @@ fronts_seen [] (g ∷ gs) = refl
 fronts_seen (f ∷ fs) [] = refl
 fronts_seen (f ∷ fs) (g ∷ gs) = ap (λ b. pointwise nat_eq f.now g.now && b) (fronts_seen fs gs)
 
+-- Two live patterns are equal exactly if their places and their numbers are.
+same_pattern : (l m : LivePattern) → Decides (is_same_pattern l m) (l ≡ m)
+same_pattern l m = (
+  λ same.
+      let parts = and_parts (nat_eq l.place m.place) (nat_eq l.number m.number) same in
+      let place = eqb-true l.place m.place parts.0 in
+      let number = eqb-true l.number m.number parts.1 in
+      ap₂ (λ p n. record { place = p; number = n }) place number,
+  λ is. grind (arith, common_steps, and_from),
+)
+
 -- Two are equal exactly if their parts are.
 pub record HaveSameParts (x y : ReachedState) : Type 0 where
   pub tail : x.state.tail ≡ y.state.tail
   pub fronts : fronts_of_state x ≡ fronts_of_state y
-  pub numbers : x.state.numbers.items ≡ y.state.numbers.items
+  pub live : x.state.live.items ≡ y.state.live.items
 
 pub parts_same : (x y : ReachedState) → is_same x y ≡ true → HaveSameParts x y
 parts_same x y same = record {
   tail = grind (arith, common_steps, and_parts);
   fronts = (slice_eq-Decides bytes_eq-Decides (fronts_of_state x) (fronts_of_state y) _ (fronts_seen x.state.fronts.items y.state.fronts.items)).0 (grind (arith, common_steps, and_parts));
-  numbers = (bytes_eq-Decides x.state.numbers.items y.state.numbers.items).0 (grind (arith, common_steps, and_parts));
+  live = (slice_eq-Decides same_pattern x.state.live.items y.state.live.items _ refl).0 (grind (arith, common_steps, and_parts));
 }
 
 pub same_parts : (x y : ReachedState) → HaveSameParts x y → is_same x y ≡ true
 same_parts x y parts =
     let fronts = (slice_eq-Decides bytes_eq-Decides (fronts_of_state x) (fronts_of_state y) _ (fronts_seen x.state.fronts.items y.state.fronts.items)).1 parts.fronts in
-    let numbers = (bytes_eq-Decides x.state.numbers.items y.state.numbers.items).1 parts.numbers in
+    let live = (slice_eq-Decides same_pattern x.state.live.items y.state.live.items _ refl).1 parts.live in
     grind (arith, common_steps, and_from)
 
 follows_same : (q : Questions) (x y : ReachedState) (text : List ℕ) → is_same x y ≡ true
@@ -70,7 +88,7 @@ follows_same q x y text same follows =
     record {
       tail = follows.tail ∙ ap Some parts.tail;
       fronts = sym parts.fronts ∙ follows.fronts;
-      numbers = sym parts.numbers ∙ follows.numbers;
+      live = sym parts.live ∙ follows.live;
     }
 
 -- ---- More states are listed, each with a text of `n` bytes.
@@ -146,7 +164,7 @@ same_place listed i j x y distinct at also parts = elim (cases_lt i j) [
   | inl less ↦ absurd (differ listed i j x y distinct at also less parts)
   | inr above ↦ elim (cases_lt j i) [
     | inl less ↦ absurd (differ listed j i y x distinct also at less
-        (record { tail = sym parts.tail; fronts = sym parts.fronts; numbers = sym parts.numbers }))
+        (record { tail = sym parts.tail; fronts = sym parts.fronts; live = sym parts.live }))
     | inr below ↦ omega arith
   ]
 ]
@@ -174,6 +192,6 @@ many_listed q listed own distinct many = (
       same_place listed i j x.0 y.0 distinct x.1 y.1 (record {
         tail = same_Some _ _ (sym one.tail ∙ along (tail_with (is_scanned q.bytes)) s t _ _ x.2 y.2 tails ∙ other.tail);
         fronts = one.fronts ∙ along (fronts_of (named_texts q)) s t _ _ x.2 y.2 fronts ∙ sym other.fronts;
-        numbers = one.numbers ∙ along (numbers_of q.automata.items) s t _ _ x.2 y.2 numbers ∙ sym other.numbers;
+        live = one.live ∙ same_live 0 q.automata.items _ _ (along (numbers_of q.automata.items) s t _ _ x.2 y.2 numbers) ∙ sym other.live;
       }),
 )

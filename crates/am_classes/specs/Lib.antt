@@ -3,12 +3,14 @@ pub mod Alike
 pub mod Utf8
 pub mod Places
 pub mod Automata
+pub mod Live
 pub mod Enough
 pub mod Fronts
 pub mod State
 pub mod Named
 pub mod Truths
 pub mod LabelTests
+pub mod PatternPlaces
 pub mod Asked
 pub mod Limits
 pub mod Exploration

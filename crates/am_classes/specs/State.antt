@@ -6,7 +6,7 @@ use Rattle.am_scan.specs.Sight.{is_scanned}
 use Rattle.am_classes.specs.declared.questions.Questions.{Questions}
 use Rattle.am_classes.specs.declared.label_state.LabelState.{LabelState}
 use Rattle.am_classes.specs.Utf8.{tail_with}
-use Rattle.am_classes.specs.Automata.{numbers_of}
+use Rattle.am_classes.specs.Live.{live_of}
 
 -- The named texts, and the patterns.
 abbrev pub named_texts : Questions → List (List ℕ)
@@ -20,10 +20,10 @@ abbrev pub IsNamed : Questions → List ℕ → Type 0
 IsNamed q text = (k : ℕ) × (slice_get (named_texts q) k ≡ Some text)
 
 -- A state follows a text. It has the tail of the text, if texts have only the bytes that are tried;
--- what is before the text in each named text that ends with it; and the numbers of the text.
+-- what is before the text in each named text that ends with it; and the live patterns of the text.
 -- Source: own choice.
 -- Example: the state with which an exploration begins follows the empty text.
 pub record FollowsLabel (q : Questions) (state : LabelState) (text : List ℕ) : Type 0 where
   pub tail : tail_with (is_scanned q.bytes) text ≡ Some state.tail
   pub fronts : map (λ f. f.now) state.fronts.items ≡ fronts_of (named_texts q) text
-  pub numbers : state.numbers.items ≡ numbers_of q.automata.items text
+  pub live : state.live.items ≡ live_of q.automata.items text

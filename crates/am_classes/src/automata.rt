@@ -1,13 +1,9 @@
 //! The automata of many patterns at once.
-#![tactic(auto, using(crate::proofs::AutomataLemmas::more_numbers))]
 
-ghost use Rattle.std.specs.Prelude.{◌≡◌, ℕ, ◌∷◌, ◌++◌, [], List, map, true, IfOk, IfSome, IfNone};
-ghost use Rattle.std.specs.Prelude.{IsTrue, length};
-ghost use Rattle.std.specs.Str.{IsUtf8};
+ghost use Rattle.std.specs.Prelude.{◌≡◌, ◌∷◌, ◌++◌, [], List, map, IfOk, IfSome, IfNone};
 ghost use Rattle.am_scan.specs.Automaton.{pattern_of};
 ghost use Rattle.am_scan.specs.declared.pattern_automaton.PatternAutomaton.{PatternAutomaton};
-ghost use Rattle.am_classes.specs.Automata.{numbers_of, AreScanned, found_by, AreFor, AreClasses};
-ghost use Rattle.am_classes.specs.Automata.{MakeSame, MayLackAutomaton};
+ghost use Rattle.am_classes.specs.Automata.{AreFor, AreClasses, MakeSame, MayLackAutomaton};
 
 use am_scan::{ByteSet, PatternAutomaton};
 use std::alloc::{AllocError, Global};
@@ -33,39 +29,6 @@ pub(crate) fn automata_of(
         automata.push(automaton)?;
     }
     Ok(Some(automata))
-}
-
-/// Returns the numbers of the empty text, one for each pattern.
-pub(crate) fn end_numbers(
-    alloc: Global,
-    automata: &[PatternAutomaton],
-) -> Result<Vec<u32>, AllocError>
-    ensures { IfOk result (λ numbers. numbers.items ≡ numbers_of automata.now []) }
-{
-    let mut numbers = Vec::with_capacity(alloc, automata.len())?;
-    for automaton in automata {
-        numbers.push(automaton.end())?;
-    }
-    Ok(numbers)
-}
-
-/// Returns the numbers of a text with one more byte before it, from the numbers of the text.
-pub(crate) fn next_numbers(
-    alloc: Global,
-    automata: &[PatternAutomaton],
-    numbers: &[u32],
-    byte: u8,
-) -> Result<Vec<u32>, AllocError>
-    requires { length numbers.now ≡ length automata.now }
-    ensures { IfOk result (λ nexts. (text : List ℕ)
-        → numbers.now ≡ numbers_of automata.now text
-        → nexts.items ≡ numbers_of automata.now (byte ∷ text)) }
-{
-    let mut nexts = Vec::with_capacity(alloc, automata.len())?;
-    for (i, automaton) in automata.iter().enumerate() {
-        nexts.push(automaton.step(numbers[i], byte))?;
-    }
-    Ok(nexts)
 }
 
 /// For each byte, finds the first byte that every pattern treats like it.
@@ -103,24 +66,4 @@ fn first_alike(automaton: &PatternAutomaton, classes: &[u8; 256], byte: u8) -> u
         }
     }
     byte
-}
-
-/// Returns the places of the patterns that find a text that has these numbers.
-pub(crate) fn found_patterns(
-    alloc: Global,
-    automata: &[PatternAutomaton],
-    numbers: &[u32],
-) -> Result<Vec<usize>, AllocError>
-    requires { length numbers.now ≡ length automata.now }
-    ensures { IfOk result (λ found. (text : List ℕ)
-        → numbers.now ≡ numbers_of automata.now text → AreScanned automata.now text
-        → IsUtf8 text → found.items ≡ found_by automata.now text) }
-{
-    let mut found = Vec::new(alloc);
-    for (i, automaton) in automata.iter().enumerate() {
-        if automaton.finds(numbers[i]) {
-            found.push(i)?;
-        }
-    }
-    Ok(found)
 }

@@ -21,7 +21,7 @@ ghost use Rattle.am_universe.specs.declared.limits.TheConstants.{MAX_VALUES};
 ghost use Rattle.am_labels.specs.Matcher.{Matcher};
 ghost use Rattle.am_classes.specs.Alike.{Covers, AreApart, HasOtherPattern};
 ghost use Rattle.am_classes.specs.Alphabet.{AreOver};
-ghost use Rattle.am_classes.specs.Automata.{AreAutomataOf};
+ghost use Rattle.am_classes.specs.Automata.{AreAutomataOf, AreFor};
 ghost use Rattle.am_classes.specs.Limits.{HaveTooManyStates, HaveWildcardsAlone};
 ghost use Rattle.am_classes.specs.ClassTexts.{IsClassText, AreManyClasses};
 ghost use Rattle.am_classes.specs.LabelTests.{IsTestsOf};
@@ -38,7 +38,7 @@ use crate::samples::samples;
 use crate::tested::new_texts;
 use crate::{Alphabet, LabelTests};
 use am_labels::Matcher;
-use am_scan::PatternAutomaton;
+use am_scan::{ByteSet, PatternAutomaton};
 use am_universe::limits::MAX_VALUES;
 use std::alloc::{AllocError, Global};
 
@@ -103,7 +103,7 @@ pub fn classes<'m>(
     let Some(automata) = automata_of(alloc, bytes, patterns)? else {
         return Ok(None);
     };
-    let named = apart_texts(alloc, &tests, automata.as_slice(), texts.as_slice())?;
+    let named = apart_texts(alloc, &tests, &bytes, automata.as_slice(), texts.as_slice())?;
     let room = MAX_VALUES.saturating_sub(named.len());
     let questions = Questions::of(alphabet, bytes, texts, automata);
     let Some(candidates) = candidates(alloc, &questions, room)? else {
@@ -111,7 +111,7 @@ pub fn classes<'m>(
     };
     let all = candidates.all;
     let texts = with_texts(named, candidates.items)?;
-    let tests = tests.with_automata(questions.automata);
+    let tests = tests.with_automata(bytes, questions.automata);
     Ok(Some(ClassTexts { texts, all, tests }))
 }
 
@@ -184,11 +184,11 @@ fn many_of_part<'m>(
         PART
     });
     texts.append(&mut samples(alloc, alphabet, patterns, automata.as_slice())?)?;
-    let texts = apart_texts(alloc, &tests, automata.as_slice(), texts.as_slice())?;
+    let texts = apart_texts(alloc, &tests, &bytes, automata.as_slice(), texts.as_slice())?;
     if texts.len() <= MAX_VALUES {
         return Ok(None);
     }
-    let tests = tests.with_automata(automata);
+    let tests = tests.with_automata(bytes, automata);
     Ok(Some(ClassTexts {
         texts,
         all: false,
@@ -197,18 +197,20 @@ fn many_of_part<'m>(
 }
 
 /// Returns those of some texts that are alike to none before them. The automata are those of the
-/// first patterns of the tests.
+/// first patterns of the tests, and read texts that have only certain bytes.
 fn apart_texts(
     alloc: Global,
     tests: &LabelTests<'_>,
+    bytes: &ByteSet,
     automata: &[PatternAutomaton],
     texts: &[String],
 ) -> Result<Vec<String>, AllocError>
-    requires { AreAutomataOf tests.now.patterns.keys automata.now }
+    requires fit { AreAutomataOf tests.now.patterns.keys automata.now }
+    requires read { AreFor bytes.now automata.now }
     ensures { IfOk result (λ apart. (ms : List Matcher) → IsTestsOf ms tests.now
         → AreNewIn ms [] (map string_bytes texts.now) (map string_bytes apart.items)) }
 {
-    let tested = tests.tested_with(alloc, automata, texts.to_vec(alloc)?)?;
+    let tested = tests.tested_with(alloc, bytes, automata, texts.to_vec(alloc)?)?;
     new_texts(alloc, Vec::new(alloc), tested)
 }
 

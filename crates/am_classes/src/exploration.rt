@@ -2,8 +2,9 @@
 //!
 //! All matchers of a label are explored together. A state of the label has three parts: how many
 //! bytes of an unfinished character are at its front, since only UTF-8 counts; what is before it in
-//! each named text that ends with it; and the number that each pattern gives it. Only bytes that
-//! are enough to stand for all texts lead to a state; over ASCII no character is unfinished.
+//! each named text that ends with it; and the patterns that may still find a text with this end,
+//! each with the number that it gives the end. Only bytes that are enough to stand for all texts
+//! lead to a state; over ASCII no character is unfinished.
 //!
 //! The search begins with the state of the empty text. It lists each state to which a listed one
 //! and a byte lead, with a text that leads there, unless the same state is listed. Bytes that all

@@ -1,3 +1,4 @@
+use crate::live::LivePattern;
 use crate::tail::Tail;
 
 /// All that matters to the matchers of a label about a text of which only the end has been read.
@@ -7,6 +8,6 @@ pub(crate) struct LabelState<'q> {
     pub(crate) tail: Tail,
     /// What is before the text in each named text that ends with it.
     pub(crate) fronts: Vec<&'q [u8]>,
-    /// The number that each pattern gives the text.
-    pub(crate) numbers: Vec<u32>,
+    /// The patterns that may still find the text, with anything before it.
+    pub(crate) live: Vec<LivePattern>,
 }

@@ -1,18 +1,26 @@
 //! The matchers of a label, made ready to test texts.
 //!
-//! Most matchers name texts, and a map has the places of those that name a text. Each of the others
+//! Most matchers name texts, and a map has the places of those that name a text. If the others have
+//! automata that read all texts, each text is tested by all of them at once. If not, each of them
 //! tests all texts before the next one does.
 
-ghost use Rattle.std.specs.Prelude.{◌≡◌, List, IfOk, map, string_bytes, false};
+ghost use Rattle.std.specs.Prelude.{◌≡◌, ◌<◌, ◌++◌, ℕ, List, IfOk, IfSome, OnOk, IsTrue, false};
+ghost use Rattle.std.specs.Prelude.{length, map, slice_index_or, string_bytes};
+ghost use Rattle.std.specs.List.{AllByRecursion};
 ghost use Rattle.am_labels.specs.Matcher.{Matcher};
-ghost use Rattle.am_classes.specs.Automata.{AreAutomataOf};
+ghost use Rattle.am_scan.specs.Closure.{contains};
+ghost use Rattle.am_scan.specs.Sight.{IsScanned};
+ghost use Rattle.am_classes.specs.Automata.{AreAutomataOf, AreFor, AreScanned};
+ghost use Rattle.am_classes.specs.PatternPlaces.{ArePlaced, is_marked};
+ghost use Rattle.am_classes.specs.Places.{places_where};
 
 use crate::finder::Finder;
 use crate::named_texts::{names_texts, other_patterns};
 use crate::naming::naming_places;
 use crate::tested::{Tested, tested_by};
+use crate::text_ends::TextEnds;
 use am_labels::Matcher;
-use am_scan::PatternAutomaton;
+use am_scan::{ByteSet, PatternAutomaton};
 use indexmap::IndexSet;
 use std::alloc::{AllocError, Global};
 use std::collections::HashMap;
@@ -25,9 +33,12 @@ pub struct LabelTests<'m> {
     pub(crate) named: HashMap<&'m str, Vec<usize>>,
     /// The patterns of the others, each once.
     pub(crate) patterns: IndexSet<&'m str>,
+    /// The bytes of the texts that the automata read.
+    pub(crate) bytes: ByteSet,
     /// The automata of the first patterns.
     pub(crate) automata: Vec<PatternAutomaton>,
     ghost fit: { AreAutomataOf patterns.keys automata.items },
+    ghost read: { AreFor bytes automata.items },
 }
 
 impl<'m> LabelTests<'m> {
@@ -43,19 +54,27 @@ impl<'m> LabelTests<'m> {
             matchers: Vec::from_slice(alloc, matchers)?,
             named: naming_places(alloc, matchers)?,
             patterns: other_patterns(alloc, matchers)?,
+            bytes: ByteSet::empty(),
             automata: Vec::new(alloc),
         })
     }
 
-    /// The same with automata, those of the first patterns.
-    pub(crate) fn with_automata(self, automata: Vec<PatternAutomaton>) -> LabelTests<'m>
-        requires { AreAutomataOf self.patterns.keys automata.items }
+    /// The same with automata, those of the first patterns, which read texts that have only certain
+    /// bytes.
+    pub(crate) fn with_automata(
+        self,
+        bytes: ByteSet,
+        automata: Vec<PatternAutomaton>,
+    ) -> LabelTests<'m>
+        requires fit { AreAutomataOf self.patterns.keys automata.items }
+        requires read { AreFor bytes automata.items }
         ensures { (ms : List Matcher) → IsTestsOf ms self.entry → IsTestsOf ms result }
     {
         LabelTests {
             matchers: self.matchers,
             named: self.named,
             patterns: self.patterns,
+            bytes,
             automata,
         }
     }
@@ -66,11 +85,88 @@ impl<'m> LabelTests<'m> {
         ensures tested { IfOk result (λ all. (ms : List Matcher) → IsTestsOf ms self.now
             → AreTested ms all.items) }
     {
-        self.tested_with(alloc, self.automata.as_slice(), texts)
+        self.tested_with(alloc, &self.bytes, self.automata.as_slice(), texts)
     }
 
-    /// Tests texts, with automata of the first patterns.
+    /// Tests texts, with automata of the first patterns, which read texts that have only certain
+    /// bytes.
     pub(crate) fn tested_with(
+        &self,
+        alloc: Global,
+        bytes: &ByteSet,
+        automata: &[PatternAutomaton],
+        texts: Vec<String>,
+    ) -> Result<Vec<Tested>, AllocError>
+        requires fit { AreAutomataOf self.now.patterns.keys automata.now }
+        requires read { AreFor bytes.now automata.now }
+        ensures texts { IfOk result (λ all. texts_of all.items ≡ map string_bytes texts.items) }
+        ensures tested { IfOk result (λ all. (ms : List Matcher) → IsTestsOf ms self.now
+            → AreTested ms all.items) }
+    {
+        // For each text all matchers are gone through, so most of them must have a pattern to test.
+        let have_patterns = self.matchers.len() / 2 <= automata.len();
+        if have_patterns
+            && automata.len() == self.patterns.len()
+            && have_all(bytes, texts.as_slice())
+        {
+            if let Some(places) = self.pattern_places(alloc)? {
+                let ends = TextEnds::of(alloc, automata, bytes, texts.len())?;
+                return self.tested_from_ends(alloc, &ends, places.as_slice(), texts);
+            }
+        }
+        self.tested_in_turn(alloc, automata, texts)
+    }
+
+    /// Returns for each matcher the place of its pattern, or `None` if it names texts. Returns
+    /// `None` if a pattern is missing.
+    fn pattern_places(&self, alloc: Global) -> Result<Option<Vec<Option<usize>>>, AllocError>
+        ensures { IfOk result (λ found. IfSome found (λ places.
+            ArePlaced self.now.matchers.items self.now.patterns.keys places.items)) }
+    {
+        let mut places = Vec::with_capacity(alloc, self.matchers.len())?;
+        for matcher in &self.matchers {
+            if names_texts(matcher) {
+                places.push(None)?;
+                continue;
+            }
+            let Some(place) = self.patterns.get_index_of(matcher.value()) else {
+                return Ok(None);
+            };
+            places.push(Some(place))?;
+        }
+        Ok(Some(places))
+    }
+
+    /// Tests texts that the automata of all patterns read, each text by all patterns at once.
+    fn tested_from_ends(
+        &self,
+        alloc: Global,
+        ends: &TextEnds<'_>,
+        patterns: &[Option<usize>],
+        texts: Vec<String>,
+    ) -> Result<Vec<Tested>, AllocError>
+        requires fit { AreAutomataOf self.now.patterns.keys ends.now.automata.now }
+        requires count { length ends.now.automata.now ≡ length self.now.patterns.keys }
+        requires placed { ArePlaced self.now.matchers.items self.now.patterns.keys patterns.now }
+        requires read { AllByRecursion
+            (λ text. AreScanned ends.now.automata.now (string_bytes text)) texts.items }
+        ensures texts { IfOk result (λ all. texts_of all.items ≡ map string_bytes texts.items) }
+        ensures tested { IfOk result (λ all. (ms : List Matcher) → IsTestsOf ms self.now
+            → AreTested ms all.items) }
+    {
+        let mut all = Vec::with_capacity(alloc, texts.len())?;
+        for text in texts {
+            let found = ends.found(alloc, text.as_str())?;
+            let marks = marks_at(alloc, found.as_slice(), self.patterns.len())?;
+            let mut hits = self.naming(alloc, text.as_str())?;
+            push_hits(patterns, marks.as_slice(), &mut hits)?;
+            all.push(Tested { text, hits })?;
+        }
+        Ok(all)
+    }
+
+    /// Tests texts, by one pattern after the other.
+    fn tested_in_turn(
         &self,
         alloc: Global,
         automata: &[PatternAutomaton],
@@ -125,5 +221,54 @@ impl<'m> LabelTests<'m> {
             return Finder::of(matcher, None);
         };
         Finder::of(matcher, automata.get(place))
+    }
+}
+
+/// Whether each text has only certain bytes.
+fn have_all(bytes: &ByteSet, texts: &[String]) -> bool
+    ensures { IsTrue result → AllByRecursion (λ text. IsScanned bytes.now (string_bytes text))
+        texts.now }
+{
+    texts.iter().all(|text| bytes.has_all(text.as_str()))
+}
+
+/// Returns for each of so many places whether it is one of these.
+fn marks_at(alloc: Global, places: &[usize], count: usize) -> Result<Vec<bool>, AllocError>
+    ensures { IfOk result (λ marks. (k : ℕ) → k < count
+        → slice_index_or marks.items k false ≡ contains places.now k) }
+{
+    let mut marks = vec![in alloc; false; count]?;
+    for place in places {
+        if *place < marks.len() {
+            marks[*place] = true;
+        }
+    }
+    Ok(marks)
+}
+
+/// Adds the places of the matchers whose patterns are marked.
+fn push_hits(
+    patterns: &[Option<usize>],
+    marks: &[bool],
+    hits: &mut Vec<usize>,
+) -> Result<(), AllocError>
+    ensures { OnOk result (hits.new.items
+        ≡ hits.old.items ++ places_where (is_marked marks.now) patterns.now) }
+{
+    for (place, pattern) in patterns.iter().enumerate() {
+        if is_marked(marks, *pattern) {
+            hits.push(place)?;
+        }
+    }
+    Ok(())
+}
+
+/// Whether a pattern is there, and marked.
+fn is_marked(marks: &[bool], pattern: Option<usize>) -> bool
+    ensures { result ≡ is_marked marks.now pattern }
+{
+    match pattern {
+        Some(place) => place < marks.len() && marks[place],
+        None => false,
     }
 }

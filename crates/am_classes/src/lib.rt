@@ -23,6 +23,7 @@ mod questions;
 // What matters about a text of which only the end has been read.
 mod fronts;
 mod label_state;
+mod live;
 mod tail;
 
 // The states that texts lead to.
@@ -34,6 +35,7 @@ mod finder;
 mod label_tests;
 mod naming;
 mod tested;
+mod text_ends;
 
 pub use label_tests::LabelTests;
 pub use tested::{Tested, new_texts};

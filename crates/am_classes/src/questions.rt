@@ -1,19 +1,17 @@
-ghost use Rattle.std.specs.Prelude.{◌≡◌, ◌↔◌, ◌∷◌, [], ℕ, List, Some, true, IsTrue, map, slice_get};
-ghost use Rattle.std.specs.Prelude.{None, IfOk, IfSome, IfNone, length};
+ghost use Rattle.std.specs.Prelude.{◌≡◌, ◌↔◌, ◌∷◌, [], ℕ, List, IsTrue, None, IfOk, IfSome, IfNone};
 ghost use Rattle.std.specs.Str.{IsUtf8};
 ghost use Rattle.am_classes.specs.declared.label_state.LabelState.{LabelState};
 ghost use Rattle.am_classes.specs.Utf8.{text_step};
-ghost use Rattle.am_scan.specs.Automaton.{scanned_bytes};
 ghost use Rattle.am_scan.specs.Sight.{is_scanned};
 ghost use Rattle.am_scan.specs.declared.pattern_automaton.PatternAutomaton.{PatternAutomaton};
-ghost use Rattle.am_classes.specs.Alphabet.{has_byte};
 ghost use Rattle.am_classes.specs.Automata.{AreClasses, AreFor, MakeSame, found_by};
 ghost use Rattle.am_classes.specs.Enough.{AreOf};
 
 use crate::Alphabet;
-use crate::automata::{byte_classes, end_numbers, found_patterns, next_numbers};
+use crate::automata::byte_classes;
 use crate::fronts::{all_fronts, any_ends_with, fronts_before, has_nothing};
 use crate::label_state::LabelState;
+use crate::live::{found_patterns, live_at_end, live_before};
 use crate::named_texts::is_among;
 use crate::tail::Tail;
 use am_scan::{ByteSet, PatternAutomaton};
@@ -87,7 +85,7 @@ impl Questions {
         Ok(LabelState {
             tail: Tail::Whole,
             fronts: all_fronts(alloc, self.texts.as_slice())?,
-            numbers: end_numbers(alloc, self.automata.as_slice())?,
+            live: live_at_end(alloc, self.automata.as_slice())?,
         })
     }
 
@@ -99,7 +97,6 @@ impl Questions {
         state: &LabelState<'q>,
         byte: u8,
     ) -> Result<Option<LabelState<'q>>, AllocError>
-        requires { length state.now.numbers.items ≡ length self.now.automata.items }
         ensures some { IfOk result (λ found. IfSome found (λ next. (text : List ℕ)
             → FollowsLabel self.now state.now text → FollowsLabel self.now next (byte ∷ text))) }
         ensures none { IfOk result (λ found. IfNone found
@@ -112,7 +109,7 @@ impl Questions {
         Ok(Some(LabelState {
             tail,
             fronts: fronts_before(alloc, state.fronts.as_slice(), byte)?,
-            numbers: next_numbers(alloc, automata, state.numbers.as_slice(), byte)?,
+            live: live_before(alloc, automata, state.live.as_slice(), byte)?,
         }))
     }
 
@@ -145,11 +142,10 @@ impl Questions {
         alloc: Global,
         state: &LabelState<'_>,
     ) -> Result<Vec<usize>, AllocError>
-        requires { length state.now.numbers.items ≡ length self.now.automata.items }
         ensures { IfOk result (λ found. (text : List ℕ)
             → FollowsLabel self.now state.now text → IsUtf8 text
             → found.items ≡ found_by self.now.automata.items text) }
     {
-        found_patterns(alloc, self.automata.as_slice(), state.numbers.as_slice())
+        found_patterns(alloc, self.automata.as_slice(), state.live.as_slice())
     }
 }

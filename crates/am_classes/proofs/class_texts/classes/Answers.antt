@@ -9,7 +9,7 @@ use Rattle.am_scan.specs.Automaton.{pattern_of}
 use Rattle.am_classes.specs.Alike.{AreApart, Covers, HasOtherPattern}
 use Rattle.am_classes.specs.Alphabet.{AreOver}
 use Rattle.am_classes.specs.Asked.{AreAsked}
-use Rattle.am_classes.specs.Automata.{AreAutomataOf, MayLackAutomaton}
+use Rattle.am_classes.specs.Automata.{AreAutomataOf, AreFor, MayLackAutomaton}
 use Rattle.am_classes.specs.ClassTexts.{IsClassText}
 use Rattle.am_classes.specs.Limits.{HaveTooManyStates, HaveWildcardsAlone}
 use Rattle.am_classes.specs.Named.{AreEachOnce, named_over, other_patterns}
@@ -42,13 +42,22 @@ fit c =
 
 pub apart_texts-requires : goal.apart_texts-requires
 apart_texts-requires c =
-    subst (AreAutomataOf c.in_ok-tests.tests.patterns.keys)
-    (sym c.as_slice-2.ensures.value) (fit (goal.at.apart_texts-requires c).In-Some-2)
+    let in_some = (goal.at.apart_texts-requires c).In-Some-2 in
+    let found = rw in_some.in-Some-2.is at in_some.in_ok-automata.ensures in
+    record {
+      fit = subst (AreAutomataOf c.in_ok-tests.tests.patterns.keys) (sym c.as_slice-2.ensures.value) (fit in_some);
+      read = subst (AreFor c.in_ok-bytes.bytes) (sym c.as_slice-2.ensures.value) found.fit;
+    }
 
 pub with_automata-tests-requires : goal.with_automata-tests-requires
 with_automata-tests-requires c =
-    subst (λ v. AreAutomataOf c.in_ok-tests.tests.patterns.keys v.items)
-    (sym c.of-questions.ensures.automata) (fit (goal.at.with_automata-tests-requires c).In-Some-2)
+    let in_some = (goal.at.with_automata-tests-requires c).In-Some-2 in
+    let found = rw in_some.in-Some-2.is at in_some.in_ok-automata.ensures in
+    record {
+      fit = subst (λ v. AreAutomataOf c.in_ok-tests.tests.patterns.keys v.items)
+          (sym c.of-questions.ensures.automata) (fit in_some);
+      read = subst (λ v. AreFor c.in_ok-bytes.bytes v.items) (sym c.of-questions.ensures.automata) found.fit;
+    }
 
 pub returns-in_default-2-clause-none : goal.returns-in_default-2-clause-none
 returns-in_default-2-clause-none c =

@@ -1,7 +1,7 @@
 use Rattle.std.proofs.Common.{◌++◌, [], false, List, map, string_bytes, refl, sym, ap, ◌∙◌, subst, arith}
 use Rattle.std.specs.List.{AllByRecursion}
 use Rattle.am_labels.specs.Matcher.{Matcher}
-use Rattle.am_classes.specs.Automata.{AreAutomataOf}
+use Rattle.am_classes.specs.Automata.{AreAutomataOf, AreFor}
 use Rattle.am_classes.specs.Truths.{AreNewIn}
 use Rattle.am_classes.proofs.AutomataLemmas.{automata_for}
 use Rattle.am_classes.proofs.PartLemmas.{IsTried, joined_tried, many_tried, named_tried}
@@ -18,11 +18,18 @@ fit c =
 
 pub apart_texts-requires : goal.apart_texts-requires
 apart_texts-requires c =
-    subst (AreAutomataOf c.in_ok-tests.tests.patterns.keys)
-    (sym c.as_slice-3.ensures.value) (fit (goal.at.apart_texts-requires c).In-Some)
+    let in_some = (goal.at.apart_texts-requires c).In-Some in
+    let found = rw in_some.in-Some.is at in_some.in_ok-automata.ensures in
+    record {
+      fit = subst (AreAutomataOf c.in_ok-tests.tests.patterns.keys) (sym c.as_slice-3.ensures.value) (fit in_some);
+      read = subst (AreFor c.in_ok-bytes.bytes) (sym c.as_slice-3.ensures.value) found.fit;
+    }
 
 pub with_automata-tests-requires : goal.with_automata-tests-requires
-with_automata-tests-requires c = fit (goal.at.with_automata-tests-requires c).In-Some
+with_automata-tests-requires c =
+    let in_some = (goal.at.with_automata-tests-requires c).In-Some in
+    let found = rw in_some.in-Some.is at in_some.in_ok-automata.ensures in
+    record { fit = fit in_some; read = found.fit }
 
 pub returns : goal.returns
 returns c =

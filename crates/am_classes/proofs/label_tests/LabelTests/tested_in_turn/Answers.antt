@@ -6,7 +6,7 @@ use Rattle.am_scan.proofs.Places.{map_front}
 use Rattle.am_classes.specs.LabelTests.{named_places}
 use Rattle.am_classes.specs.Truths.{finding, hits, naming}
 use Rattle.am_classes.proofs.HitLemmas.{hit_more, hit_same, hits_moved}
-use Rattle.am_classes.proofs.label_tests.LabelTests.tested_with.Goals as goal
+use Rattle.am_classes.proofs.label_tests.LabelTests.tested_in_turn.Goals as goal
 
 one_more : (xs items : List (Bor Matcher)) (i : ℕ) (m : Bor Matcher) → xs ≡ items → i < length xs
     → m ≡ get_or xs i m

@@ -2,7 +2,7 @@ use Rattle.std.proofs.Common.{◌≡◌, ◌++◌, List, map, string_bytes, take
 use Rattle.am_labels.specs.Matcher.{Matcher}
 use Rattle.am_classes.specs.LabelTests.{IsTestsOf}
 use Rattle.am_classes.specs.Truths.{AreHits, finding, naming, texts_of}
-use Rattle.am_classes.proofs.label_tests.LabelTests.tested_with.Given as goal
+use Rattle.am_classes.proofs.label_tests.LabelTests.tested_in_turn.Given as goal
 
 -- the texts are tested by the matchers that name texts, and by those so far
 abbrev pub invariant-loop-place : goal.invariant-loop-place
