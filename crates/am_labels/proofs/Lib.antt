@@ -17,3 +17,4 @@ pub mod OperatorLemmas
 pub mod SpaceLaws
 pub mod WildcardReading
 pub mod WildcardMatches
+pub mod WildcardFronts

@@ -34,12 +34,12 @@ use Rattle.am_labels.specs.declared.wildcards.WildcardPiece.TheVariants.{Byte, A
 use Rattle.am_labels.specs.Wildcards.{is_plain, is_fine_piece, is_nothing, after_any, matches, pieces_of, alternatives, is_alternation, is_wildcards, wildcards_find}
 use Rattle.am_universe.specs.Text.{same_text}
 use Rattle.am_universe.proofs.UniverseLemmas.{list_any-map}
-use Rattle.am_labels.specs.Pattern.{pattern_reading, anchored_pattern, finds}
+use Rattle.am_labels.specs.Pattern.{pattern_reading, anchored_pattern, is_pattern, finds}
 use Rattle.am_labels.proofs.WildcardReading.{no_line_feed, any_char, part, all_of, one_of_all, anchored, anchored_read, spelled, differs}
 
 -- ---- What `.*` matches, character by character.
 
-any_here : (rest : List ℕ → Bool) (t : List ℕ) → rest t ≡ true → after_any rest t ≡ true
+pub any_here : (rest : List ℕ → Bool) (t : List ℕ) → rest t ≡ true → after_any rest t ≡ true
 any_here rest [] h = h
 any_here rest (b ∷ t) h = or_left (rest (b ∷ t)) _ h
 
@@ -307,6 +307,11 @@ read_wildcards p (a ∷ ws) e fine =
     list_all-append is_ascii inside (codes ")$") ∙ and_from _ _ (joined_ascii pss fine) refl in
     rw (← joined, chars-IsAscii whole (ascii whole small))
     (anchored_read (pieces_of a) (map pieces_of ws) fine)
+
+pub wildcards_are_read : (p : List ℕ) → is_wildcards p ≡ true → is_pattern p ≡ true
+wildcards_are_read p is =
+    let fine = list_all-map (list_all is_fine_piece) pieces_of (alternatives p) ∙ is in
+    ap is_some (read_wildcards p _ refl fine)
 
 found_by_pieces : (p text : List ℕ) → is_wildcards p ≡ true
     → (wildcards_find p text ≡ true → IsUtf8 text) → finds p text ≡ wildcards_find p text

@@ -2,6 +2,7 @@ pub mod PatternProfile
 pub mod Pattern
 pub mod PatternView
 pub mod Wildcards
+pub mod WildcardFront
 pub mod Matcher
 pub mod MatcherText
 pub mod QuoteState

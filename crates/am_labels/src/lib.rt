@@ -28,6 +28,7 @@ pub use op::{Comparison, Op};
 pub use pattern::compile_pattern;
 
 // Patterns whose meaning needs no grammar.
+mod wildcard_match;
 mod wildcards;
 
 pub use wildcards::{WildcardPiece, is_alternation, is_wildcards, wildcard_alternatives};

@@ -1,12 +1,14 @@
-//! Patterns, compiled so that they have to match a whole text.
+//! Patterns, which have to match a whole text.
 //!
-//! The crates below `regex` do this: `regex_syntax` reads the text, `regex_compile` makes an
-//! automaton of what was read, and `regex_vm` follows it. `regex` itself has other engines too, and
-//! each check of a crate that knows matchers would load all of them.
+//! Most patterns have wildcards alone. Such a pattern is compared with a text as it is written. The
+//! others are compiled, by the crates below `regex`: `regex_syntax` reads the text,
+//! `regex_compile` makes an automaton of what was read, and `regex_vm` follows it. `regex` itself
+//! has other engines too, and each check of a crate that knows matchers would load all of them.
 
 ghost use Rattle.std.specs.Prelude.{◌≡◌, ◌≢◌, ◌≤◌, true, false, IfOk, IfErr};
 ghost use Rattle.std.specs.Prelude.{OnOk, IfSome, string_bytes, map, option_map, length, vec_len};
 ghost use Rattle.std.specs.Prelude.{is_some};
+ghost use Rattle.regex_hir.specs.Find.{first_between};
 ghost use Rattle.regex_hir.specs.Text.{is_boundary};
 ghost use Rattle.regex_nfa.specs.declared.nfa.Nfa.{Nfa};
 ghost use Rattle.regex_syntax.specs.Verdict.{Reads, default_config};
@@ -16,6 +18,8 @@ ghost use Rattle.am_labels.specs.PatternView.{IsSearchFor, start_at};
 ghost use Rattle.am_universe.specs.declared.kind.Kind.TheVariants as kinds;
 
 use crate::pattern_profile::is_in_profile;
+use crate::wildcard_match::wildcards_find;
+use crate::wildcards::is_wildcards;
 use am_universe::Kind;
 use regex_nfa::Nfa;
 use regex_syntax::{Config, ErrorKind, Parsed};
@@ -27,29 +31,33 @@ use std::marker::Model;
 /// limit, unless it is told another.
 const MAX_PATTERN_BYTES: usize = 10 << 20;
 
-/// A pattern, compiled so that it has to match a whole text. The compiled form is large, so it is
-/// boxed: a matcher without a pattern then keeps no room for one.
+/// A pattern, which has to match a whole text. It is compiled, unless it has wildcards alone. The
+/// compiled form is large, so it is boxed.
 #[derive(Drop)]
 pub(crate) struct Pattern {
     text: String,
-    nfa: Box<Nfa>,
+    nfa: Option<Box<Nfa>>,
 }
 
 impl Model for Pattern {
-    ghost use Rattle.std.specs.Prelude.{ℕ, List, string_bytes};
+    ghost use Rattle.std.specs.Prelude.{◌≡◌, ℕ, List, MatchOption, string_bytes, true};
     ghost use Rattle.am_labels.specs.PatternView.{IsSearchFor};
+    ghost use Rattle.am_labels.specs.Wildcards.{is_wildcards};
 
     ghost Value = { List ℕ };
 
     ghost view = { λ p. string_bytes p.text };
 
-    ghost invariant = { λ p. IsSearchFor p.nfa.value (string_bytes p.text) };
+    ghost invariant = { λ p. MatchOption p.nfa (is_wildcards (string_bytes p.text) ≡ true)
+        (λ nfa. IsSearchFor nfa.value (string_bytes p.text)) };
 }
 
 impl Pattern {
-    /// Compiles a pattern. Fails with `PatternProfile` exactly if it is outside the profile; with
-    /// `Pattern` if its grammar does not read the anchored text, or if what is compiled is too
-    /// large; and with `Memory` if memory runs out.
+    /// Reads a pattern. Fails with `PatternProfile` exactly if it is outside the profile. One that
+    /// does not have wildcards alone is compiled: that fails with `Pattern` if its grammar does not
+    /// read the anchored text, or if what is compiled is too large. Fails with `Memory` if memory
+    /// runs out.
+    #[tactic(auto, using(crate::proofs::WildcardMatches::wildcards_are_read))]
     pub(crate) fn new(alloc: Global, value: &str) -> Result<Pattern, Kind>
         ensures value { IfOk result (λ p. p ≡ value.now) }
         ensures profile { OnOk result (in_profile value.now ≡ true) }
@@ -61,12 +69,16 @@ impl Pattern {
         if !is_in_profile(value) {
             return Err(Kind::PatternProfile);
         }
+        let text = String::from_str(alloc, value)?;
+        if is_wildcards(alloc, value)? {
+            return Ok(Pattern { text, nfa: None });
+        }
         let Some(nfa) = compile_pattern(alloc, value, MAX_PATTERN_BYTES)? else {
             return Err(Kind::Pattern);
         };
         Ok(Pattern {
-            text: String::from_str(alloc, value)?,
-            nfa: Box::new(alloc, nfa)?,
+            text,
+            nfa: Some(Box::new(alloc, nfa)?),
         })
     }
 
@@ -74,10 +86,12 @@ impl Pattern {
     pub(crate) fn matcher(&self, alloc: Global) -> Result<PatternMatcher<'_>, AllocError>
         ensures { IfOk result (λ m. m ≡ self.now) }
     {
-        let search = Box::new(alloc, PikeVm::new(alloc, &self.nfa)?)?;
+        let search = match &self.nfa {
+            Some(nfa) => Some(Search::new(alloc, nfa)?),
+            None => None,
+        };
         Ok(PatternMatcher {
             text: self.text.as_str(),
-            nfa: &self.nfa,
             search,
         })
     }
@@ -134,36 +148,78 @@ fn anchored_pattern(alloc: Global, value: &str) -> Result<String, AllocError>
     Ok(source)
 }
 
-/// Searches for a pattern in one text after another. The room that a search needs is taken once,
-/// and a search cannot fail. It is large, so it is boxed.
+/// Searches for a pattern in one text after another. A search cannot fail.
 #[derive(Drop)]
 pub(crate) struct PatternMatcher<'p> {
     text: &'p str,
-    nfa: &'p Nfa,
-    search: Box<PikeVm>,
+    search: Option<Search<'p>>,
 }
 
 impl<'p> Model for PatternMatcher<'p> {
-    ghost use Rattle.std.specs.Prelude.{◌≡◌, ℕ, List, vec_len};
+    ghost use Rattle.std.specs.Prelude.{◌≡◌, ℕ, List, MatchOption, true};
     ghost use Rattle.am_labels.specs.PatternView.{IsSearchFor};
+    ghost use Rattle.am_labels.specs.Wildcards.{is_wildcards};
 
     ghost Value = { List ℕ };
 
     ghost view = { λ m. m.text.now };
 
-    ghost invariant = { λ m. IsSearchFor m.nfa.now m.text.now
-        × (m.search.value.states ≡ vec_len m.nfa.now.states) };
+    ghost invariant = { λ m. MatchOption m.search (is_wildcards m.text.now ≡ true)
+        (λ nfa. IsSearchFor nfa m.text.now) };
 }
 
 impl<'p> PatternMatcher<'p> {
-    /// Whether the pattern matches the whole text. A match begins where a character does.
+    /// Whether the pattern matches the whole text.
     pub(crate) fn is_match(&mut self, text: &str) -> bool
         ensures found { result ≡ finds self.old text.now }
         ensures same { self.new ≡ self.old }
     {
+        if let Some(search) = &mut self.search {
+            return search.is_match(text);
+        }
+        wildcards_find(self.text, text)
+    }
+}
+
+/// Searches for a compiled pattern. The room that a search needs is taken once. It is large, so it
+/// is boxed.
+#[derive(Drop)]
+struct Search<'p> {
+    nfa: &'p Nfa,
+    vm: Box<PikeVm>,
+}
+
+impl<'p> Model for Search<'p> {
+    ghost use Rattle.std.specs.Prelude.{◌≡◌, vec_len};
+    ghost use Rattle.regex_nfa.specs.declared.nfa.Nfa.{Nfa};
+
+    ghost Value = { Nfa };
+
+    ghost view = { λ s. s.nfa.now };
+
+    ghost invariant = { λ s. s.vm.value.states ≡ vec_len s.nfa.now.states };
+}
+
+impl<'p> Search<'p> {
+    /// Prepares a search for a compiled pattern.
+    fn new(alloc: Global, nfa: &'p Nfa) -> Result<Search<'p>, AllocError>
+        ensures { IfOk result (λ search. search ≡ nfa.now) }
+    {
+        Ok(Search {
+            nfa,
+            vm: Box::new(alloc, PikeVm::new(alloc, nfa)?)?,
+        })
+    }
+
+    /// Whether there is a match in a text. A match begins where a character does.
+    fn is_match(&mut self, text: &str) -> bool
+        ensures found { result
+            ≡ is_some (first_between (start_at self.old text.now) 0 (length text.now)) }
+        ensures same { self.new ≡ self.old }
+    {
         let bytes = text.as_bytes();
         for start in 0..bytes.len() + 1 {
-            if starts_match(&mut self.search, self.nfa, bytes, start) {
+            if starts_match(&mut self.vm, self.nfa, bytes, start) {
                 return true;
             }
         }

@@ -2,7 +2,7 @@
 //!
 //! What such a pattern finds can be said without the grammar of patterns, and without an engine.
 
-ghost use Rattle.std.specs.Prelude.{◌≡◌, IfOk, map};
+ghost use Rattle.std.specs.Prelude.{◌≡◌, ◌<◌, [], ◌∷◌, IfOk, IfSome, MatchOption, length, map};
 ghost use Rattle.std.specs.List.{list_all};
 ghost use Rattle.am_labels.specs.Wildcards.{alternatives, is_alternation, is_fine_piece, is_plain};
 ghost use Rattle.am_labels.specs.Wildcards.{is_wildcards, pieces_of};
@@ -80,14 +80,22 @@ fn pieces_of(alloc: Global, mut text: &[u8]) -> Result<Vec<WildcardPiece>, Alloc
     ensures { IfOk result (λ pieces. pieces.items ≡ pieces_of text.now) }
 {
     let mut pieces = Vec::with_capacity(alloc, text.len())?;
-    while let [byte, rest @ ..] = text {
-        if let [b'.', b'*', behind @ ..] = text {
-            pieces.push(WildcardPiece::AnyText)?;
-            text = behind;
-        } else {
-            pieces.push(WildcardPiece::Byte(*byte))?;
-            text = rest;
-        }
+    while let Some((piece, rest)) = first_piece(text) {
+        pieces.push(piece)?;
+        text = rest;
     }
     Ok(pieces)
+}
+
+/// Returns the first piece of an alternative, and what is behind it.
+pub(crate) fn first_piece(text: &[u8]) -> Option<(WildcardPiece, &[u8])>
+    ensures first { MatchOption result (text.now ≡ [])
+        (λ found. pieces_of text.now ≡ found.0 ∷ pieces_of found.1.now) }
+    ensures shorter { IfSome result (λ found. length found.1.now < length text.now) }
+{
+    match text {
+        [] => None,
+        [b'.', b'*', rest @ ..] => Some((WildcardPiece::AnyText, rest)),
+        [byte, rest @ ..] => Some((WildcardPiece::Byte(*byte), rest)),
+    }
 }
