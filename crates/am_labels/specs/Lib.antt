@@ -1,6 +1,7 @@
 pub mod PatternProfile
 pub mod Pattern
 pub mod PatternView
+pub mod KnownAnswers
 pub mod Wildcards
 pub mod WildcardFront
 pub mod Matcher

@@ -20,6 +20,7 @@ pub use am_universe::{
 };
 
 // Operators, and the patterns that two of them take: which are accepted, and what they match.
+mod known_answers;
 mod op;
 mod pattern;
 mod pattern_profile;

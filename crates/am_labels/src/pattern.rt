@@ -8,15 +8,15 @@
 ghost use Rattle.std.specs.Prelude.{◌≡◌, ◌≢◌, ◌≤◌, true, false, IfOk, IfErr};
 ghost use Rattle.std.specs.Prelude.{OnOk, IfSome, string_bytes, map, option_map, length, vec_len};
 ghost use Rattle.std.specs.Prelude.{is_some};
-ghost use Rattle.regex_hir.specs.Find.{first_between};
 ghost use Rattle.regex_hir.specs.Text.{is_boundary};
 ghost use Rattle.regex_nfa.specs.declared.nfa.Nfa.{Nfa};
 ghost use Rattle.regex_syntax.specs.Verdict.{Reads, default_config};
 ghost use Rattle.am_labels.specs.Pattern.{anchored_pattern, finds, is_pattern};
 ghost use Rattle.am_labels.specs.PatternProfile.{in_profile};
-ghost use Rattle.am_labels.specs.PatternView.{IsSearchFor, start_at};
+ghost use Rattle.am_labels.specs.PatternView.{IsSearchFor, has_match, start_at};
 ghost use Rattle.am_universe.specs.declared.kind.Kind.TheVariants as kinds;
 
+use crate::known_answers::KnownAnswers;
 use crate::pattern_profile::is_in_profile;
 use crate::wildcard_match::wildcards_find;
 use crate::wildcards::is_wildcards;
@@ -187,17 +187,21 @@ impl<'p> PatternMatcher<'p> {
 struct Search<'p> {
     nfa: &'p Nfa,
     vm: Box<PikeVm>,
+    known: KnownAnswers,
 }
 
 impl<'p> Model for Search<'p> {
     ghost use Rattle.std.specs.Prelude.{◌≡◌, vec_len};
     ghost use Rattle.regex_nfa.specs.declared.nfa.Nfa.{Nfa};
+    ghost use Rattle.am_labels.specs.PatternView.{has_match};
+    ghost use Rattle.am_labels.specs.KnownAnswers.{AreAnswers};
 
     ghost Value = { Nfa };
 
     ghost view = { λ s. s.nfa.now };
 
-    ghost invariant = { λ s. s.vm.value.states ≡ vec_len s.nfa.now.states };
+    ghost invariant = { λ s. (s.vm.value.states ≡ vec_len s.nfa.now.states)
+        × AreAnswers (has_match s.nfa.now) s.known };
 }
 
 impl<'p> Search<'p> {
@@ -208,23 +212,37 @@ impl<'p> Search<'p> {
         Ok(Search {
             nfa,
             vm: Box::new(alloc, PikeVm::new(alloc, nfa)?)?,
+            known: KnownAnswers::new(alloc),
         })
     }
 
-    /// Whether there is a match in a text. A match begins where a character does.
+    /// Whether there is a match in a text. A text that comes again is not searched again.
     fn is_match(&mut self, text: &str) -> bool
-        ensures found { result
-            ≡ is_some (first_between (start_at self.old text.now) 0 (length text.now)) }
+        ensures found { result ≡ has_match self.old text.now }
         ensures same { self.new ≡ self.old }
     {
-        let bytes = text.as_bytes();
-        for start in 0..bytes.len() + 1 {
-            if starts_match(&mut self.vm, self.nfa, bytes, start) {
-                return true;
-            }
+        if let Some(found) = self.known.get(text) {
+            return found;
         }
-        false
+        let found = has_match(&mut self.vm, self.nfa, text);
+        self.known.keep(text, found);
+        found
     }
+}
+
+/// Whether there is a match in a text. A match begins where a character does.
+fn has_match(search: &mut PikeVm, nfa: &Nfa, text: &str) -> bool
+    requires room { search.old.states ≡ vec_len nfa.now.states }
+    ensures found { result ≡ has_match nfa.now text.now }
+    ensures same { search.new ≡ search.old }
+{
+    let bytes = text.as_bytes();
+    for start in 0..bytes.len() + 1 {
+        if starts_match(search, nfa, bytes, start) {
+            return true;
+        }
+    }
+    false
 }
 
 /// Whether a match starts at a position of a text, and a character begins there.

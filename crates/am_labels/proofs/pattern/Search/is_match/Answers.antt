@@ -1,23 +1,12 @@
--- The text is searched from its first position on.
-use Rattle.std.proofs.Common.{◌∙◌, sym, refl, arith, length, is_some}
+-- The answer that is kept is the one of the search.
+use Rattle.std.proofs.Common.{arith}
 use Rattle.std.proofs.lemmas.Grind.{common_steps}
-use Rattle.regex_hir.specs.Find.{first_between}
-use Rattle.am_labels.specs.PatternView.{start_at}
-use Rattle.am_labels.proofs.PatternLemmas.{here_or_later, nothing_past}
+use Rattle.am_labels.specs.PatternView.{has_match}
 use Rattle.am_labels.proofs.pattern.Search.is_match.Goals as goal
 
-pub loop-start-init : goal.loop-start-init
-loop-start-init c = (refl, refl, rw c.as_bytes-bytes.ensures.value refl)
-
-pub returns-then-starts_match-clause-found : goal.returns-then-starts_match-clause-found
-returns-then-starts_match-clause-found c = grind (arith, common_steps, here_or_later)
-
-pub loop-start-preserved : goal.loop-start-preserved
-loop-start-preserved c = grind (arith, common_steps, here_or_later)
-
-pub returns-clause-found : goal.returns-clause-found
-returns-clause-found c =
-    let text = c.args.text.now in
-    sym (c.loop-start.invariant.2
-    ∙ nothing_past _ c.loop-start.start _ (omega (arith, c.loop-start-test.false)))
-    ∙ (λ i. is_some (first_between (start_at (c.self.view_is i) text) 0 (length text)))
+pub invariant_of-self : goal.invariant_of-self
+invariant_of-self c = (
+  grind (arith, common_steps),
+  c.keep.ensures (has_match c.self.inside.nfa.now) c.self.invariant.1
+      c.has_match-found.ensures.found,
+)
