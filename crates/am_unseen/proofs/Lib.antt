@@ -3,6 +3,7 @@ pub mod Nearest
 pub mod Columns
 pub mod Cells
 pub mod Shifts
+pub mod SharedStart
 pub mod OccurrenceSets
 pub mod SimilarValues
 pub mod NearestTexts
