@@ -1,4 +1,5 @@
 pub mod Positions
+pub mod FirstMarked
 pub mod Most
 pub mod SomeEnd
 pub mod Numbered

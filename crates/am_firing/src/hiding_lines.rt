@@ -1,9 +1,11 @@
 //! The lines of silences that hide all firing alerts of a receiver.
 
 ghost use Rattle.std.specs.Prelude.{◌≡◌, ◌++◌, length, map, IfOk, OnOk};
-ghost use Rattle.std.specs.Prelude.{◌<◌, true, slice_get, Some};
-ghost use Rattle.std.specs.List.{All, flat_map, enumerate_from, range_with_len, zip};
+ghost use Rattle.std.specs.Prelude.{◌<◌, true, false, IsFalse, slice_get, Some};
+ghost use Rattle.std.specs.List.{All, AllByRecursion, enumerate_from, flat_map, range_with_len};
+ghost use Rattle.std.specs.List.{zip};
 ghost use Rattle.am_config.specs.ConfigView.{config_view};
+ghost use Rattle.am_labels.specs.Matcher.{all_hold};
 ghost use Rattle.am_eval.specs.Silencing.{is_active};
 ghost use Rattle.am_report_texts.specs.LineView.{line_view};
 ghost use Rattle.am_firing.specs.Going.{are_all_marked, positions_of};
@@ -16,7 +18,8 @@ use crate::matching::matches_of;
 use am_config::Config;
 use am_eval::World;
 use am_idle::SilenceFinding;
-use am_list_files::Silence;
+use am_labels::Matchers;
+use am_list_files::{Alerts, Silence};
 use am_report_texts::{Field, Level, Line, Piece, Shown, plural, receiver_name};
 use std::alloc::{AllocError, Global};
 
@@ -79,8 +82,9 @@ fn is_all(finding: &Option<SilenceFinding>) -> bool
     matches!(finding, Some(SilenceFinding::All))
 }
 
-/// Adds the lines of the silence at a position, which is active. Its matchers are tested once for
-/// each alert.
+/// Adds the lines of the silence at a position, which is active. Its matchers are first tested for
+/// the first alert of each receiver. Hardly any silence matches one, and only such a silence is
+/// tested once for each alert.
 fn push_silence_lines<'a>(
     alloc: Global,
     lines: &mut Vec<Line<'a>>,
@@ -95,6 +99,9 @@ fn push_silence_lines<'a>(
     ensures { OnOk result (map line_view lines.new.items ≡ map line_view lines.old.items
         ++ silence_lines world.now (position, silence.now)) }
 {
+    if !matches_a_first(alloc, silence.matchers(), world.alerts(), going)? {
+        return Ok(());
+    }
     let hidden = matches_of(alloc, silence.matchers(), world.alerts())?;
     for (receiver, positions) in going.iter().enumerate() {
         if are_all_marked(hidden.as_slice(), positions.as_slice()) {
@@ -103,6 +110,31 @@ fn push_silence_lines<'a>(
         }
     }
     Ok(())
+}
+
+/// Whether a list of matchers matches the first of the alerts that go to some receiver. If not, it
+/// matches all alerts of none. `going` has for each receiver the positions of the alerts that go to
+/// it. Fails only if memory runs out.
+fn matches_a_first(
+    alloc: Global,
+    matchers: &Matchers,
+    alerts: &Alerts,
+    going: &[Vec<usize>],
+) -> Result<bool, AllocError>
+    requires { All (λ positions. All (λ i. i < length alerts.now) positions.items) going.now }
+    ensures { IfOk result (λ found. IsFalse found → AllByRecursion
+        (λ positions. are_all_marked (map (λ alert. all_hold alert matchers.now) alerts.now)
+        positions.items ≡ false) going.now) }
+{
+    let mut prepared = matchers.prepare(alloc);
+    for positions in going {
+        if let Some(first) = positions.first() {
+            if prepared.matches(alloc, alerts.get(*first))? {
+                return Ok(true);
+            }
+        }
+    }
+    Ok(false)
 }
 
 /// Whether there are positions, and each of them is marked.
