@@ -2,6 +2,7 @@ pub mod Lists
 pub mod Extent
 pub mod NamedAlerts
 pub mod Silences
+pub mod KnownExtents
 pub mod SilenceLines
 pub mod Rules
 pub mod RuleChoices

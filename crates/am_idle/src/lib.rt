@@ -21,6 +21,7 @@ mod found;
 pub use found::FindingFault;
 
 // What is said of silences.
+mod known_extents;
 mod silence_lines;
 mod silences;
 

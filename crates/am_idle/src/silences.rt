@@ -5,15 +5,18 @@ ghost use Rattle.std.specs.Prelude.{IfErr, IsFalse, OnOk, option_map};
 ghost use Rattle.std.specs.List.{AllZip, list_any};
 ghost use Rattle.am_universe.specs.declared.kind.Kind.TheVariants as kinds;
 ghost use Rattle.am_labels.specs.Matcher.{all_hold};
+ghost use Rattle.am_labels.specs.Space.{Space};
 ghost use Rattle.am_eval.specs.Silencing.{is_over};
 ghost use Rattle.am_classes.specs.declared.alphabet.Alphabet.{Alphabet};
 ghost use Rattle.am_every_alert.specs.EveryAlert.{IsAlertOf};
 ghost use Rattle.am_idle.specs.Extent.{MatchesOne};
 ghost use Rattle.am_idle.specs.Silences.{IsSilenceFinding, IsAccepted, IsSilenceRefused};
 ghost use Rattle.am_idle.specs.Silences.{IsFirstRefused, is_unused};
+ghost use Rattle.am_idle.specs.KnownExtents.{HasExtent, IsMade, AreKnown, IsFound, IsRefused};
 
 use crate::extent::matches_some;
 use crate::found::{FindingFault, push_finding};
+use crate::known_extents::{Extent, KnownExtents, text_of};
 use crate::named_alerts::matches_all_named;
 use am_classes::Alphabet;
 use am_eval::World;
@@ -68,10 +71,14 @@ pub fn find_silences(
     ensures labels { space.new.labels ≡ [] }
     ensures impossible { space.new.impossible ≡ space.old.impossible }
 {
+    let mut known = KnownExtents::none(alloc);
     let mut found = Vec::new(alloc);
     for i in 0..world.silences().len() {
         let silence = world.silences().get(i);
-        match find_silence(alloc, alphabet, space, world, i, silence, alerts, budget) {
+        let finding = find_silence(
+            alloc, alphabet, space, world, i, silence, alerts, &mut known, budget,
+        );
+        match finding {
             Ok(finding) => push_finding(&mut found, i, finding)?,
             Err(kind) => return Err(FindingFault { position: i, kind }),
         }
@@ -80,71 +87,145 @@ pub fn find_silences(
 }
 
 /// Finds what is wrong with the silence at a position. Fails as [`find_silences`] does.
-fn find_silence(
+fn find_silence<'w>(
     alloc: Global,
     alphabet: Alphabet,
     space: &mut Space,
     world: &World,
     position: usize,
-    silence: &Silence,
+    silence: &'w Silence,
     alerts: Option<&Alerts>,
+    known: &mut KnownExtents<'w>,
     budget: &mut Budget,
 ) -> Result<Option<SilenceFinding>, Kind>
     requires none { space.old.labels ≡ [] }
     requires silence { slice_get world.now.silences position ≡ Some silence.now }
+    requires known { AreKnown alphabet space.old known.old }
     ensures found { IfOk result (IsSilenceFinding alphabet space.old world.now
         (option_map (λ a. a.now) alerts.entry) silence.now) }
     ensures accepted { OnOk result (IsAccepted alphabet space.old world.now silence.now) }
     ensures refused { IfErr result (λ kind. kind ≢ kinds.Memory
         → IsSilenceRefused alphabet space.old world.now silence.now kind) }
+    ensures known { OnOk result (AreKnown alphabet space.old known.new) }
     ensures labels { space.new.labels ≡ [] }
     ensures impossible { space.new.impossible ≡ space.old.impossible }
 {
     if world.over(position) {
         return Ok(None);
     }
-    budget.begin_item();
-    match matches_some(alloc, alphabet, space, silence.matchers(), budget) {
-        Ok(Ok(true)) => Ok(find_matching(alloc, space, world, position, silence, alerts, budget)?),
-        Ok(Ok(false)) => Ok(Some(SilenceFinding::Idle)),
-        Ok(Err(evidence)) => Ok(Some(SilenceFinding::Undecided(evidence))),
-        Err(Kind::Unproved) => Ok(Some(SilenceFinding::Unproved)),
+    match known_or_found(alloc, alphabet, space, silence.matchers(), known, budget) {
+        Ok(Ok(extent)) => Ok(finding_of(alloc, world, position, silence, alerts, extent)?),
+        Ok(Err(finding)) => Ok(Some(finding)),
         Err(kind) => Err(kind),
     }
 }
 
-/// Finds what is wrong with the silence at a position, which is not over and which some alert
-/// matches. Fails only if memory runs out.
-fn find_matching(
+/// Returns which alerts a list of matchers matches, as it is known. Otherwise finds it. If that is
+/// not known then, returns what is said of a silence instead. Fails as [`find_silences`] does.
+fn known_or_found<'w>(
+    alloc: Global,
+    alphabet: Alphabet,
+    space: &mut Space,
+    matchers: &'w Matchers,
+    known: &mut KnownExtents<'w>,
+    budget: &mut Budget,
+) -> Result<Result<Extent, SilenceFinding>, Kind>
+    requires none { space.old.labels ≡ [] }
+    requires known { AreKnown alphabet space.old known.old }
+    ensures found { IfOk result (IsFound alphabet space.old matchers.now) }
+    ensures refused { IfErr result (λ kind. kind ≢ kinds.Memory
+        → IsRefused alphabet space.old matchers.now kind) }
+    ensures known { OnOk result (AreKnown alphabet space.old known.new) }
+    ensures labels { space.new.labels ≡ [] }
+    ensures impossible { space.new.impossible ≡ space.old.impossible }
+{
+    let text = text_of(alloc, matchers)?;
+    if let Some(extent) = known.extent(text.as_str(), matchers) {
+        return Ok(Ok(extent));
+    }
+    budget.begin_item();
+    let found = extent_of(alloc, alphabet, space, matchers, budget)?;
+    if let Ok(extent) = &found {
+        known.add(text, matchers, *extent)?;
+    }
+    Ok(found)
+}
+
+/// Finds which alerts a list of matchers matches. If that is not known, returns what is said of a
+/// silence instead. Fails as [`find_silences`] does.
+fn extent_of(
+    alloc: Global,
+    alphabet: Alphabet,
+    space: &mut Space,
+    matchers: &Matchers,
+    budget: &mut Budget,
+) -> Result<Result<Extent, SilenceFinding>, Kind>
+    requires { space.old.labels ≡ [] }
+    ensures found { IfOk result (IsFound alphabet space.old matchers.now) }
+    ensures refused { IfErr result (λ kind. kind ≢ kinds.Memory
+        → IsRefused alphabet space.old matchers.now kind) }
+    ensures labels { space.new.labels ≡ [] }
+    ensures impossible { space.new.impossible ≡ space.old.impossible }
+{
+    match matches_some(alloc, alphabet, space, matchers, budget) {
+        Ok(Ok(true)) => Ok(extent_of_matching(alloc, space, matchers, budget)?),
+        Ok(Ok(false)) => Ok(Ok(Extent::Nothing)),
+        Ok(Err(evidence)) => Ok(Err(SilenceFinding::Undecided(evidence))),
+        Err(Kind::Unproved) => Ok(Err(SilenceFinding::Unproved)),
+        Err(kind) => Err(kind),
+    }
+}
+
+/// Finds which alerts a list of matchers matches that matches some alert. Fails only if memory runs
+/// out.
+fn extent_of_matching(
     alloc: Global,
     space: &mut Space,
+    matchers: &Matchers,
+    budget: &mut Budget,
+) -> Result<Result<Extent, SilenceFinding>, AllocError>
+    requires { space.old.labels ≡ [] }
+    ensures found { IfOk result (λ found. (a : Alphabet)
+        → IsMade a space.old matchers.now → MatchesOne (IsAlertOf a space.old) matchers.now
+        → IsFound a space.old matchers.now found) }
+    ensures labels { space.new.labels ≡ [] }
+    ensures impossible { space.new.impossible ≡ space.old.impossible }
+{
+    match matches_all_named(alloc, space, matchers, budget) {
+        Ok(Ok(true)) => Ok(Ok(Extent::All)),
+        Ok(Ok(false)) => Ok(Ok(Extent::Part)),
+        Ok(Err(evidence)) => Ok(Err(SilenceFinding::Undecided(evidence))),
+        Err(Kind::Memory) => Err(AllocError),
+        Err(_) => Ok(Err(SilenceFinding::Unproved)),
+    }
+}
+
+/// Returns what is wrong with the silence at a position, which is not over, by which alerts its
+/// matchers match. Fails only if memory runs out.
+fn finding_of(
+    alloc: Global,
     world: &World,
     position: usize,
     silence: &Silence,
     alerts: Option<&Alerts>,
-    budget: &mut Budget,
+    extent: Extent,
 ) -> Result<Option<SilenceFinding>, AllocError>
-    requires none { space.old.labels ≡ [] }
-    requires silence { slice_get world.now.silences position ≡ Some silence.now }
-    ensures found { IfOk result (λ finding. (a : Alphabet)
+    requires { slice_get world.now.silences position ≡ Some silence.now }
+    ensures { IfOk result (λ finding. (a : Alphabet) (s : Space)
         → IsFalse (is_over world.now.instant silence.now)
-        → MatchesOne (IsAlertOf a space.old) silence.now.matchers
-        → IsSilenceFinding a space.old world.now (option_map (λ a. a.now) alerts.entry)
+        → HasExtent a s silence.now.matchers extent
+        → IsSilenceFinding a s world.now (option_map (λ a. a.now) alerts.entry)
         silence.now finding) }
-    ensures labels { space.new.labels ≡ [] }
-    ensures impossible { space.new.impossible ≡ space.old.impossible }
 {
-    match matches_all_named(alloc, space, silence.matchers(), budget) {
-        Ok(Ok(true)) => Ok(Some(SilenceFinding::All)),
-        Ok(Ok(false)) => {
+    match extent {
+        Extent::Nothing => Ok(Some(SilenceFinding::Idle)),
+        Extent::All => Ok(Some(SilenceFinding::All)),
+        Extent::Part => {
             if is_unused(alloc, world, position, silence, alerts)? {
                 return Ok(Some(SilenceFinding::Unused));
             }
             Ok(None)
         }
-        Ok(Err(evidence)) => Ok(Some(SilenceFinding::Undecided(evidence))),
-        Err(Kind::Memory) => Err(AllocError),
-        Err(_) => Ok(Some(SilenceFinding::Unproved)),
     }
 }
 

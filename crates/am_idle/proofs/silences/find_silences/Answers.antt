@@ -1,8 +1,9 @@
 -- One more silence, or the first that is refused.
-use Rattle.std.proofs.Common.{◌∙◌, option_map, subst}
+use Rattle.std.proofs.Common.{sym, ◌∙◌, option_map, subst}
 use Rattle.am_labels.specs.Space.{Space}
 use Rattle.am_complete.proofs.Pushed.{one_more_passes}
 use Rattle.am_idle.specs.Silences.{IsSilenceFinding, IsAccepted, IsSilenceRefused}
+use Rattle.am_idle.specs.KnownExtents.{AreKnown}
 use Rattle.am_idle.proofs.SilenceSteps.{zip_more, same_space}
 use Rattle.am_idle.proofs.silences.find_silences.Goals as goal
 
@@ -19,6 +20,13 @@ returns-in-Err-clause-refused c = λ remembered.
           c.loop-i.invariant.impossible)
           (c.in-Err.ensures.refused remembered);
     }
+
+pub find_silence-finding-requires-clause-known : goal.find_silence-finding-requires-clause-known
+find_silence-finding-requires-clause-known c =
+    let kept = c.loop-i.invariant in
+    subst (λ (t : Space). AreKnown c.args.alphabet t c.loop-i.known)
+    (sym (same_space c.loop-i.space c.args.space.now kept.labels c.requires kept.impossible))
+    kept.known
 
 pub loop-i-preserved : goal.loop-i-preserved
 loop-i-preserved c =
@@ -41,6 +49,7 @@ loop-i-preserved c =
       found = zip_more (IsSilenceFinding a s w alerts) w.silences i silence finding
           c.loop-i.found.items _ at c.in_ok-push_finding-in-Ok.ensures.added kept.found is;
       accepted = one_more_passes (IsAccepted a s w) w.silences i silence at kept.accepted accepted;
-      labels = c.find_silence.ensures.labels;
-      impossible = c.find_silence.ensures.impossible ∙ kept.impossible;
+      known = subst (λ (t : Space). AreKnown a t c.find_silence-finding.new.known) same c.in-Ok.ensures.known;
+      labels = c.find_silence-finding.ensures.labels;
+      impossible = c.find_silence-finding.ensures.impossible ∙ kept.impossible;
     }
