@@ -1,5 +1,5 @@
 -- What is right of the labels of all alerts, in any order; and which alerts pass two tests.
-use Rattle.std.proofs.Common.{◌≡◌, ◌↔◌, ℕ, ◌<◌, ◌≤◌, List, [], ◌∷◌, map, Bool, true, false, ◌&&◌, cond}
+use Rattle.std.proofs.Common.{◌≡◌, ◌↔◌, ℕ, ◌<◌, ◌≤◌, List, [], ◌∷◌, map, Bool, true, false, ◌&&◌, cond, if◌then◌else◌}
 use Rattle.std.proofs.Common.{arith, Some, None, Option, inl, inr, refl, sym, ap, ◌∙◌, subst, get_or, All}
 use lib.Dec.{T}
 use Rattle.std.specs.Prelude.{slice_get, unwrap_or}
@@ -20,8 +20,9 @@ use Rattle.am_universe.proofs.ListLemmas.{IsIn, IsIn-from_Contains, Contains-fro
 use Rattle.am_universe.proofs.Members.{in_joined, joined_in, item_at, numbered_at}
 use Rattle.am_alerts.specs.declared.alert_labels.AlertLabel.{AlertLabel}
 use Rattle.am_alerts.specs.AlertLabels.{label_view, labels_of, all_labels, IsRight, AreWhole, flag, Keeps}
-use Rattle.am_alerts.specs.AlertLabels.{passes, AreJudged}
-use Rattle.am_alerts.specs.declared.alert_labels.ValueTest.{ValueTest}
+use Rattle.am_alerts.specs.AlertLabels.{AreJudged}
+use Rattle.am_alerts.specs.Judge.{passes}
+use Rattle.am_alerts.specs.declared.judge.ValueTest.{ValueTest}
 
 -- ---- The entries of a label set.
 
@@ -143,6 +144,12 @@ Keeps-both alerts p q r before between after both first second = (
       ∙ ap (λ b. flag before i && b) (sym (both s)),
 )
 
+-- one that was judged if it is among some, and else is none of them
+kept_if : (among passed absent before after : Bool) → after ≡ (if among then passed else before)
+    → before ≡ (among && absent) → after ≡ (among && passed)
+kept_if true passed absent before after e f = e
+kept_if false passed absent before after e f = e ∙ f
+
 -- An alert that has its own label in the range of a name was judged by it, and one that has none
 -- has the empty text.
 pub kept_of : (alerts : List LabelMap) (labels : List AlertLabel) (start end : ℕ) (test : ValueTest)
@@ -163,7 +170,8 @@ kept_of alerts labels start end test among before after name right whole exactly
           let is : IsRight alerts own.label =
           subst (IsRight alerts) (get_or_from_slice_get labels own.at own.label own.label own.there)
           (right own.at own.label (slice_get_within labels own.at own.label own.there)) in
-          r.1 ∙ ap (λ v. flag among i && passes test v)
+          kept_if (flag among i) _ (passes test []) (flag before i) (flag after i) r.1 (absent i)
+          ∙ ap (λ v. flag among i && passes test v)
           (sym (is.1 s (ap (slice_get alerts) own.own ∙ at)) ∙ ap (value_of s) named)
       | inr r ↦
           let empty : value_of s name ≡ [] = whole i s name at (λ l there named own.

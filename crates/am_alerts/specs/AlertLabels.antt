@@ -1,5 +1,6 @@
 -- The labels of all alerts, as they are sorted, and tests of a label of all alerts.
 use Rattle.std.specs.Prelude.{◌≡◌, ◌≢◌, ◌<◌, ◌≤◌, ℕ, List, [], map, length, Bool, false, ◌&&◌}
+use Rattle.std.specs.Prelude.{if◌then◌else◌}
 use Rattle.std.specs.Prelude.{◌⊎◌, slice_get, slice_index, slice_index_or, Option, Some, IfSome}
 use Rattle.std.specs.Prelude.{Contains, All}
 use Rattle.std.specs.List.{flat_map, enumerate_from}
@@ -7,12 +8,10 @@ use Rattle.std.specs.List.Sorted.{IsSortedByKey}
 use Rattle.std.specs.FinMap.{entries}
 use Rattle.std.specs.Ordering.{nat_cmp}
 use Rattle.std.specs.Cmp.Lexicographic.{slice_cmp}
-use Rattle.am_universe.specs.Text.{same_text}
 use Rattle.am_universe.specs.LabelSet.{LabelMap, value_of}
-use Rattle.am_labels.specs.Matcher.{holds}
 use Rattle.am_alerts.specs.declared.alert_labels.AlertLabel.{AlertLabel}
-use Rattle.am_alerts.specs.declared.alert_labels.ValueTest.{ValueTest}
-use Rattle.am_alerts.specs.declared.alert_labels.ValueTest.TheVariants.{Matcher, Equal}
+use Rattle.am_alerts.specs.declared.judge.ValueTest.{ValueTest}
+use Rattle.am_alerts.specs.Judge.{passes}
 
 -- A label, without its location in memory: the position of the alert, and the name and the value.
 abbrev pub label_view : AlertLabel → ℕ × (List ℕ × List ℕ)
@@ -48,17 +47,13 @@ HaveFirsts labels firsts =
     → m.value.now ≡ l.value.now))
 
 -- These are the labels of the alerts, sorted by their names.
-pub record AreSorted (alerts : List LabelMap) (labels : List AlertLabel) (firsts : List ℕ)
-    : Type 0 where
+pub record AreSorted (alerts : List LabelMap) (labels : List AlertLabel)
+    (positions firsts : List ℕ) : Type 0 where
   pub right : All (IsRight alerts) labels
   pub whole : AreWhole alerts labels
   pub sorted : IsSortedByKey (λ l. l.name.now) (slice_cmp nat_cmp) labels
+  pub placed : map (λ l. l.alert) labels ≡ positions
   pub rows : HaveFirsts labels firsts
-
--- The truth of a test on the value of a label.
-abbrev pub passes : ValueTest → List ℕ → Bool
-passes (Matcher m) value = holds m.op m.value value
-passes (Equal text) value = same_text text.now value
 
 -- A truth for each alert: that of a test; and those alerts of some that pass a test.
 abbrev pub flag : List Bool → ℕ → Bool
@@ -89,12 +84,13 @@ pub record OwnLabel (labels : List AlertLabel) (start end i : ℕ) : Type 0 wher
   pub there : slice_get labels at ≡ Some label
   pub own : label.alert ≡ i
 
--- Each alert with a label in the range is judged by the value of that label, and other alerts are
--- as before.
+-- Each of some alerts that has a label in the range is judged by the value of that label, and other
+-- alerts are as before.
 abbrev pub AreJudged : List AlertLabel → ℕ → ℕ → ValueTest → List Bool → List Bool → List Bool
     → Type 0
 AreJudged labels start end test among before after =
     (i : ℕ) →
     ((own : OwnLabel labels start end i)
-    × (flag after i ≡ (flag among i && passes test own.label.value.now)))
+    × (flag after i
+    ≡ (if flag among i then passes test own.label.value.now else flag before i)))
     ⊎ ((flag after i ≡ flag before i) × (OwnLabel labels start end i → ⊥))

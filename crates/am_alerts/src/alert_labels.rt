@@ -1,7 +1,8 @@
 //! The labels of all alerts, sorted, so that a matcher is tried once on each value of its label.
 //!
 //! To test a pattern on a text takes far longer than to look at an alert, and most alerts share the
-//! values of a label with others.
+//! values of a label with others. What is looked at for each alert is kept small, because there may
+//! be many matchers and alerts.
 
 ghost use Rattle.std.specs.Prelude.{◌≡◌, ◌++◌, ◌≤◌, ◌<◌, ◌+◌, ◌↔◌, ℕ, length, map, slice_get, Some};
 ghost use Rattle.std.specs.Prelude.{IfOk};
@@ -14,11 +15,13 @@ ghost use Rattle.am_labels.specs.Matcher.{all_hold};
 ghost use Rattle.am_config.specs.RouteView.{names_of};
 ghost use Rattle.am_eval.specs.Inhibition.{have_equal};
 ghost use Rattle.am_alerts.specs.declared.alert_labels.AlertLabel.{AlertLabel};
-ghost use Rattle.am_alerts.specs.AlertLabels.{label_view, labels_of, all_labels, passes};
+ghost use Rattle.am_alerts.specs.Judge.{passes, IsSound};
+ghost use Rattle.am_alerts.specs.AlertLabels.{label_view, labels_of, all_labels};
 ghost use Rattle.am_alerts.specs.AlertLabels.{AreJudged, HaveFirsts, IsKnown};
 ghost use Rattle.am_alerts.specs.AlertLabels.{AreTruths, Keeps, flag};
 
-use am_labels::{Matchers, PreparedMatcher};
+use crate::judge::{Judge, ValueTest, judge_for};
+use am_labels::Matchers;
 use am_list_files::Alerts;
 use am_universe::LabelSet;
 use std::alloc::{AllocError, Global};
@@ -39,6 +42,8 @@ pub(crate) struct AlertLabels<'w> {
     alerts: &'w Alerts,
     /// By name, and those of a name by value.
     labels: Vec<AlertLabel<'w>>,
+    /// For each label, the position of its alert.
+    positions: Vec<usize>,
     /// For each label, the position of the first in a row of labels with the same value.
     firsts: Vec<usize>,
 }
@@ -56,29 +61,8 @@ impl<'w> Model for AlertLabels<'w> {
 
     ghost view = { λ a. a.alerts.now };
 
-    ghost invariant = { λ a. AreSorted a.alerts.now a.labels.items a.firsts.items };
-}
-
-/// A test of the value of a label.
-#[derive(Drop)]
-enum ValueTest<'t> {
-    /// That of a matcher.
-    Matcher(PreparedMatcher<'t>),
-    /// Whether it is this text.
-    Equal(&'t str),
-}
-
-impl<'t> ValueTest<'t> {
-    /// Whether a value passes the test.
-    fn passes(&mut self, value: &str) -> bool
-        ensures truth { result ≡ passes self.old value.now }
-        ensures same { self.new ≡ self.old }
-    {
-        match self {
-            ValueTest::Matcher(matcher) => matcher.holds(value),
-            ValueTest::Equal(text) => *text == value,
-        }
-    }
+    ghost invariant = { λ a.
+        AreSorted a.alerts.now a.labels.items a.positions.items a.firsts.items };
 }
 
 impl<'w> AlertLabels<'w> {
@@ -89,10 +73,12 @@ impl<'w> AlertLabels<'w> {
         let mut labels = labels_of(alloc, alerts)?;
         labels.sort_unstable_by_key(|label| label.value);
         labels.sort_by_key(|label| label.name)?;
+        let positions = positions_in(alloc, labels.as_slice())?;
         let firsts = firsts_in(alloc, labels.as_slice())?;
         Ok(AlertLabels {
             alerts,
             labels,
+            positions,
             firsts,
         })
     }
@@ -126,8 +112,8 @@ impl<'w> AlertLabels<'w> {
     }
 
     /// Returns which of some alerts match a list of matchers, as a truth for each alert. A matcher
-    /// is prepared only if some of these alerts match those before it. Fails only if memory runs
-    /// out.
+    /// is prepared only if some of these alerts match those before it, and unless the one before it
+    /// makes the same test. Fails only if memory runs out.
     pub(crate) fn matched(
         &self,
         alloc: Global,
@@ -139,13 +125,15 @@ impl<'w> AlertLabels<'w> {
             Keeps self.now (λ s. all_hold s matchers.now) among.now kept.items) }
     {
         let mut left = among.to_vec(alloc)?;
+        let mut last = None;
         for i in 0..matchers.len() {
             if !left.contains(&true) {
                 return Ok(left);
             }
             let matcher = matchers.get(i);
-            let test = ValueTest::Matcher(matcher.prepare(alloc)?);
-            left = self.kept(alloc, matcher.name(), test, left.as_slice())?;
+            let mut judge = judge_for(alloc, matcher, last)?;
+            left = self.kept(alloc, matcher.name(), &mut judge, left.as_slice())?;
+            last = Some((matcher, judge));
         }
         Ok(left)
     }
@@ -165,8 +153,8 @@ impl<'w> AlertLabels<'w> {
     {
         let mut left = among.to_vec(alloc)?;
         for name in names {
-            let test = ValueTest::Equal(set.get(name));
-            left = self.kept(alloc, name, test, left.as_slice())?;
+            let mut judge = Judge::of(alloc, ValueTest::Equal(set.get(name)));
+            left = self.kept(alloc, name, &mut judge, left.as_slice())?;
         }
         Ok(left)
     }
@@ -177,25 +165,27 @@ impl<'w> AlertLabels<'w> {
         &self,
         alloc: Global,
         name: &str,
-        mut test: ValueTest<'_>,
+        judge: &mut Judge<'_, 'w>,
         among: &[bool],
     ) -> Result<Vec<bool>, AllocError>
-        requires { length among.now ≡ length self.now }
-        ensures { IfOk result (λ kept. Keeps self.now
-            (λ s. passes test.entry (value_of s name.now)) among.now kept.items) }
+        requires count { length among.now ≡ length self.now }
+        requires sound { IsSound judge.old }
+        ensures kept { IfOk result (λ kept. Keeps self.now
+            (λ s. passes judge.old.test (value_of s name.now)) among.now kept.items) }
+        ensures test { OnOk result (judge.new.test ≡ judge.old.test) }
+        ensures sound { OnOk result (IsSound judge.new) }
     {
-        let absent = test.passes("");
+        let absent = judge.begin();
         let mut kept = those_if(alloc, among, absent)?;
-        let (start, end) = range_of(self.labels.as_slice(), name);
         judge_all(
             self.labels.as_slice(),
+            self.positions.as_slice(),
             self.firsts.as_slice(),
-            start,
-            end,
-            &mut test,
+            range_of(self.labels.as_slice(), name),
+            judge,
             among,
             &mut kept,
-        );
+        )?;
         Ok(kept)
     }
 }
@@ -213,56 +203,64 @@ fn those_if(alloc: Global, among: &[bool], condition: bool) -> Result<Vec<bool>,
     }
 }
 
-/// Judges each of some alerts that has a label in a range by the value of that label.
-fn judge_all(
-    labels: &[AlertLabel<'_>],
+/// Judges each of some alerts that has a label in a range by the value of that label. Fails only if
+/// memory runs out.
+fn judge_all<'w>(
+    labels: &[AlertLabel<'w>],
+    positions: &[usize],
     firsts: &[usize],
-    start: usize,
-    end: usize,
-    test: &mut ValueTest<'_>,
+    range: (usize, usize),
+    judge: &mut Judge<'_, 'w>,
     among: &[bool],
     kept: &mut [bool],
-)
-    requires range { (start ≤ end) × (end ≤ length labels.now) }
+) -> Result<(), AllocError>
+    requires range { (range.0 ≤ range.1) × (range.1 ≤ length labels.now) }
+    requires positions { map (λ l. l.alert) labels.now ≡ positions.now }
     requires firsts { HaveFirsts labels.now firsts.now }
     requires alerts { All (λ l. l.alert < length among.now) labels.now }
     requires count { length kept.old ≡ length among.now }
-    ensures judged { AreJudged labels.now start end test.old among.now kept.old kept.new }
+    requires sound { IsSound judge.old }
+    ensures count { OnOk result (length kept.new ≡ length among.now) }
+    ensures judged { OnOk result (AreJudged labels.now range.0 range.1 judge.old.test among.now
+        kept.old kept.new) }
+    ensures test { OnOk result (judge.new.test ≡ judge.old.test) }
+    ensures sound { OnOk result (IsSound judge.new) }
 {
     let mut known = None;
-    for k in start..end {
-        let alert = labels[k].alert;
-        let passes = among[alert] && label_passes(labels, firsts, k, test, &mut known);
-        kept[alert] = passes;
+    for k in range.0..range.1 {
+        let alert = positions[k];
+        if among[alert] {
+            kept[alert] = label_passes(labels, firsts[k], judge, &mut known)?;
+        }
     }
+    Ok(())
 }
 
 /// Whether the value of the label at a position passes a test. The last answer is kept, and is
-/// given again for each further label in a row with the same value.
-fn label_passes(
-    labels: &[AlertLabel<'_>],
-    firsts: &[usize],
-    k: usize,
-    test: &mut ValueTest<'_>,
+/// given again for each further label in a row with the same value. Fails only if memory runs out.
+fn label_passes<'w>(
+    labels: &[AlertLabel<'w>],
+    first: usize,
+    judge: &mut Judge<'_, 'w>,
     known: &mut Option<(usize, bool)>,
-) -> bool
-    requires within { k < length labels.now }
-    requires firsts { HaveFirsts labels.now firsts.now }
-    requires known { IsKnown labels.now test.old known.old }
-    ensures truth { (l : AlertLabel) → slice_get labels.now k ≡ Some l
-        → result ≡ passes test.old l.value.now }
-    ensures known { IsKnown labels.now test.new known.new }
-    ensures same { test.new ≡ test.old }
+) -> Result<bool, AllocError>
+    requires within { first < length labels.now }
+    requires sound { IsSound judge.old }
+    requires known { IsKnown labels.now judge.old.test known.old }
+    ensures truth { IfOk result (λ truth. (l : AlertLabel) → slice_get labels.now first ≡ Some l
+        → truth ≡ passes judge.old.test l.value.now) }
+    ensures known { OnOk result (IsKnown labels.now judge.old.test known.new) }
+    ensures test { OnOk result (judge.new.test ≡ judge.old.test) }
+    ensures sound { OnOk result (IsSound judge.new) }
 {
-    let first = firsts[k];
     if let Some((other, answer)) = *known {
         if other == first {
-            return answer;
+            return Ok(answer);
         }
     }
-    let answer = test.passes(labels[k].value);
+    let answer = judge.passes(labels[first].value)?;
     *known = Some((first, answer));
-    answer
+    Ok(answer)
 }
 
 /// The positions of the labels of this name: of the first one, and of the one after the last.
@@ -305,6 +303,17 @@ fn add_labels<'w>(
         })?;
     }
     Ok(())
+}
+
+/// Returns for each label the position of its alert.
+fn positions_in(alloc: Global, labels: &[AlertLabel<'_>]) -> Result<Vec<usize>, AllocError>
+    ensures { IfOk result (λ positions. map (λ l. l.alert) labels.now ≡ positions.items) }
+{
+    let mut positions = Vec::with_capacity(alloc, labels.len())?;
+    for label in labels {
+        positions.push(label.alert)?;
+    }
+    Ok(positions)
 }
 
 /// Returns for each label the position of the first in a row of labels with the same value.

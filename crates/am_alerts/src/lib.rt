@@ -5,9 +5,10 @@
 //! inhibition rules and firing alerts that inhibit it, and the time intervals that may mute it.
 #![tactic(auto)]
 
-// The labels of all alerts, and a list for each alert.
+// The labels of all alerts, tests of their values, and a list for each alert.
 mod alert_labels;
 mod alert_lists;
+mod judge;
 
 // The outcomes of all alerts, and of which of them a question is true.
 mod alert_ends;

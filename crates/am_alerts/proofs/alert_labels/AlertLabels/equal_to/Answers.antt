@@ -6,6 +6,7 @@ use Rattle.am_universe.specs.LabelSet.{LabelMap, value_of}
 use Rattle.am_universe.specs.Text.{same_text}
 use Rattle.am_config.specs.RouteView.{names_of}
 use Rattle.am_eval.specs.Inhibition.{have_equal}
+use Rattle.am_alerts.specs.Judge.{passes}
 use Rattle.am_alerts.specs.AlertLabels.{flag, Keeps}
 use Rattle.am_alerts.proofs.AlertLabelLemmas.{Keeps-both}
 use Rattle.am_alerts.proofs.alert_labels.AlertLabels.equal_to.Goals as goal
@@ -20,11 +21,13 @@ loop-name-preserved c =
     let set = c.args.set.now in
     let i = c.loop-name.name-index in
     let name = string_bytes c.name-item.result in
-    let kept = c.in_ok-left-2.ensures in
+    let kept = c.in_ok-left-2.ensures.kept in
     let same = λ (s : LabelMap) (n : List ℕ). same_text (value_of set n) (value_of s n) in
     let next : Keeps c.args.self.now (λ s. same s name) c.loop-name.left.items c.in_ok-left-2.left.items = (
       kept.0,
       λ k s at. kept.1 k s at
+          ∙ ap (λ t. flag c.as_slice.result.now k && passes t (value_of s c.deref-in-loop-name.result.now))
+          c.of-judge.ensures.test
           ∙ (λ j. flag (c.as_slice.ensures.value j) k
           && same_text ((c.get.ensures.value ∙ ap (value_of set) c.deref.ensures) j)
           (value_of s (c.deref-in-loop-name.ensures j))),

@@ -1,6 +1,7 @@
-use Rattle.std.proofs.Common.{subst}
+use Rattle.std.proofs.Common.{map, sym, ap, ◌∙◌, subst}
 use Rattle.std.proofs.lemmas.List.Sorted.{All-permutation, answers_always}
 use Rattle.std.proofs.Common.{rules}
+use Rattle.am_alerts.specs.declared.alert_labels.AlertLabel.{AlertLabel}
 use Rattle.am_alerts.specs.AlertLabels.{IsRight, HaveFirsts}
 use Rattle.am_alerts.proofs.AlertLabelLemmas.{each_right, whole_of_all, whole_again}
 use Rattle.am_alerts.proofs.alert_labels.AlertLabels.of.Goals as goal
@@ -18,6 +19,7 @@ invariant_of-result c =
           (whole_again alerts _ _ by_value (whole_of_all alerts c.in_ok-labels.labels.items all));
       sorted = c.in_ok-sort_by_key.ensures.sorted (λ l. l.name)
           (answers_always _ _ _ (λ f a r g h. search rules));
-      rows = subst (λ labels. HaveFirsts labels c.in_ok-firsts.firsts.items) c.as_slice.ensures.value
+      placed = ap (map (λ (l : AlertLabel). l.alert)) (sym c.as_slice.ensures.value) ∙ c.in_ok-positions.ensures;
+      rows = subst (λ labels. HaveFirsts labels c.in_ok-firsts.firsts.items) c.as_slice-2.ensures.value
           c.in_ok-firsts.ensures;
     }
