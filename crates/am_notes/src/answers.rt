@@ -3,7 +3,7 @@
 ghost use Rattle.std.specs.Prelude.{IfOk, string_bytes};
 ghost use Rattle.am_notes.specs.NoteText.{AreNoteLines};
 
-use crate::groups::has_groups;
+use crate::groups::{has_groups, may_have_alerts};
 use crate::matchers::add_set_matchers;
 use crate::notes::Notes;
 use crate::questions::{add_question, asks_of_routes};
@@ -59,10 +59,13 @@ fn add_groups(alloc: Global, notes: &mut Notes, call: &Call<'_>) -> Result<(), A
     if matches!(call.request, Request::Lint { .. } | Request::Alerts { .. }) {
         return Ok(());
     }
-    match &call.alerts {
-        Some(bytes) if has_groups(alloc, bytes.as_slice())? => notes.add_str(alloc, GROUPS),
-        _ => Ok(()),
+    let Some(bytes) = &call.alerts else {
+        return Ok(());
+    };
+    if may_have_alerts(bytes.as_slice()) && has_groups(alloc, bytes.as_slice())? {
+        return notes.add_str(alloc, GROUPS);
     }
+    Ok(())
 }
 
 /// Adds a note if the old and the new file have the same bytes.

@@ -5,6 +5,7 @@ ghost use Rattle.serde_json.specs.View.{view};
 ghost use Rattle.am_notes.specs.Groups.{first_group, has_groups, is_of_groups};
 
 use am_json::limits::MAX_FILE_BYTES;
+use memchr::memmem;
 use serde_json::Value;
 use std::alloc::{AllocError, Global};
 
@@ -33,6 +34,17 @@ fn is_of_groups(alloc: Global, bytes: &[u8]) -> Result<bool, AllocError>
             Ok(false)
         }
     }
+}
+
+/// What the bytes of a file with a field `alerts` have one of: its name, or an escape of a letter.
+const SIGNS_OF_ALERTS: [&[u8]; 3] = [b"\"alerts\"", b"\\u006", b"\\u007"];
+
+/// Whether a file may have a field `alerts`. To look for its name takes far less than to read the
+/// file, and is enough for most files.
+pub(crate) fn may_have_alerts(bytes: &[u8]) -> bool {
+    SIGNS_OF_ALERTS
+        .iter()
+        .any(|sign| memmem::find(bytes, sign).is_some())
 }
 
 /// Whether a value is a list that begins with a group of alerts.
