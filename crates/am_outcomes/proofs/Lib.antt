@@ -2,7 +2,10 @@ pub mod FirstsLemmas
 pub mod FirstSteps
 pub mod WayReceivers
 pub mod StepLemmas
+pub mod BoxLeast
+pub mod MissedChoices
 pub mod WalkLemmas
+pub mod FirstWalk
 pub mod MatchedPart
 pub mod WaysFound
 pub mod Gathered

@@ -4,7 +4,7 @@ use Rattle.std.proofs.Common.{◌∷◌, ◌++◌, slice_get, Some, append_assoc
 use Rattle.std.proofs.Common.{Bor, subst, inl, inr, arith}
 use Rattle.std.specs.Prelude.{not, ◌&&◌}
 use Rattle.std.specs.List.{count_by}
-use Rattle.std.proofs.lemmas.Bool.{cases_Bool, and_parts}
+use Rattle.std.proofs.lemmas.Bool.{cases_Bool, and_from, and_parts}
 use Rattle.std.proofs.lemmas.List.{append_cancel_left}
 use Rattle.std.proofs.lemmas.List.Folds.{list_all-append}
 use Rattle.std.proofs.lemmas.List.Sums.{sum_by-cons}
@@ -19,7 +19,8 @@ use Rattle.am_outcomes.specs.Configurations.{Tried}
 use Rattle.am_outcomes.specs.declared.steps.Step.{Step}
 use Rattle.am_outcomes.specs.declared.walks.Walk.{Walk}
 use Rattle.am_outcomes.specs.Steps.{AreSteps, GoesFrom, step_after}
-use Rattle.am_outcomes.specs.Walks.{is_on, IsWalk, AreBranches, IsPartOf}
+use Rattle.am_outcomes.specs.Walks.{is_on, IsWalk, AreAllOn, AreBoxesOf, AreBranches, IsPartOf}
+use Rattle.am_outcomes.specs.Walks.{known_box, own_or}
 use Rattle.am_outcomes.specs.Ways.{way_of}
 
 -- ---- One cube more.
@@ -49,6 +50,31 @@ meets_unwanted wanted unwanted cube c =
     ap (λ b. all_match wanted c && b)
     (list_all-append (λ (x : Bor MaskedLabels). not (matches x.now c)) unwanted (cube ∷ []))
     ∙ unwanted_with (matches cube.now c) (all_match wanted c) (avoids unwanted c)
+
+-- some known choices of a walk match a cube, or do not
+pub on_matched : (all : Space) (walk : Walk) (cube : Bor MaskedLabels) (b : List (List Bool))
+    → AreBoxesOf all walk
+    → ((c : List ℕ) → IsInBox b c → IsInBox (known_box walk) c × (matches cube.now c ≡ true))
+    → AreAllOn all (walk.wanted.items ++ cube ∷ []) walk.unwanted.items b
+on_matched all walk cube b boxes narrower c inside =
+    let old = narrower c inside in
+    let r = boxes.known c old.0 in (
+      r.0,
+      meets_wanted walk.wanted.items walk.unwanted.items cube c
+          ∙ and_from (is_on c walk) (matches cube.now c) r.1 old.1,
+    )
+
+pub on_unmatched : (all : Space) (walk : Walk) (cube : Bor MaskedLabels) (b : List (List Bool))
+    → AreBoxesOf all walk
+    → ((c : List ℕ) → IsInBox b c → IsInBox (known_box walk) c × (matches cube.now c ≡ false))
+    → AreAllOn all walk.wanted.items (walk.unwanted.items ++ cube ∷ []) b
+on_unmatched all walk cube b boxes narrower c inside =
+    let old = narrower c inside in
+    let r = boxes.known c old.0 in (
+      r.0,
+      meets_unwanted walk.wanted.items walk.unwanted.items cube c
+          ∙ and_from (is_on c walk) (not (matches cube.now c)) r.1 (ap not old.1),
+    )
 
 pub pushed_twice : {X : Type 0} (old once twice : List X) (x y : X) → once ≡ old ++ x ∷ []
     → twice ≡ once ++ y ∷ [] → twice ≡ old ++ (x ∷ y ∷ [])
@@ -114,7 +140,7 @@ module _ (all s : Space) (t : Tried) (steps : List Step) (walk : Walk)
     pub same : (c : List ℕ) → IsChoiceOf s c
         → is_on c branch ≡ (is_on c walk && is_as b (matches step.cube c))
     pub inside : (c : List ℕ) → is_on c branch ≡ true → is_on c walk ≡ true
-    pub within : (c : List ℕ) → IsChoiceOf s c → is_on c branch ≡ true → IsInBox branch.within c
+    pub boxes : AreBoxesOf all branch
 
   -- a choice of a branch is one of the walk
   on_both : (b : Bool) (branch : Walk) → IsBranch b branch → (c : List ℕ) → IsChoiceOf s c
@@ -135,7 +161,7 @@ module _ (all s : Space) (t : Tried) (steps : List Step) (walk : Walk)
   is_walk b branch it = record {
     near = omega (arith, nearer_if b, it.to, slice_get_within steps k step at);
     own = λ c choice on. is.own c choice (it.inside c on);
-    within = it.within;
+    boxes = it.boxes;
     begun = is.begun ++ b ∷ [];
     goes = λ c choice on.
         let told = on_both b branch it c choice on in
@@ -183,14 +209,20 @@ module _ (all s : Space) (t : Tried) (steps : List Step) (walk : Walk)
   -- the walk goes on as it is
   pub whole_branch : (b : Bool) (branch : Walk) → AllAre b → branch.next ≡ step_after step b
       → ((c : List ℕ) → is_on c branch ≡ is_on c walk) → branch.within ≡ walk.within
-      → AreBranches all s t steps walk (branch ∷ [])
-  whole_branch b branch each to same box = one_branch b branch each (record {
+      → branch.some ≡ walk.some → AreBranches all s t steps walk (branch ∷ [])
+  whole_branch b branch each to same box some = one_branch b branch each (record {
     to = to;
     same = λ c choice. same c ∙ all_on b each c choice;
     inside = λ c on. sym (same c) ∙ on;
-    within = λ c choice on.
-        subst (λ (x : List (List Bool)). IsInBox x c) (sym box)
-        (is.within c choice (sym (same c) ∙ on));
+    boxes = record {
+      within = λ c choice on.
+          subst (λ (x : List (List Bool)). IsInBox x c) (sym box)
+          (is.boxes.within c choice (sym (same c) ∙ on));
+      known = λ c inside.
+          let r = is.boxes.known c
+          (subst (λ (x : List (List Bool)). IsInBox x c) (λ i. own_or (some i) (box i)) inside) in
+          (r.0, same c ∙ r.1);
+    };
   })
 
   -- ---- Both branches.
@@ -236,17 +268,23 @@ module _ (all s : Space) (t : Tried) (steps : List Step) (walk : Walk)
         → branch.unwanted.items ≡ walk.unwanted.items
         → ((c : List ℕ) → IsInBox walk.within c → matches cube.now c ≡ true
         → IsInBox branch.within c)
+        → AreAllOn all (walk.wanted.items ++ cube ∷ []) walk.unwanted.items (known_box branch)
         → IsBranch true branch
-    matched_branch branch to wanted unwanted narrower =
+    matched_branch branch to wanted unwanted narrower sure =
         let on : (c : List ℕ) → is_on c branch ≡ (is_on c walk && matches step.cube c) =
         λ c. (λ i. meets_cubes (wanted i) (unwanted i) c) ∙ wanted_is c in
         record {
           to = to;
           same = λ c choice. on c;
           inside = λ c there. (and_parts (is_on c walk) (matches step.cube c) (sym (on c) ∙ there)).0;
-          within = λ c choice there.
-              let parts = and_parts (is_on c walk) (matches step.cube c) (sym (on c) ∙ there) in
-              narrower c (is.within c choice parts.0) (ap (λ m. matches m c) same ∙ parts.1);
+          boxes = record {
+            within = λ c choice there.
+                let parts = and_parts (is_on c walk) (matches step.cube c) (sym (on c) ∙ there) in
+                narrower c (is.boxes.within c choice parts.0)
+                (ap (λ m. matches m c) same ∙ parts.1);
+            known = λ c inside.
+                let r = sure c inside in (r.0, (λ i. meets_cubes (wanted i) (unwanted i) c) ∙ r.1);
+          };
         }
 
     pub unmatched_branch : (branch : Walk) → branch.next ≡ step.unmatched
@@ -254,8 +292,9 @@ module _ (all s : Space) (t : Tried) (steps : List Step) (walk : Walk)
         → branch.unwanted.items ≡ walk.unwanted.items ++ cube ∷ []
         → ((c : List ℕ) → IsInBox walk.within c → matches cube.now c ≡ false
         → IsInBox branch.within c)
+        → AreAllOn all walk.wanted.items (walk.unwanted.items ++ cube ∷ []) (known_box branch)
         → IsBranch false branch
-    unmatched_branch branch to wanted unwanted narrower =
+    unmatched_branch branch to wanted unwanted narrower sure =
         let on : (c : List ℕ) → is_on c branch ≡ (is_on c walk && not (matches step.cube c)) =
         λ c. (λ i. meets_cubes (wanted i) (unwanted i) c) ∙ unwanted_is c in
         record {
@@ -263,11 +302,15 @@ module _ (all s : Space) (t : Tried) (steps : List Step) (walk : Walk)
           same = λ c choice. on c;
           inside = λ c there.
               (and_parts (is_on c walk) (not (matches step.cube c)) (sym (on c) ∙ there)).0;
-          within = λ c choice there.
-              let parts = and_parts (is_on c walk) (not (matches step.cube c))
-              (sym (on c) ∙ there) in
-              narrower c (is.within c choice parts.0)
-              (ap (λ m. matches m c) same ∙ as_it_must false (matches step.cube c) parts.1);
+          boxes = record {
+            within = λ c choice there.
+                let parts = and_parts (is_on c walk) (not (matches step.cube c))
+                (sym (on c) ∙ there) in
+                narrower c (is.boxes.within c choice parts.0)
+                (ap (λ m. matches m c) same ∙ as_it_must false (matches step.cube c) parts.1);
+            known = λ c inside.
+                let r = sure c inside in (r.0, (λ i. meets_cubes (wanted i) (unwanted i) c) ∙ r.1);
+          };
         }
 
     -- the cube matches no choice of the walk, or each

@@ -29,7 +29,6 @@ use Rattle.am_labels.proofs.SpaceLaws.{space_choices, space_choices_sorted}
 use Rattle.am_judged_lists.specs.Cube.{MaskedLabels, matches}
 use Rattle.am_search.specs.Start.{comes_before}
 use Rattle.am_search.proofs.ChoiceOrder.{Ascends, above_first, ascends_rest, not_itself, not_back}
-use Rattle.am_first_sets.specs.Meeting.{meets_cubes}
 use Rattle.am_first_sets.proofs.FirstPossible.{is_found, none_passes}
 use Rattle.am_outcomes.specs.Configurations.{Tried}
 use Rattle.am_outcomes.specs.declared.limits.TheConstants.{MAX_WAYS}
@@ -38,7 +37,8 @@ use Rattle.am_outcomes.specs.declared.walks.Walk.{Walk}
 use Rattle.am_outcomes.specs.FirstsOfWays.{IsFirstOfWay, AreFirstsOfWays}
 use Rattle.am_outcomes.specs.MatchedPart.{matched_part}
 use Rattle.am_outcomes.specs.Steps.{AreSteps, GoesFrom}
-use Rattle.am_outcomes.specs.Walks.{is_on, IsWalk, IsPartOf, IsFirstWalk, AreBranches, AddsBranches}
+use Rattle.am_outcomes.specs.Walks.{is_on, IsWalk, IsPartOf, IsFirstWalk, AreBoxesOf}
+use Rattle.am_outcomes.specs.Walks.{AreBranches, AddsBranches}
 use Rattle.am_outcomes.specs.Ways.{way_of, HaveDistinctWays, HaveManyWays}
 use Rattle.am_outcomes.proofs.MatchedPart.{choice_of_part, choice_there}
 use Rattle.am_outcomes.proofs.WalkLemmas.{one_if, count_one}
@@ -208,7 +208,7 @@ module _ (all : Space) (ms : List Matcher) (t : Tried) (steps : List Step) where
           near = omega (arith, is.at);
           own = λ c choice on.
               choice_of_part all ms c choice (sym (exact c choice) ∙ sym (is.on c) ∙ on);
-          within = λ c choice on. is.within c (part c choice) (matched c choice);
+          boxes = is.boxes;
           begun = [];
           goes = λ c choice on. (
             way_of s t c,
@@ -352,11 +352,10 @@ module _ (all : Space) (ms : List Matcher) (t : Tried) (steps : List Step) where
               (lighter walks walk added.0 added.2.nearer added.2.at_most),
         )
 
-    module _ (wanted unwanted : List (Bor MaskedLabels)) (same : wanted ≡ walk.wanted.items)
-        (too : unwanted ≡ walk.unwanted.items) (found : Option (List ℕ))
-        (is : found ≡ find (meets_cubes wanted unwanted) (all_choices all)) where
+    module _ (found : Option (List ℕ))
+        (is : AreBoxesOf all walk → found ≡ find (λ c. is_on c walk) (all_choices all)) where
       found_on : found ≡ find (λ c. is_on c walk) (all_choices all)
-      found_on = is ∙ (λ i. find (meets_cubes (same i) (too i)) (all_choices all))
+      found_on = is taken_walk.boxes
 
       -- it ends with the first of its choices
       pub found_one : (x : List ℕ) → found ≡ Some x → walk.next ≡ 0

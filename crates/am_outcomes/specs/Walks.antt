@@ -1,6 +1,7 @@
 -- Walks through the routes and the silences, from step to step.
 use Rattle.std.specs.Prelude.{◌≡◌, ◌≤◌, ◌<◌, ◌+◌, ℕ, List, ◌++◌, length, Bool, IsTrue}
-use Rattle.std.specs.Prelude.{slice_get, Some, if◌then◌else◌}
+use Rattle.std.specs.Prelude.{slice_get, Option, None, Some, if◌then◌else◌}
+use Rattle.std.specs.Borrow.{Bor}
 use Rattle.std.specs.List.{AllByRecursion, count_by}
 use Rattle.am_labels.specs.Space.{Space, IsChoiceOf}
 use Rattle.am_judged_lists.specs.Boxes.{IsInBox}
@@ -16,17 +17,37 @@ use Rattle.am_outcomes.specs.Ways.{way_of}
 abbrev pub is_on : List ℕ → Walk → Bool
 is_on c walk = meets_cubes walk.wanted.items walk.unwanted.items c
 
+-- The box of a walk whose choices are known to be on it: one of its own, or the box in which all
+-- its choices are.
+abbrev pub own_or : Option (List (List Bool)) → List (List Bool) → List (List Bool)
+own_or None within = within
+own_or (Some some) within = some
+
+abbrev pub known_box : Walk → List (List Bool)
+known_box walk = own_or walk.some walk.within
+
+-- All choices of a box meet the cubes.
+abbrev pub AreAllOn : Space → List (Bor MaskedLabels) → List (Bor MaskedLabels) → List (List Bool)
+    → Type 0
+AreAllOn all wanted unwanted b =
+    (c : List ℕ) → IsInBox b c → IsChoiceOf all c × IsTrue (meets_cubes wanted unwanted c)
+
+-- The choices of a walk are in its box, and those that are known are among them.
+pub record AreBoxesOf (all : Space) (walk : Walk) : Type 0 where
+  pub within : (c : List ℕ) → IsChoiceOf all c → IsTrue (is_on c walk) → IsInBox walk.within c
+  pub known : AreAllOn all walk.wanted.items walk.unwanted.items (known_box walk)
+
 -- Each choice of a space is one of another.
 abbrev pub IsPartOf : Space → Space → Type 0
 IsPartOf s all = (c : List ℕ) → IsChoiceOf s c → IsChoiceOf all c
 
 -- A walk goes through the choices of `s`, a part of the space `all`. Those that are on it are the
 -- ones whose ways begin as the walk did. From its next step on, each goes the rest of its way. All
--- of them are in the box of the walk.
+-- of them are in the box of the walk, and those of the box that is known are among them.
 pub record IsWalk (all s : Space) (t : Tried) (steps : List Step) (walk : Walk) : Type 0 where
   pub near : walk.next ≤ length steps
   pub own : (c : List ℕ) → IsChoiceOf all c → IsTrue (is_on c walk) → IsChoiceOf s c
-  pub within : (c : List ℕ) → IsChoiceOf s c → IsTrue (is_on c walk) → IsInBox walk.within c
+  pub boxes : AreBoxesOf all walk
   pub begun : List Bool
   pub goes : (c : List ℕ) → IsChoiceOf s c → IsTrue (is_on c walk)
       → (rest : List Bool) × (way_of s t c ≡ begun ++ rest) × GoesFrom steps walk.next c rest
@@ -38,8 +59,7 @@ pub record IsFirstWalk (all : Space) (cube : MaskedLabels) (next : ℕ) (walk : 
     : Type 0 where
   pub at : walk.next ≡ next
   pub on : (c : List ℕ) → is_on c walk ≡ matches cube c
-  pub within : (c : List ℕ) → IsChoiceOf all c → IsTrue (matches cube c)
-      → IsInBox walk.within c
+  pub boxes : AreBoxesOf all walk
 
 -- A walk is followed by others, at most two, which are nearer to the end: each of its choices is on
 -- one of them, and no other choice is on any.

@@ -16,6 +16,7 @@
 pub mod limits;
 
 // The walks through the routes and the silences.
+mod box_firsts;
 mod steps;
 mod walks;
 mod ways;

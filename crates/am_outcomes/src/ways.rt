@@ -95,8 +95,7 @@ fn unsorted_firsts<'a>(
             walk.push_branches(alloc, possible, step, &mut walks, budget)?;
             continue;
         }
-        let (wanted, unwanted) = (walk.wanted.as_slice(), walk.unwanted.as_slice());
-        if let Some(first) = possible.first_meeting(alloc, wanted, unwanted, budget)? {
+        if let Some(first) = walk.first_choice(alloc, universe, possible, budget)? {
             if firsts.len() >= MAX_WAYS {
                 return Ok(None);
             }

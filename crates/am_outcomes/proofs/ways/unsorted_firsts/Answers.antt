@@ -83,8 +83,7 @@ returns-then-len-ge-MAX_WAYS-clause-many c = λ t ms goes is_cube.
     many_ways s ms t c.args.steps.now c.pop.new.self.items (firsts ++ first ∷ [])
     (found_one s ms t c.args.steps.now c.loop-walk.walks.items c.pop.new.self.items
     c.in-Some-pop.walk firsts c.in-Some-pop.ensures.items (c.loop-walk.invariant t ms goes is_cube)
-    c.as_slice-wanted.result.now c.as_slice-unwanted.result.now c.as_slice-wanted.ensures.value
-    c.as_slice-unwanted.ensures.value c.in_ok-first.field-0 c.in_ok-first.ensures.first first
+    c.in_ok-first.field-0 c.in_ok-first.ensures first
     c.in-Some-2.is (omega (arith, c.if-walk-gt0.false)))
     (omega (arith, c.len.ensures, c.if-len-ge-MAX_WAYS.true, long))
 
@@ -98,16 +97,31 @@ loop-walk-preserved c = λ t ms goes is_cube.
       | in-Some-2+else-len-ge-MAX_WAYS+in_ok-push-2 w ↦
           rw (w.firsts-is, w.in_ok-push-2.ensures.items)
           (found_one s ms t steps c.loop-walk.walks.items c.pop.new.self.items c.in-Some-pop.walk
-          firsts c.in-Some-pop.ensures.items so_far c.as_slice-wanted.result.now
-          c.as_slice-unwanted.result.now c.as_slice-wanted.ensures.value
-          c.as_slice-unwanted.ensures.value c.in_ok-first.field-0 c.in_ok-first.ensures.first
+          firsts c.in-Some-pop.ensures.items so_far c.in_ok-first.field-0 c.in_ok-first.ensures
           w.in-Some-2.first w.in-Some-2.is (omega (arith, c.if-walk-gt0.false)))
       | in_default-2 w ↦
           rw w.firsts-is
           (found_none s ms t steps c.loop-walk.walks.items c.pop.new.self.items c.in-Some-pop.walk
-          firsts c.in-Some-pop.ensures.items so_far c.as_slice-wanted.result.now
-          c.as_slice-unwanted.result.now c.as_slice-wanted.ensures.value
-          c.as_slice-unwanted.ensures.value c.in_ok-first.field-0 c.in_ok-first.ensures.first
+          firsts c.in-Some-pop.ensures.items so_far c.in_ok-first.field-0 c.in_ok-first.ensures
+          w.in_default-2.is)
+    ]
+
+pub loop-walk-preserved-after-branch-6 : goal.loop-walk-preserved-after-branch-6
+loop-walk-preserved-after-branch-6 c = λ t ms goes is_cube.
+    let s = possible_space c.args.possible.now in
+    let steps = c.args.steps.now in
+    let firsts = c.loop-walk.firsts.items in
+    let so_far = c.loop-walk.invariant t ms goes is_cube in
+    elim c.match-branch-6.branch [
+      | in-Some-2+else-len-ge-MAX_WAYS+in_ok-push-2 w ↦
+          rw (w.firsts-is, w.in_ok-push-2.ensures.items)
+          (found_one s ms t steps c.loop-walk.walks.items c.pop.new.self.items c.in-Some-pop.walk
+          firsts c.in-Some-pop.ensures.items so_far c.in_ok-first.field-0 c.in_ok-first.ensures
+          w.in-Some-2.first w.in-Some-2.is (omega (arith, c.if-walk-gt0.false)))
+      | in_default-2 w ↦
+          rw w.firsts-is
+          (found_none s ms t steps c.loop-walk.walks.items c.pop.new.self.items c.in-Some-pop.walk
+          firsts c.in-Some-pop.ensures.items so_far c.in_ok-first.field-0 c.in_ok-first.ensures
           w.in_default-2.is)
     ]
 
