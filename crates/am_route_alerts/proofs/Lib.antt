@@ -1,5 +1,7 @@
 pub mod ImpliedLemmas
+pub mod NearbyLemmas
 pub mod ShortenedLemmas
+pub mod OnlyNeeded
 pub mod ZipLists
 pub mod LiteralRoutes
 pub mod LiteralsHold

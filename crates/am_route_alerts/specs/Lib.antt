@@ -3,6 +3,7 @@ pub mod EndMatchers
 pub mod RouteAlerts
 pub mod RouteLines
 pub mod Implied
+pub mod Nearby
 pub mod MatcherCubes
 pub mod KeptLists
 pub mod FoundView

@@ -1,5 +1,5 @@
 -- The matchers of routes, each with its cube.
-use Rattle.std.specs.Prelude.{◌≡◌, ℕ, List, [], ◌∷◌, Option, Some, None, slice_get, true}
+use Rattle.std.specs.Prelude.{◌≡◌, ℕ, List, [], ◌∷◌, Option, Some, None, slice_get, true, false}
 use Rattle.std.specs.Global.{Vec}
 use Rattle.std.specs.List.{AllByRecursion, AllZip}
 use Rattle.am_universe.specs.Universe.{Label}
@@ -8,7 +8,7 @@ use Rattle.am_labels.specs.Matcher.{Matcher}
 use Rattle.am_labels.specs.Space.{Space, IsChoiceOf}
 use Rattle.am_config.specs.ConfigFile.{Configuration, matchers_of}
 use Rattle.am_config.specs.RoutePaths.{all_routes}
-use Rattle.am_judged_lists.specs.Cube.{IsCubeOf}
+use Rattle.am_judged_lists.specs.Cube.{IsCubeOf, matches}
 use Rattle.am_first_sets.specs.declared.candidate.Candidate.{Candidate}
 use Rattle.am_first_sets.specs.Literals.{hold_all}
 use Rattle.am_route_alerts.specs.declared.matcher_cubes.KnownMatcher.{KnownMatcher}
@@ -47,3 +47,13 @@ AreEachCubes u matchers =
 abbrev pub MeetsAll : Space → List Candidate → LabelMap → Type 0
 MeetsAll s given set =
     (c : List ℕ) × IsChoiceOf s c × (hold_all c given ≡ true) × (set ≡ label_set_of s.labels c)
+
+-- A matcher is the only one of some, and some choice of a space at which given literals are true
+-- fails its cube.
+abbrev pub IsOnlyNeeded : Space → List Candidate → List KnownMatcher → Matcher → Type 0
+IsOnlyNeeded s given [] m = ⊥
+IsOnlyNeeded s given (known ∷ []) m =
+    (known.matcher.now ≡ m)
+    × ((c : List ℕ) × IsChoiceOf s c × (hold_all c given ≡ true)
+    × (matches known.cube.now c ≡ false))
+IsOnlyNeeded s given (known ∷ other ∷ matchers) m = ⊥

@@ -21,7 +21,7 @@ use am_config::Path;
 use am_first_sets::{Budget, Candidate, Unfinished, some_meeting};
 use am_labels::Matcher;
 use am_lint::{Table, literals_of};
-use am_universe::Universe;
+use am_universe::{Choice, Universe};
 use std::alloc::Global;
 
 /// Which alerts end at a route: those that match all the matchers, and none of the lists.
@@ -56,24 +56,25 @@ pub(crate) fn end_matchers<'a>(
     let Some(found) = some_meeting(alloc, possible, all, budget)? else {
         return Ok(None);
     };
-    let hints = hints_of(alloc, universe, &found)?;
-    leave_out_implied(alloc, possible, all, on_way, hints.as_slice(), budget)?;
+    let hints = hints_of(alloc, universe, &found, all)?;
+    leave_out_implied(alloc, possible, all, on_way, &hints, budget)?;
     let (way, others) = all.split_at(on_way);
     let on_way = cubes_about(alloc, cubes, way)?;
-    let matchers = shortened(alloc, &table.possible, &[], on_way.as_slice(), budget)?;
-    let unless = kept_lists(alloc, table, cubes, way, others, budget)?;
+    let matchers = shortened(alloc, &table.possible, &[], on_way.as_slice(), None, budget)?;
+    let unless = kept_lists(alloc, table, cubes, way, others, hints.choice(), budget)?;
     Ok(Some(EndMatchers { matchers, unless }))
 }
 
 /// Returns for each named literal the matchers of the route that it is about, without those that
-/// follow from the others, for the label sets that meet given literals. Fails if the budget is used
-/// up or memory runs out.
+/// follow from the others, for the label sets that meet given literals. A choice that meets all
+/// literals makes it shorter. Fails if the budget is used up or memory runs out.
 fn kept_lists<'a>(
     alloc: Global,
     table: &Table<'_>,
     cubes: &[Vec<MatcherCube<'a>>],
     given: &[Candidate<'_>],
     literals: &[Candidate<'_>],
+    choice: Option<&Choice>,
     budget: &mut Budget,
 ) -> Result<Vec<Vec<&'a Matcher>>, Unfinished>
     requires cubes { AreCubesOfRoutes (table_space table.now).labels (table_config table.now)
@@ -87,7 +88,7 @@ fn kept_lists<'a>(
         if literals[i].named {
             let list = cubes_about(alloc, cubes, &literals[i..i + 1])?;
             let list = list.as_slice();
-            lists.push(shortened(alloc, &table.possible, given, list, budget)?)?;
+            lists.push(shortened(alloc, &table.possible, given, list, choice, budget)?)?;
         }
     }
     Ok(lists)

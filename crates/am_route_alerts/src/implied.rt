@@ -2,15 +2,16 @@
 //!
 //! A literal follows from others if no possible choice meets these and fails it. So a search for
 //! such a choice says whether the literal tells anything more than the others do. Hints make it
-//! short where there is one.
+//! short where there is one, or show one without a search.
 
 ghost use Rattle.std.specs.Prelude.{◌≡◌, ◌<◌, ◌≤◌, length, IfOk, OnOk, IsTrue, false};
 ghost use Rattle.am_first_sets.specs.Literals.{IsMet, IsUnmet};
 ghost use Rattle.am_first_sets.specs.PossibleChoices.{IsPossible};
 ghost use Rattle.am_first_sets.specs.Reason.{AreFewer, AreNamedBefore};
 ghost use Rattle.am_route_alerts.specs.Implied.{negated, IsSameFor, IsEachNeeded};
+ghost use Rattle.am_route_alerts.specs.Nearby.{AreHints};
 
-use crate::hints::Hint;
+use crate::hints::{Hint, Hints};
 use am_first_sets::{Budget, Candidate, PossibleChoices, Unfinished, some_meeting};
 use am_judged_lists::Cube;
 use std::alloc::Global;
@@ -28,10 +29,11 @@ pub(crate) fn leave_out_implied(
     possible: &PossibleChoices,
     literals: &mut [Candidate<'_>],
     from: usize,
-    hints: &[Hint],
+    hints: &Hints,
     budget: &mut Budget,
 ) -> Result<(), Unfinished>
     requires within { from ≤ length literals.old }
+    requires hints { AreHints literals.old hints.now }
     ensures fewer { OnOk result (AreFewer literals.old literals.new) }
     ensures first { OnOk result (AreNamedBefore from literals.old
         → AreNamedBefore from literals.new) }
@@ -54,16 +56,20 @@ fn is_implied(
     literals: &[Candidate<'_>],
     from: usize,
     i: usize,
-    hints: &[Hint],
+    hints: &Hints,
     budget: &mut Budget,
 ) -> Result<bool, Unfinished>
     requires there { i < length literals.now }
     requires behind { from ≤ i }
+    requires hints { AreHints literals.now hints.now }
     ensures implied { IfOk result (λ implied. IsTrue implied
         → IsUnmet (IsPossible possible.now) (negated i literals.now)) }
     ensures needed { IfOk result (λ implied. implied ≡ false
         → IsMet (IsPossible possible.now) (negated i literals.now)) }
 {
+    if hints.show_needed(possible, literals, i) {
+        return Ok(false);
+    }
     let literal = literals[i];
     let other = Candidate {
         wanted: !literal.wanted,
@@ -77,6 +83,7 @@ fn is_implied(
     }
     let mut all = literals.to_vec(alloc)?;
     all[i] = other;
+    let hints = hints.positions.as_slice();
     if is_met_near(alloc, possible, all.as_slice(), other.cube, hints, budget)? {
         return Ok(false);
     }

@@ -10,6 +10,7 @@
 // Literals that follow from others, and where to look first for what they fail.
 mod hints;
 mod implied;
+mod nearby;
 
 // The matchers of routes, each with its cube, and the fewest of some that say the same.
 mod matcher_cubes;

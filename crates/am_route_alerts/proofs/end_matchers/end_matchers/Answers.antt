@@ -53,7 +53,7 @@ returns-in_default c =
 
 pub shortened-requires-clause-cubes : goal.shortened-requires-clause-cubes
 shortened-requires-clause-cubes c =
-    rw c.as_slice-2.ensures.value (each_known _ _ _ c.in_ok-on_way.ensures.cubes
+    rw c.as_slice.ensures.value (each_known _ _ _ c.in_ok-on_way.ensures.cubes
     (own_about (table_space c.args.table.now).labels (table_config c.args.table.now)
     c.args.cubes.now c.requires.cubes _))
 
@@ -89,7 +89,7 @@ returns c =
     let matchers = map (λ (m : Bor Matcher). m.now) c.in_ok-matchers.matchers.items in
     let lists = map (λ (list : Vec (Bor Matcher)). map (λ (m : Bor Matcher). m.now) list.items)
     c.in_ok-unless.unless.items in
-    let way = ap (map (λ known. known.matcher.now)) c.as_slice-2.ensures.value
+    let way = ap (map (λ known. known.matcher.now)) c.as_slice.ensures.value
     ∙ known_matchers c.in_ok-on_way.on_way.items
     (flat_map (λ (k : Candidate). cubes_at cubes k.tag) (take n new))
     (rw c.split_at.ensures.front at c.in_ok-on_way.ensures.cubes)

@@ -7,12 +7,18 @@ use Rattle.am_first_sets.specs.declared.candidate.Candidate.{Candidate}
 use Rattle.am_first_sets.specs.PossibleChoices.{IsPossible}
 use Rattle.am_first_sets.proofs.ReasonLemmas.{renamed_is_set}
 use Rattle.am_route_alerts.proofs.ImpliedLemmas.{LeavesOut, none_left_out, one_left_out, one_left}
+use Rattle.am_route_alerts.proofs.NearbyLemmas.{hints_fewer}
 use Rattle.am_route_alerts.proofs.implied.leave_out_implied.Goals.{else-literals-i-via-then-literals-i+in_ok-is_implied+else-branch}
 use Rattle.am_route_alerts.proofs.implied.leave_out_implied.Goals.{else-literals-i-via-else-literals-i}
 use Rattle.am_route_alerts.proofs.implied.leave_out_implied.Goals as goal
 
 pub loop-i-init : goal.loop-i-init
 loop-i-init c = none_left_out (IsPossible c.args.possible.now) c.args.from c.args.literals.now
+
+pub is_implied-requires-clause-hints : goal.is_implied-requires-clause-hints
+is_implied-requires-clause-hints c =
+    hints_fewer c.args.literals.now c.loop-i.literals c.args.hints.now c.loop-i.invariant.fewer
+    c.requires.hints
 
 pub loop-i-preserved-then-branch : goal.loop-i-preserved-then-branch
 loop-i-preserved-then-branch c =

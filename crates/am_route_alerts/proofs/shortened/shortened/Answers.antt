@@ -13,9 +13,23 @@ use Rattle.am_route_alerts.specs.declared.matcher_cubes.KnownMatcher.{KnownMatch
 use Rattle.am_route_alerts.specs.Implied.{IsSameFor, IsEachNeeded}
 use Rattle.am_route_alerts.specs.MatcherCubes.{MeetsAll}
 use Rattle.am_route_alerts.specs.Shortened.{IsShortened}
+use Rattle.am_route_alerts.proofs.OnlyNeeded.{only_needed}
 use Rattle.am_route_alerts.proofs.ShortenedLemmas.{literal_of, asking, named_front, marks_of}
 use Rattle.am_route_alerts.proofs.ShortenedLemmas.{kept_of, kept_matchers, is_shortened}
 use Rattle.am_route_alerts.proofs.shortened.shortened.Goals as goal
+
+pub returns-in-Some : goal.returns-in-Some
+returns-in-Some c =
+    let s = possible_space c.args.possible.now in
+    let given = c.args.given.now in
+    let matchers = c.args.matchers.now in
+    let ms = map (λ (known : KnownMatcher). known.matcher.now) matchers in
+    record {
+      shortened = subst (λ (kept : List (Bor Matcher)).
+          IsShortened (MeetsAll s given) ms (map (λ (m : Bor Matcher). m.now) kept))
+          (sym c.in_ok-vec.ensures.items)
+          (only_needed s given matchers c.in-Some.matcher.now c.requires.cubes c.in-Some.ensures);
+    }
 
 pub returns : goal.returns
 returns c =
