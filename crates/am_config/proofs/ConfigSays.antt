@@ -7,7 +7,7 @@ use Rattle.std.specs.List.{AllZip}
 use Rattle.std.proofs.lemmas.Bool.{and_from}
 use Rattle.std.proofs.lemmas.List.Quantifiers.{position-Some}
 use borrow.Author.Tests.{lt-ltb}
-use Rattle.serde_json.specs.Data.{Data, Members}
+use Rattle.serde_json.specs.Data.{Data}
 use Rattle.am_universe.specs.Text.{same_text}
 use Rattle.am_universe.specs.declared.kind.Kind.TheVariants as kinds
 use Rattle.am_config.specs.declared.limits.TheConstants.{MAX_ROUTES, MAX_LEVELS, MAX_RULES}
@@ -15,7 +15,7 @@ use Rattle.am_json.specs.Json.{field}
 use Rattle.am_json.specs.OptionalItems.{HasItems}
 use Rattle.am_json.specs.Pointer.{refusal_here, refusal_within, to_field}
 use Rattle.am_config.specs.RouteOptions.{options_below}
-use Rattle.am_config.specs.ConfigFile.{Parent, receiver_above, options_above, rest_of}
+use Rattle.am_config.specs.ConfigFile.{Parent, receiver_above, options_above}
 use Rattle.am_config.specs.ConfigFile.{RouteSettings, RouteTree, route, Routes, no_routes}
 use Rattle.am_config.specs.ConfigFile.{next_route, Configuration, IsConfig, Rule}
 use Rattle.am_config.specs.ConfigFile.{routes_of, matchers_of, route_count, routes_count}
@@ -268,9 +268,9 @@ module _ (names : List (List ℕ)) where
 -- ---- The configuration.
 
 pub config_sound : (names : List (List ℕ)) (d : Data) (t : RouteTree) (rules : List Rule)
-    (rest : Members) → (route_form names MAX_LEVELS None 0 d).result ≡ Ok t
-    → IsConfig (record { receivers = names; root = t; rules = rules; rest = rest })
-config_sound names d t rules rest h =
+    → (route_form names MAX_LEVELS None 0 d).result ≡ Ok t
+    → IsConfig (record { receivers = names; root = t; rules = rules })
+config_sound names d t rules h =
     let said = (route_decides names MAX_LEVELS None 0 d).says t h in
     record {
       receivers_declared = route_below names None d t tt said.says;
@@ -293,7 +293,7 @@ config_decides d =
     (λ root. then_decides
     (optional_array_decides SaysRule rule_form rule_decides MAX_RULES (codes "inhibit_rules") d)
     (λ rules. accept_decides
-    (record { receivers = names; root = root; rules = rules; rest = rest_of d }))))))
+    (record { receivers = names; root = root; rules = rules }))))))
     (λ c (
       names,
       (items, is_array, named, few, distinct),
@@ -312,7 +312,6 @@ config_decides d =
       few_routes = omega (arith, said.number);
       few_levels = said.levels;
       rules = ruled;
-      rest = refl;
     }))
     (λ c said. (
       c.receivers,
@@ -328,7 +327,7 @@ config_decides d =
             number = omega (arith, said.few_routes);
             unmatched = λ _. said.unmatched;
           },
-          (c.rules, said.rules, rw (← said.rest) refl),
+          (c.rules, said.rules, refl),
         ),
       ),
     )))

@@ -8,7 +8,7 @@ use Rattle.std.proofs.lemmas.Map.Text.{is_eq-slice_cmp}
 use Rattle.serde_json.specs.Data.{member}
 use Rattle.serde_json.specs.View.{view, members_view}
 use Rattle.serde_json.proofs.Views.{Entry}
-use Rattle.am_config.specs.ConfigFile.{without}
+use Rattle.am_config.specs.WholeConfig.{without}
 
 without_here : (is_first : Bool) (e : Entry) (left es : List Entry)
     → members_view (cond is_first es (e ∷ left))

@@ -2,11 +2,10 @@
 use Rattle.std.proofs.Common.{◌≡◌, ℕ, List, refl, sym, ap, subst}
 use Rattle.std.specs.Coded.{Coded, code_by, coded×, coded_ℕ, coded_list}
 use base.Stored.{Gv, gnil, gcons}
-use Rattle.serde_json.specs.Data.{Members}
 use Rattle.am_config.specs.contracts.rule.Rule as rule
 use Rattle.am_config.specs.ConfigFile.{RouteTree, Routes, Rule, route, no_routes, next_route}
 use Rattle.am_config.specs.ConfigFile.{Configuration}
-use Rattle.am_config.specs.SettingsCode.{head, tail, IsPair, coded_settings, coded_members}
+use Rattle.am_config.specs.SettingsCode.{head, tail, IsPair, coded_settings}
 
 -- The codes of a route with its children, and of children in order.
 abbrev mutual
@@ -41,8 +40,7 @@ coded_rules = coded_list rule.the_row.coded
 -- The code of a configuration is made of the codes of its parts.
 abbrev pub coded_config : Coded Configuration
 coded_config =
-    code_by (List (List ℕ) × (RouteTree × (List Rule × Members)))
-    (coded× (coded_list (coded_list coded_ℕ))
-    (coded× coded_route (coded× coded_rules coded_members)))
-    (λ c. (c.receivers, (c.root, (c.rules, c.rest))))
-    (λ p. record { receivers = p.0; root = p.1.0; rules = p.1.1.0; rest = p.1.1.1 }) (λ _. refl)
+    code_by (List (List ℕ) × (RouteTree × List Rule))
+    (coded× (coded_list (coded_list coded_ℕ)) (coded× coded_route coded_rules))
+    (λ c. (c.receivers, (c.root, c.rules)))
+    (λ p. record { receivers = p.0; root = p.1.0; rules = p.1.1 }) (λ _. refl)

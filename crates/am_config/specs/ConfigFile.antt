@@ -3,10 +3,8 @@
 use Rattle.std.specs.Prelude.{◌≡◌, ◌≢◌, ◌⊎◌, ◌≤◌, ◌+◌, ℕ, max, List, [], ◌∷◌, ◌++◌, length, Bool}
 use Rattle.std.specs.Prelude.{true, false, ◌&&◌, nat_lt, IsTrue, Option, Some, None}
 use Rattle.std.specs.Prelude.{option_map, option_and_then, unwrap_or, position, codes, ⊤}
-use Rattle.std.specs.Prelude.{if◌then◌else◌}
 use Rattle.std.specs.List.{IsDistinct, AllZip, flat_map}
-use Rattle.serde_json.specs.Data.{Data, string, object, Members, no_members, member}
-use Rattle.serde_json.specs.Find.{as_object}
+use Rattle.serde_json.specs.Data.{Data, string, object, Members}
 use Rattle.am_universe.specs.Text.{same_text}
 use Rattle.am_labels.specs.declared.limits.TheConstants.{MAX_MATCHERS}
 use Rattle.am_labels.specs.Matcher.{Matcher}
@@ -59,14 +57,12 @@ pub record Rule : Type 0 where
   pub target : List Matcher
   pub equal : List (List ℕ)
 
--- A configuration: the names of the receivers, the top-level route, the inhibition rules, and the
--- fields of the file but `route`, as they were read. (Reference, "File layout and global
--- settings".)
+-- A configuration: the names of the receivers, the top-level route, and the inhibition rules.
+-- (Reference, "File layout and global settings".)
 pub record Configuration : Type 0 where
   pub receivers : List (List ℕ)
   pub root : RouteTree
   pub rules : List Rule
-  pub rest : Members
 
 -- The position of the receiver with a name, if one is declared.
 -- Source: own choice.
@@ -74,10 +70,10 @@ pub record Configuration : Type 0 where
 abbrev pub receiver_position : Configuration → List ℕ → Option ℕ
 receiver_position c name = position (λ other. same_text other name) c.receivers
 
--- The configuration that has nothing but these.
+-- The configuration with these parts.
 abbrev pub config_with : List (List ℕ) → RouteTree → List Rule → Configuration
 config_with receivers root rules =
-    record { receivers = receivers; root = root; rules = rules; rest = no_members }
+    record { receivers = receivers; root = root; rules = rules }
 
 -- A list of routes as the children of a route.
 abbrev pub routes_of : List RouteTree → Routes
@@ -334,18 +330,6 @@ pub record SaysRule (d : Data) (rule : Rule) : Type 0 where
   pub target : SaysMatchers target_matcher_fields d rule.target
   pub equal : SaysItemsInField SaysEqualName (codes "equal") MAX_EQUAL_NAMES d rule.equal
 
--- Members without the first one that has this key. (An object has each key once.)
-abbrev pub without : List ℕ → Members → Members
-without key no_members = no_members
-without key (member k d rest) =
-    if same_text key k then rest else member k d (without key rest)
-
--- The fields of an object but `route`, with their values.
--- Source: own choice.
--- Example: those of `{"receivers": [], "route": {}, "x": null}` are `receivers` and `x`.
-abbrev pub rest_of : Data → Members
-rest_of d = without (codes "route") (unwrap_or (as_object d) no_members)
-
 -- A JSON value says a configuration: it is an object with receivers of different names, a top-level
 -- route without matchers, and inhibition rules, if it has any. Its other fields may have any value.
 -- Source: Alertmanager configuration reference 0.25, "File layout and global settings", "<route>",
@@ -365,7 +349,6 @@ pub record SaysConfig (d : Data) (c : Configuration) : Type 0 where
   pub few_routes : route_count c.root ≤ MAX_ROUTES
   pub few_levels : route_levels c.root ≤ MAX_LEVELS
   pub rules : SaysItemsInField SaysRule (codes "inhibit_rules") MAX_RULES d c.rules
-  pub rest : c.rest ≡ rest_of d
 
 -- The bytes of a file, at most `MAX_FILE_BYTES`, say the configuration that their JSON value says.
 abbrev pub FileSaysConfig : List ℕ → Configuration → Type 0

@@ -28,7 +28,7 @@ use Rattle.am_json.specs.Reading.{read_boolean_or, read_each, read_items, read_j
 use Rattle.am_config.specs.ConfigFile.{RouteSettings, RouteTree, route, no_routes, Configuration}
 use Rattle.am_config.specs.RouteOptions.{options_below}
 use Rattle.am_config.specs.ConfigFile.{MatcherFields, settings_with, receiver_above, options_above}
-use Rattle.am_config.specs.ConfigFile.{Parent, rest_of}
+use Rattle.am_config.specs.ConfigFile.{Parent}
 use Rattle.am_config.specs.ConfigFile.{route_matcher_fields, routes_of, routes_count, route_fields}
 use Rattle.am_config.specs.ConfigFile.{Rule, rule_fields, source_matcher_fields}
 use Rattle.am_config.specs.ConfigFile.{target_matcher_fields}
@@ -261,7 +261,7 @@ config_form d = do
   value ← required_field (codes "route") d
   root ← reading_within (to_field (codes "route")) (route_form names MAX_LEVELS None 0 value)
   rules ← rules_form d
-  accept (record { receivers = names; root = root; rules = rules; rest = rest_of d })
+  accept (record { receivers = names; root = root; rules = rules })
 
 -- The configuration of the bytes of a file.
 unfoldable pub config_file_form : Form (List ℕ) Configuration

@@ -1,12 +1,15 @@
--- The configuration that a `Config` stands for, and what is read of a route before its children.
+-- The configurations that a `Config` and a `WholeConfig` stand for, and what is read of a route
+-- before its children.
 use Rattle.std.specs.Prelude.{map, Option, option_map}
 use Rattle.std.specs.Borrow.{Bor}
 use Rattle.serde_json.specs.View.{view, members_view}
 use Rattle.am_config.specs.declared.config.Config.{Config}
+use Rattle.am_config.specs.declared.whole_config.WholeConfig.{WholeConfig}
 use Rattle.am_config.specs.declared.config_file as declared
 use Rattle.am_config.specs.declared.route_matchers as keys
 use Rattle.am_config.specs.ConfigFile.{Configuration, MatcherFields, RouteSettings, Parent}
 use Rattle.am_config.specs.ConfigForm.{RouteFields}
+use Rattle.am_config.specs.WholeConfig.{WholeConfiguration}
 use Rattle.am_config.specs.RouteView.{route_view, names_of}
 
 -- The configuration that a `Config` stands for.
@@ -15,8 +18,11 @@ config_view c = record {
   receivers = names_of c.receivers.items;
   root = route_view c.root;
   rules = c.rules.items;
-  rest = members_view c.rest.entries;
 }
+
+-- The configuration that a `WholeConfig` stands for, with the fields of its file.
+abbrev pub whole_config_view : WholeConfig → WholeConfiguration
+whole_config_view w = record { config = config_view w.config; rest = members_view w.rest.entries }
 
 -- The settings of the parent of a route, if it has one.
 abbrev pub parent_view : Option (Bor RouteSettings) → Parent

@@ -7,6 +7,7 @@ pub mod RuleExample
 pub mod FaultExamples
 pub mod ConfigForm
 pub mod RouteView
+pub mod WholeConfig
 pub mod ConfigView
 pub mod Path
 pub mod RoutePaths

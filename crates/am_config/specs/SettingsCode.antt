@@ -93,9 +93,6 @@ mutual
 abbrev coded_data : Coded Data
 coded_data = record { code = data_code; inj = data_told }
 
-abbrev pub coded_members : Coded Members
-coded_members = record { code = members_code; inj = members_told }
-
 -- The code of settings is made of the codes of their parts.
 abbrev pub coded_settings : Coded RouteSettings
 coded_settings =

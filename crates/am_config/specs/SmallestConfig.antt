@@ -1,6 +1,5 @@
 -- The smallest configuration: what a file must say, and no more.
 use Rattle.std.specs.Prelude.{ℕ, List, [], ◌∷◌, false, codes}
-use Rattle.serde_json.specs.Data.{string, array, object, no_items, item, no_members, member}
 use Rattle.am_config.specs.ConfigFile.{Configuration, route, no_routes, settings_with}
 
 -- A file that names one receiver, `none`, and has only the top-level route; and the configuration
@@ -14,6 +13,4 @@ smallest_config = record {
   receivers = codes "none" ∷ [];
   root = route (settings_with 0 [] false) no_routes;
   rules = [];
-  rest = member (codes "receivers") (array (item (object
-      (member (codes "name") (string (codes "none")) no_members)) no_items)) no_members;
 }

@@ -2,7 +2,6 @@
 
 // `Config` imports these names for its ghost field, so none is from a module that uses `Config`.
 ghost use Rattle.std.specs.Prelude.{◌≡◌, position};
-ghost use Rattle.serde_json.specs.View.{members_view};
 ghost use Rattle.am_universe.specs.Text.{same_text};
 ghost use Rattle.am_config.specs.ConfigFile.{IsConfig};
 ghost use Rattle.am_config.specs.RouteView.{route_view, names_of};
@@ -10,21 +9,17 @@ ghost use Rattle.am_config.specs.RouteView.{route_view, names_of};
 use crate::path::Path;
 use crate::route::Route;
 use crate::rule::Rule;
-use serde_json::{Map, Value};
 
-/// A configuration: the receivers, the tree of routes, the inhibition rules, and what else the file
-/// has.
+/// A configuration: the receivers, the tree of routes, and the inhibition rules.
 #[derive(Drop)]
 pub struct Config {
     pub(crate) receivers: Vec<String>,
     pub(crate) root: Route,
     pub(crate) rules: Vec<Rule>,
-    pub(crate) rest: Map<String, Value>,
     pub(crate) ghost sound: { IsConfig (record {
       receivers = names_of receivers.items;
       root = route_view root;
       rules = rules.items;
-      rest = members_view rest.entries;
     }) },
 }
 
@@ -64,13 +59,6 @@ impl Config {
         ensures rules { result.now ≡ (config_view self.now).rules }
     {
         &self.rules
-    }
-
-    /// The fields of the file but `route`, as they were read.
-    pub fn rest(&self) -> &Map<String, Value>
-        ensures rest { members_view result.now.entries ≡ (config_view self.now).rest }
-    {
-        &self.rest
     }
 
     /// The position of the receiver with this name; `None` if no receiver has it.

@@ -1,19 +1,20 @@
 //! Reading the configuration file.
 
 ghost use Rattle.std.specs.Prelude.{◌≡◌, ◌≤◌, ◌+◌, ℕ, List, [], map, None, IfOk, IfErr};
-ghost use Rattle.std.specs.Prelude.{string_bytes, option_map, false};
+ghost use Rattle.std.specs.Prelude.{string_bytes, option_map, false, Some};
 ghost use Rattle.serde_json.specs.Data.{Data};
 ghost use Rattle.serde_json.specs.View.{view, members_view};
 ghost use Rattle.am_universe.specs.declared.place.Place.TheVariants as places;
-ghost use Rattle.am_json.specs.Json.{is_one_of};
+ghost use Rattle.am_json.specs.Json.{is_one_of, json_of};
 ghost use Rattle.am_json.specs.Reading.{Gives, IsRefusalAt, Reading, check_only_fields};
 ghost use Rattle.am_json.specs.Reading.{read_counted, read_items};
 ghost use Rattle.am_config.specs.ConfigFile.{FileSaysConfig, route_fields, route_matcher_fields};
-ghost use Rattle.am_config.specs.ConfigFile.{route_count, routes_count, routes_of, rest_of};
+ghost use Rattle.am_config.specs.ConfigFile.{route_count, routes_count, routes_of};
 ghost use Rattle.am_config.specs.ConfigFile.{receiver_above, options_above};
 ghost use Rattle.am_config.specs.RouteOptions.{options_below, options_view};
 ghost use Rattle.am_config.specs.RouteView.{route_view, names_of};
 ghost use Rattle.am_config.specs.ConfigView.{config_view, parent_view, fields_view};
+ghost use Rattle.am_config.specs.ConfigView.{whole_config_view};
 ghost use Rattle.am_config.specs.ConfigForm.{next_receiver_form, receiver_names_form};
 ghost use Rattle.am_config.specs.ConfigForm.{receivers_form, parent_receiver, receiver_position};
 ghost use Rattle.am_config.specs.ConfigForm.{effective_receiver, receiver_form, matchers_form};
@@ -21,6 +22,7 @@ ghost use Rattle.am_config.specs.ConfigForm.{route_settings_form, route_fields_f
 ghost use Rattle.am_config.specs.ConfigForm.{equal_name_form, equal_form, rule_form, rules_form};
 ghost use Rattle.am_config.specs.ConfigForm.{next_child_form, config_form, config_file_form};
 ghost use Rattle.am_config.specs.ConfigForm.{receiver_name_fault, ConfigFileRefusedFor};
+ghost use Rattle.am_config.specs.WholeConfig.{FileSaysWholeConfig, rest_of};
 
 use crate::config::{Config, position};
 use crate::limits::{MAX_EQUAL_NAMES, MAX_LEVELS, MAX_RECEIVERS, MAX_ROUTES, MAX_RULES};
@@ -28,6 +30,7 @@ use crate::route::{Route, RouteSettings};
 use crate::route_matchers::{MatcherFields, read_matchers};
 use crate::route_options::RouteOptions;
 use crate::rule::Rule;
+use crate::whole_config::WholeConfig;
 use am_json::{
     ReadError, as_object, as_text, check_count, check_only_fields, field, read_boolean_or,
     read_json, read_optional_array, read_optional_items, refuse_for, required_field,
@@ -61,10 +64,9 @@ const ROUTE_FIELDS: [&str; 12] = [
 /// A field that is `null` is absent. Some fields may have any value: of a route, those that say how
 /// alerts are grouped and when they are sent; of an inhibition rule, `name`; of a receiver, all but
 /// `name`; and of the file, all but `receivers`, `route` and `inhibit_rules`. The JSON value of the
-/// whole file is in memory until the call returns, and the configuration keeps all of it but
-/// `route`. Each name of a receiver is compared with those before it, and each that a route has
-/// with those declared. Fails with the first fault of the file, at the place `Config`, with the
-/// pointer to the part at fault:
+/// whole file is in memory until the call returns. Each name of a receiver is compared with those
+/// before it, and each that a route has with those declared. Fails with the first fault of the
+/// file, at the place `Config`, with the pointer to the part at fault:
 /// - `Limit`: more than `MAX_FILE_BYTES` bytes, [`MAX_RECEIVERS`] receivers, [`MAX_ROUTES`] routes,
 ///   [`MAX_LEVELS`] levels of routes, `MAX_MATCHERS` matchers of a route or of one side of a rule,
 ///   [`MAX_RULES`] inhibition rules or [`MAX_EQUAL_NAMES`] names in `equal`;
@@ -93,29 +95,50 @@ pub fn read_config(alloc: Global, bytes: &[u8]) -> Result<Config, Fault>
     }
 }
 
+/// Reads a configuration file, and keeps its fields but `route`. Fails as [`read_config`] does.
+pub fn read_whole_config(alloc: Global, bytes: &[u8]) -> Result<WholeConfig, Fault>
+    ensures says { IfOk result (λ w. FileSaysWholeConfig bytes.now (whole_config_view w)) }
+    ensures first { IfErr result (IsRefusalAt places.Config (ConfigFileRefusedFor bytes.now)) }
+{
+    match read_whole_config_file(alloc, bytes) {
+        Ok(whole) => Ok(whole),
+        Err(error) => Err(error.at(alloc, Place::Config)),
+    }
+}
+
 #[tactic(auto, using(am_json::proofs::Readings::steps), unfolding(crate::specs::ConfigForm::config_file_form))]
 fn read_config_file(alloc: Global, bytes: &[u8]) -> Result<Config, ReadError>
     ensures { Gives config_view result (config_file_form bytes.now) }
 {
     let value = read_json(alloc, bytes)?;
-    read_config_object(alloc, value)
+    read_config_value(alloc, &value)
+}
+
+#[tactic(auto, using(am_json::proofs::Readings::steps), unfolding(crate::specs::ConfigForm::config_file_form))]
+fn read_whole_config_file(alloc: Global, bytes: &[u8]) -> Result<WholeConfig, ReadError>
+    ensures reads { Gives (λ w. config_view w.config) result (config_file_form bytes.now) }
+    ensures rest { IfOk result (λ w.
+        option_map rest_of (json_of bytes.now) ≡ Some (members_view w.rest.entries)) }
+{
+    let value = read_json(alloc, bytes)?;
+    let config = read_config_value(alloc, &value)?;
+    let rest = rest_of(alloc, value);
+    Ok(WholeConfig { config, rest })
 }
 
 #[tactic(auto, using(am_json::proofs::Readings::steps), unfolding(crate::specs::ConfigForm::config_form))]
-fn read_config_object(alloc: Global, value: Value) -> Result<Config, ReadError>
-    ensures { Gives config_view result (config_form (view value)) }
+fn read_config_value(alloc: Global, value: &Value) -> Result<Config, ReadError>
+    ensures { Gives config_view result (config_form (view value.now)) }
 {
-    as_object(alloc, &value)?;
-    let receivers = read_receivers(alloc, &value)?;
-    let root = required_field(alloc, &value, "route")?;
+    as_object(alloc, value)?;
+    let receivers = read_receivers(alloc, value)?;
+    let root = required_field(alloc, value, "route")?;
     let root = within_field(alloc, "route", read_root(alloc, &receivers, root))?;
-    let rules = read_rules(alloc, &value)?;
-    let rest = rest_of(alloc, value);
+    let rules = read_rules(alloc, value)?;
     Ok(Config {
         receivers,
         root,
         rules,
-        rest,
     })
 }
 

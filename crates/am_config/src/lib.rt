@@ -15,6 +15,7 @@ mod route;
 mod route_options;
 mod routes;
 mod rule;
+mod whole_config;
 
 pub use config::Config;
 pub use path::Path;
@@ -22,12 +23,13 @@ pub use route::Route;
 pub use route_options::RouteOptions;
 pub use routes::RouteList;
 pub use rule::Rule;
+pub use whole_config::WholeConfig;
 
 // The configuration file.
 mod config_file;
 mod route_matchers;
 
-pub use config_file::read_config;
+pub use config_file::{read_config, read_whole_config};
 
 // Facts about the definitions alone.
 pub mod laws;

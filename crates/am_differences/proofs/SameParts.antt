@@ -20,7 +20,8 @@ use Rattle.am_universe.proofs.ListLemmas.{AllByRecursion-at}
 use Rattle.am_labels.proofs.Passing.{any_in}
 use Rattle.am_json.specs.Json.{field, non_null, items_in_field}
 use Rattle.am_json.specs.OptionalItems.{HasItems}
-use Rattle.am_config.specs.ConfigFile.{Configuration, SaysConfig, SaysRule, rest_of, without}
+use Rattle.am_config.specs.ConfigFile.{SaysRule}
+use Rattle.am_config.specs.WholeConfig.{WholeConfiguration, SaysWholeConfig, rest_of, without}
 use Rattle.am_report_texts.specs.EachOnce.{each_once, with_text}
 use Rattle.am_differences.specs.Parts.{Part, rule_values, receiver_parts, interval_parts}
 use Rattle.am_differences.specs.Parts.{field_parts}
@@ -168,7 +169,7 @@ module _ {L P R : Type 0} (f : P → L) (g h : R → L) (k l : P → L) where
       → length (joined a b c d e) ≡ 0
   no_lines a b c d e none = rw (none.0, none.1, none.2, none.3, none.4) refl
 
-module _ (old new : Configuration) where
+module _ (old new : WholeConfiguration) where
   abbrev NoneIsListed : Type 0
   NoneIsListed =
       (differences (receiver_parts old.rest) (receiver_parts new.rest) ≡ [])
@@ -250,12 +251,12 @@ items_found key d items (inl absent) = rw (absent.0, absent.1) refl
 items_found key d items (inr there) = rw there refl
 
 -- A configuration that is read from a file has as many rules as the file has values for them.
-pub rules_long : (d : Data) (c : Configuration) → SaysConfig d c
-    → length c.rules ≡ length (rule_values c.rest)
-rules_long d c says =
-    let rules = says.rules in
+pub rules_long : (d : Data) (w : WholeConfiguration) → SaysWholeConfig d w
+    → length w.config.rules ≡ length (rule_values w.rest)
+rules_long d w says =
+    let rules = says.0.rules in
     let key = codes "inhibit_rules" in
-    AllZip-long SaysRule rules.items c.rules rules.each
+    AllZip-long SaysRule rules.items w.config.rules rules.each
     ∙ ap length (sym (items_found key d rules.items rules.has_items)
     ∙ ap items_in_field (sym (field_of_rest key d (λ e. cc)))
-    ∙ ap rule_values (sym says.rest))
+    ∙ ap rule_values (sym says.1))

@@ -2,7 +2,8 @@
 use Rattle.std.specs.Prelude.{ℕ, List, [], ◌∷◌, ◌++◌, map, length, codes, ◌==◌, Option, Some, None}
 use Rattle.std.specs.Prelude.{if◌then◌else◌}
 use Rattle.serde_json.specs.Find.{as_str}
-use Rattle.am_config.specs.ConfigFile.{Configuration, Rule}
+use Rattle.am_config.specs.ConfigFile.{Rule}
+use Rattle.am_config.specs.WholeConfig.{WholeConfiguration}
 use Rattle.am_report_texts.specs.Line.{Line, Piece, Words, Value, Word, Name, Text, Texts, Matchers}
 use Rattle.am_report_texts.specs.declared.lines.Field.TheVariants as field_is
 use Rattle.am_report_texts.specs.declared.lines.Level.TheVariants as level_is
@@ -19,7 +20,7 @@ use Rattle.am_differences.specs.declared.differences.Presence.TheVariants as pre
 -- Source: own choice.
 -- Example: if the new file has the same inhibition rules in another order, and nothing else is new,
 -- they do. If it lacks one of them, they do not.
-pub record SayTheSame (old new : Configuration) : Type 0 where
+pub record SayTheSame (old new : WholeConfiguration) : Type 0 where
   pub receivers : HaveSameParts (receiver_parts old.rest) (receiver_parts new.rest)
   pub rules : HaveSameRules (named_rules old) (named_rules new)
   pub intervals : HaveSameParts (interval_parts old.rest) (interval_parts new.rest)
@@ -80,25 +81,25 @@ rule_line presence r = record {
 }
 
 -- All lines: of receivers, of rules, of time intervals, and of other fields.
-abbrev pub receiver_lines : Configuration → Configuration → List Line
+abbrev pub receiver_lines : WholeConfiguration → WholeConfiguration → List Line
 receiver_lines old new =
     map (named_line (codes "receiver"))
     (differences (receiver_parts old.rest) (receiver_parts new.rest))
 
-abbrev pub rule_lines : Configuration → Configuration → List Line
+abbrev pub rule_lines : WholeConfiguration → WholeConfiguration → List Line
 rule_lines old new =
     map (rule_line presence_is.OnlyInOld) (rules_only_in (named_rules old) (named_rules new))
     ++ map (rule_line presence_is.OnlyInNew) (rules_only_in (named_rules new) (named_rules old))
 
-abbrev pub interval_lines : Configuration → Configuration → List Line
+abbrev pub interval_lines : WholeConfiguration → WholeConfiguration → List Line
 interval_lines old new =
     map (named_line (codes "time interval"))
     (differences (interval_parts old.rest) (interval_parts new.rest))
 
-abbrev pub field_lines : Configuration → Configuration → List Line
+abbrev pub field_lines : WholeConfiguration → WholeConfiguration → List Line
 field_lines old new = map field_line (differences (field_parts old.rest) (field_parts new.rest))
 
-abbrev pub part_lines : Configuration → Configuration → List Line
+abbrev pub part_lines : WholeConfiguration → WholeConfiguration → List Line
 part_lines old new =
     receiver_lines old new
     ++ (rule_lines old new ++ (interval_lines old new ++ field_lines old new))

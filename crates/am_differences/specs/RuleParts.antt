@@ -6,7 +6,8 @@ use Rattle.serde_json.specs.Data.{Data, null}
 use Rattle.am_universe.specs.Text.{same_text}
 use Rattle.am_labels.specs.Matcher.{Matcher, operator_text}
 use Rattle.am_json.specs.Json.{field}
-use Rattle.am_config.specs.ConfigFile.{Configuration, Rule}
+use Rattle.am_config.specs.ConfigFile.{Rule}
+use Rattle.am_config.specs.WholeConfig.{WholeConfiguration}
 use Rattle.am_differences.specs.SameValue.{same_value}
 use Rattle.am_differences.specs.Parts.{rule_values}
 
@@ -17,8 +18,8 @@ NamedRule = Rule × Data
 abbrev pub rule_name : Data → Data
 rule_name d = unwrap_or (field (codes "name") d) null
 
-abbrev pub named_rules : Configuration → List NamedRule
-named_rules c = zip c.rules (map rule_name (rule_values c.rest))
+abbrev pub named_rules : WholeConfiguration → List NamedRule
+named_rules w = zip w.config.rules (map rule_name (rule_values w.rest))
 
 -- Matchers are the same if they have the same label, operator and value. Lists of matchers, or of
 -- the names in `equal`, are the same if each of one is in the other.

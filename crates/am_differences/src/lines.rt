@@ -2,7 +2,7 @@
 
 ghost use Rattle.std.specs.Prelude.{◌≡◌, ◌++◌, map, option_map, IfOk, OnOk};
 ghost use Rattle.serde_json.specs.Find.{as_str};
-ghost use Rattle.am_config.specs.ConfigView.{config_view};
+ghost use Rattle.am_config.specs.ConfigView.{whole_config_view};
 ghost use Rattle.am_report_texts.specs.LineView.{line_view, pieces_view};
 ghost use Rattle.am_differences.specs.Differences.{differences};
 ghost use Rattle.am_differences.specs.RuleParts.{rules_only_in};
@@ -14,7 +14,7 @@ ghost use Rattle.am_differences.specs.PartsView.{rules_view, value_or_null};
 use crate::differences::{Difference, Presence, differences};
 use crate::parts::{Part, field_parts, interval_parts, receiver_parts};
 use crate::rules::{NamedRule, named_rules, rules_only_in};
-use am_config::{Config, Rule};
+use am_config::{Rule, WholeConfig};
 use am_report_texts::{Field, Level, Line, Piece, Shown, all_matchers, texts_of};
 use serde_json::Value;
 use std::alloc::{AllocError, Global};
@@ -28,11 +28,11 @@ use std::alloc::{AllocError, Global};
 /// of its two fields a time interval is declared.
 pub fn part_lines<'a>(
     alloc: Global,
-    old: &'a Config,
-    new: &'a Config,
+    old: &'a WholeConfig,
+    new: &'a WholeConfig,
 ) -> Result<Vec<Line<'a>>, AllocError>
     ensures lines { IfOk result (λ lines. map line_view lines.items
-        ≡ part_lines (config_view old.now) (config_view new.now)) }
+        ≡ part_lines (whole_config_view old.now) (whole_config_view new.now)) }
 {
     let mut lines = Vec::new(alloc);
     let (olds, news) = (receiver_parts(alloc, old)?, receiver_parts(alloc, new)?);

@@ -6,7 +6,7 @@ ghost use Rattle.serde_json.specs.Data.{object};
 ghost use Rattle.serde_json.specs.Find.{get_member};
 ghost use Rattle.serde_json.specs.View.{view};
 ghost use Rattle.am_json.specs.Json.{field, items_in_field};
-ghost use Rattle.am_config.specs.ConfigView.{config_view};
+ghost use Rattle.am_config.specs.ConfigView.{whole_config_view};
 ghost use Rattle.am_differences.specs.Parts.{receiver_parts, interval_parts, field_parts};
 ghost use Rattle.am_differences.specs.Parts.{is_field_part, is_in_parts, is_named_field};
 ghost use Rattle.am_differences.specs.Parts.{named_item, named_items, item_name, is_named};
@@ -14,7 +14,7 @@ ghost use Rattle.am_differences.specs.Parts.{are_all_named};
 ghost use Rattle.am_differences.specs.Parts.{rule_values};
 ghost use Rattle.am_differences.specs.PartsView.{part_view, parts_view};
 
-use am_config::Config;
+use am_config::WholeConfig;
 use am_json::field;
 use serde_json::Value;
 use std::alloc::{AllocError, Global};
@@ -27,9 +27,12 @@ pub(crate) struct Part<'a> {
 }
 
 /// Returns the receivers of a configuration. Fails only if memory runs out.
-pub(crate) fn receiver_parts(alloc: Global, config: &Config) -> Result<Vec<Part<'_>>, AllocError>
+pub(crate) fn receiver_parts(
+    alloc: Global,
+    config: &WholeConfig,
+) -> Result<Vec<Part<'_>>, AllocError>
     ensures { IfOk result (λ parts.
-        parts_view parts.items ≡ receiver_parts (config_view config.now).rest) }
+        parts_view parts.items ≡ receiver_parts (whole_config_view config.now).rest) }
 {
     let mut parts = Vec::new(alloc);
     push_named_items(field_of(config, "receivers"), &mut parts)?;
@@ -37,9 +40,12 @@ pub(crate) fn receiver_parts(alloc: Global, config: &Config) -> Result<Vec<Part<
 }
 
 /// Returns the time intervals of a configuration. Fails only if memory runs out.
-pub(crate) fn interval_parts(alloc: Global, config: &Config) -> Result<Vec<Part<'_>>, AllocError>
+pub(crate) fn interval_parts(
+    alloc: Global,
+    config: &WholeConfig,
+) -> Result<Vec<Part<'_>>, AllocError>
     ensures { IfOk result (λ parts.
-        parts_view parts.items ≡ interval_parts (config_view config.now).rest) }
+        parts_view parts.items ≡ interval_parts (whole_config_view config.now).rest) }
 {
     let mut parts = Vec::new(alloc);
     push_named_items(field_of(config, "time_intervals"), &mut parts)?;
@@ -48,12 +54,12 @@ pub(crate) fn interval_parts(alloc: Global, config: &Config) -> Result<Vec<Part<
 }
 
 /// Returns the fields of a configuration that are one part each. Fails only if memory runs out.
-pub(crate) fn field_parts(alloc: Global, config: &Config) -> Result<Vec<Part<'_>>, AllocError>
+pub(crate) fn field_parts(alloc: Global, config: &WholeConfig) -> Result<Vec<Part<'_>>, AllocError>
     ensures { IfOk result (λ parts.
-        parts_view parts.items ≡ field_parts (config_view config.now).rest) }
+        parts_view parts.items ≡ field_parts (whole_config_view config.now).rest) }
 {
     let mut parts = Vec::new(alloc);
-    for (key, value) in config.rest() {
+    for (key, value) in &config.rest {
         if is_field_part(key.as_str(), value) {
             parts.push(Part {
                 name: key.as_str(),
@@ -65,16 +71,16 @@ pub(crate) fn field_parts(alloc: Global, config: &Config) -> Result<Vec<Part<'_>
 }
 
 /// The JSON values of the inhibition rules of a configuration.
-pub(crate) fn rule_values(config: &Config) -> &[Value]
-    ensures { map view result.now ≡ rule_values (config_view config.now).rest }
+pub(crate) fn rule_values(config: &WholeConfig) -> &[Value]
+    ensures { map view result.now ≡ rule_values (whole_config_view config.now).rest }
 {
     items_in(field_of(config, "inhibit_rules"))
 }
 
 /// The value of a field of a configuration file that is not `null`.
-fn field_of<'a>(config: &'a Config, key: &str) -> Option<&'a Value>
+fn field_of<'a>(config: &'a WholeConfig, key: &str) -> Option<&'a Value>
     ensures { option_map (λ v. view v.now) result
-        ≡ field key.now (object (config_view config.now).rest) }
+        ≡ field key.now (object (whole_config_view config.now).rest) }
 {
     match member_of(config, key) {
         Some(value) if !value.is_null() => Some(value),
@@ -83,11 +89,11 @@ fn field_of<'a>(config: &'a Config, key: &str) -> Option<&'a Value>
 }
 
 /// The value of a field of a configuration file, `null` or not.
-fn member_of<'a>(config: &'a Config, key: &str) -> Option<&'a Value>
+fn member_of<'a>(config: &'a WholeConfig, key: &str) -> Option<&'a Value>
     ensures { option_map (λ v. view v.now) result
-        ≡ get_member key.now (config_view config.now).rest }
+        ≡ get_member key.now (whole_config_view config.now).rest }
 {
-    config.rest().get(key)
+    config.rest.get(key)
 }
 
 /// The items of an array. There are none if the value is absent or is no array.

@@ -3,7 +3,7 @@
 ghost use Rattle.std.specs.Prelude.{◌≡◌, IfOk};
 ghost use Rattle.std.specs.List.{list_any};
 ghost use Rattle.am_universe.specs.Text.{same_text};
-ghost use Rattle.am_config.specs.ConfigView.{config_view};
+ghost use Rattle.am_config.specs.ConfigView.{whole_config_view};
 ghost use Rattle.am_config.specs.RouteView.{names_of};
 ghost use Rattle.am_differences.specs.RuleParts.{named_rules, rules_only_in, has_rule, same_rule};
 ghost use Rattle.am_differences.specs.RuleParts.{same_matchers, has_matchers, same_matcher};
@@ -13,7 +13,7 @@ ghost use Rattle.am_differences.specs.PartsView.{rule_view, rules_view, value_or
 
 use crate::parts::rule_values;
 use crate::same_value;
-use am_config::{Config, Rule};
+use am_config::{Rule, WholeConfig};
 use am_json::field;
 use am_labels::{Matcher, Matchers};
 use serde_json::Value;
@@ -27,12 +27,15 @@ pub(crate) struct NamedRule<'a> {
 }
 
 /// Returns the rules of a configuration. Fails only if memory runs out.
-pub(crate) fn named_rules(alloc: Global, config: &Config) -> Result<Vec<NamedRule<'_>>, AllocError>
+pub(crate) fn named_rules(
+    alloc: Global,
+    config: &WholeConfig,
+) -> Result<Vec<NamedRule<'_>>, AllocError>
     ensures { IfOk result (λ rules.
-        rules_view rules.items ≡ named_rules (config_view config.now)) }
+        rules_view rules.items ≡ named_rules (whole_config_view config.now)) }
 {
     let mut rules = Vec::new(alloc);
-    for (rule, value) in config.rules().iter().zip(rule_values(config)) {
+    for (rule, value) in config.config.rules().iter().zip(rule_values(config)) {
         rules.push(NamedRule {
             rule,
             name: field(value, "name"),

@@ -2,6 +2,7 @@
 use Rattle.std.specs.Prelude.{ℕ, ◌+◌, ◌==◌, ◌||◌, nat_lt, List, [], ◌∷◌, ◌++◌, map}
 use Rattle.std.specs.Prelude.{length, codes, if◌then◌else◌, Option, Some, None}
 use Rattle.am_config.specs.ConfigFile.{Configuration}
+use Rattle.am_config.specs.WholeConfig.{WholeConfiguration}
 use Rattle.am_report_texts.specs.Line.{Line, Piece, Report, Words, Value, Number, Text, Texts, Word}
 use Rattle.am_report_texts.specs.Line.{Names}
 use Rattle.am_report_texts.specs.Plural.{plural}
@@ -80,18 +81,18 @@ count_pieces changes lost gained =
     ∷ (if nat_lt 0 lost || nat_lt 0 gained then receiver_counts lost gained else [])
 
 -- The number of changes: those of outcomes, and the parts of the files that differ.
-abbrev pub count_changes : Configuration → Configuration → List ShownChange → ℕ
+abbrev pub count_changes : WholeConfiguration → WholeConfiguration → List ShownChange → ℕ
 count_changes old new changes = length changes + length (part_lines old new)
 
 -- The report: the receivers that lose alerts, those that gain some, the changes of outcomes, the
 -- parts that differ, and the counts.
-abbrev pub changes_report : Configuration → Configuration → List ShownChange → Report
+abbrev pub changes_report : WholeConfiguration → WholeConfiguration → List ShownChange → Report
 changes_report old new changes =
-    let lost = losses old new (without_groups changes) in
-    let gained = gains old new (without_groups changes) in
+    let lost = losses old.config new.config (without_groups changes) in
+    let gained = gains old.config new.config (without_groups changes) in
     record {
       lines = map (receiver_line (codes "loses")) lost
           ++ (map (receiver_line (codes "gains")) gained
-          ++ (map (change_line old new) changes ++ part_lines old new));
+          ++ (map (change_line old.config new.config) changes ++ part_lines old new));
       last = count_pieces (count_changes old new changes) (length lost) (length gained);
     }

@@ -1,7 +1,7 @@
 //! The report of a comparison.
 
 ghost use Rattle.std.specs.Prelude.{◌≡◌, map, option_map, IfOk};
-ghost use Rattle.am_config.specs.ConfigView.{config_view};
+ghost use Rattle.am_config.specs.ConfigView.{config_view, whole_config_view};
 ghost use Rattle.am_report_texts.specs.LineView.{line_view, pieces_view, report_view};
 ghost use Rattle.am_differences.specs.Options.{option_name};
 ghost use Rattle.am_outcomes.specs.OutcomesView.{found_view, founds_view, labels_view, lists_view};
@@ -13,7 +13,7 @@ ghost use Rattle.am_outcomes.specs.ChangeLines.{receiver_counts, receiver_line};
 use crate::changes::{FoundReceiver, ShownChange, Side, first_on_one_side};
 use crate::handling::have_same_names;
 use crate::outcome_lines::list_at;
-use am_config::Config;
+use am_config::{Config, WholeConfig};
 use am_differences::{option_name, part_lines};
 use am_report_texts::{Field, Level, Line, Name, Piece, Report, Shown, plural, receiver_names};
 use std::alloc::{AllocError, Global};
@@ -31,22 +31,22 @@ pub struct Comparison<'a> {
 /// that differs; and then the counts. Fails only if memory runs out.
 pub fn compare_changes<'a>(
     alloc: Global,
-    old: &'a Config,
-    new: &'a Config,
+    old: &'a WholeConfig,
+    new: &'a WholeConfig,
     changes: &[ShownChange<'a>],
 ) -> Result<Comparison<'a>, AllocError>
     ensures report { IfOk result (λ compared. report_view compared.report
-        ≡ changes_report (config_view old.now) (config_view new.now) changes.now) }
+        ≡ changes_report (whole_config_view old.now) (whole_config_view new.now) changes.now) }
     ensures changes { IfOk result (λ compared. compared.changes
-        ≡ count_changes (config_view old.now) (config_view new.now) changes.now) }
+        ≡ count_changes (whole_config_view old.now) (whole_config_view new.now) changes.now) }
 {
     let (before, after) = (
         Side {
-            config: old,
+            config: &old.config,
             list: 0,
         },
         Side {
-            config: new,
+            config: &new.config,
             list: 1,
         },
     );
@@ -54,7 +54,7 @@ pub fn compare_changes<'a>(
     let gained = first_on_one_side(alloc, after, before, changes)?;
     let mut lines = receiver_lines(alloc, "loses", lost.as_slice())?;
     lines.append(&mut receiver_lines(alloc, "gains", gained.as_slice())?)?;
-    let mut changed = change_lines(alloc, old, new, changes)?;
+    let mut changed = change_lines(alloc, &old.config, &new.config, changes)?;
     changed.append(&mut part_lines(alloc, old, new)?)?;
     let count = changed.len();
     lines.append(&mut changed)?;

@@ -14,6 +14,7 @@ use Rattle.am_labels.specs.Space.{Space}
 use Rattle.am_list_files.specs.AlertsFile.{labels_of}
 use Rattle.am_alerting_rules.specs.RulesFile.{AlertingRule}
 use Rattle.am_config.specs.ConfigFile.{Configuration}
+use Rattle.am_config.specs.WholeConfig.{WholeConfiguration}
 use Rattle.am_classes.specs.declared.alphabet.Alphabet.{Alphabet}
 use Rattle.am_every_alert.specs.EveryAlert.{IsAlertOf}
 use Rattle.am_differences.specs.PartLines.{part_lines}
@@ -35,8 +36,8 @@ use Rattle.am_reports.specs.Comparing.{IsRulesComparison, NothingChanges}
 use Rattle.am_reports.proofs.ChangeLemmas.{changes_are, none_told, none_there, lose, gain}
 
 -- nothing changes exactly if there is no change, and no part differs
-counted_none : (Are : LabelMap → Type 0) (old new : Configuration) (changes count : ℕ)
-    → (changes ≡ 0) ↔ ((alert : LabelMap) → Are alert → IsHandledAlike old new alert)
+counted_none : (Are : LabelMap → Type 0) (old new : WholeConfiguration) (changes count : ℕ)
+    → (changes ≡ 0) ↔ ((alert : LabelMap) → Are alert → IsHandledAlike old.config new.config alert)
     → count ≡ changes + length (part_lines old new) → (count ≡ 0) ↔ NothingChanges Are old new
 counted_none Are old new changes count alike counted = (
   λ none. (
@@ -51,21 +52,23 @@ counted_none Are old new changes count alike counted = (
 
 -- ---- For every alert.
 
-pub compared : (a : Alphabet) (s : Space) (old new : Configuration) (u : List Label)
-    (outcomes : List (List (List ℕ) × List ℕ)) → AreAllOutcomes a s (Pair old new) u outcomes
-    → IsDistinct same_text old.receivers → IsDistinct same_text new.receivers
+pub compared : (a : Alphabet) (s : Space) (old new : WholeConfiguration) (u : List Label)
+    (outcomes : List (List (List ℕ) × List ℕ))
+    → AreAllOutcomes a s (Pair old.config new.config) u outcomes
+    → IsDistinct same_text old.config.receivers → IsDistinct same_text new.config.receivers
     → (form : Form) (count : ℕ) (report : List ℕ)
-    → count ≡ count_changes old new (map (shown_change u) (changes_of old new outcomes))
-    → IsWritten form
-    (changes_report old new (map (shown_change u) (changes_of old new outcomes))) report
+    → count
+    ≡ count_changes old new (map (shown_change u) (changes_of old.config new.config outcomes))
+    → IsWritten form (changes_report old new
+    (map (shown_change u) (changes_of old.config new.config outcomes))) report
     → IsComparison a s old new form count report
 compared a s old new u outcomes of_all old_apart new_apart form count report counted text =
     let Are = IsAlertOf a s in
     let set_of = label_set_of u in
-    let changes = changes_of old new outcomes in
-    let are = changes_are Are set_of old new outcomes of_all.are in
+    let changes = changes_of old.config new.config outcomes in
+    let are = changes_are Are set_of old.config new.config outcomes of_all.are in
     let so = λ (change : List (List ℕ) × List ℕ) (there : IsIn changes change).
-    AllByRecursion-at (IsChange Are set_of old new) changes change are.each there in
+    AllByRecursion-at (IsChange Are set_of old.config new.config) changes change are.each there in
     record {
       labels = u;
       outcomes = outcomes;
@@ -73,11 +76,11 @@ compared a s old new u outcomes of_all old_apart new_apart form count report cou
       changes = changes;
       changes_are = refl;
       are = are;
-      lose = lose Are set_of old new changes so are.all old_apart;
-      gain = gain Are set_of old new changes so are.all new_apart;
+      lose = lose Are set_of old.config new.config changes so are.all old_apart;
+      gain = gain Are set_of old.config new.config changes so are.all new_apart;
       none = counted_none Are old new (length changes) count (
-        none_told Are set_of old new changes so are.all,
-        none_there Are set_of old new changes so are.all,
+        none_told Are set_of old.config new.config changes so are.all,
+        none_there Are set_of old.config new.config changes so are.all,
       )
           (counted ∙ ap (λ n. n + length (part_lines old new))
           (length-map changes (shown_change u)));
@@ -98,7 +101,7 @@ as_many old new (rule ∷ rules) =
     ∙ (λ i. length-map found (rule_change rule.0) i + as_many old new rules i)
     ∙ sym (length-append found (flat_map (λ r. changes_of old new r.1) rules))
 
-module _ (a : Alphabet) (s : Space) (old new : Configuration) (rules : List AlertingRule)
+module _ (a : Alphabet) (s : Space) (old new : WholeConfiguration) (rules : List AlertingRule)
     (found : List (Option Narrowed)) where
   abbrev Outcomes : Type 0
   Outcomes = List (List (List ℕ) × List (List ℕ × List ℕ))
@@ -107,17 +110,19 @@ module _ (a : Alphabet) (s : Space) (old new : Configuration) (rules : List Aler
   each_rule = with_rule_outcomes rules found
 
   abbrev HasOutcomes : AlertingRule × Outcomes → Type 0
-  HasOutcomes rule = AreOutcomesOf (IsRuleAlert a s rule.0) (Pair old new) labels_of rule.1
+  HasOutcomes rule =
+      AreOutcomesOf (IsRuleAlert a s rule.0) (Pair old.config new.config) labels_of rule.1
 
   abbrev HasChanges : AlertingRule × Outcomes → Type 0
   HasChanges rule =
-      AreChanges (IsRuleAlert a s rule.0) labels_of old new (changes_of old new rule.1)
+      AreChanges (IsRuleAlert a s rule.0) labels_of old.config new.config
+      (changes_of old.config new.config rule.1)
 
   abbrev IsOne : LabelMap → Type 0
   IsOne = IsAlertOfOne a s rules
 
   abbrev changes_in : AlertingRule × Outcomes → Outcomes
-  changes_in rule = changes_of old new rule.1
+  changes_in rule = changes_of old.config new.config rule.1
 
   abbrev changes : Outcomes
   changes = flat_map changes_in each_rule
@@ -127,7 +132,7 @@ module _ (a : Alphabet) (s : Space) (old new : Configuration) (rules : List Aler
     have_changes : AllByRecursion HasChanges each_rule
     have_changes =
         AllByRecursion-each HasChanges each_rule (λ rule there.
-        changes_are (IsRuleAlert a s rule.0) labels_of old new rule.1
+        changes_are (IsRuleAlert a s rule.0) labels_of old.config new.config rule.1
         (AllByRecursion-at HasOutcomes each_rule rule outcomes there))
 
     rule_there : (rule : AlertingRule × Outcomes) → IsIn each_rule rule → Contains rules rule.0
@@ -137,16 +142,18 @@ module _ (a : Alphabet) (s : Space) (old new : Configuration) (rules : List Aler
         (IsIn-map (λ (r : AlertingRule × Outcomes). r.0) each_rule rule there))
 
     each_so : (change : List (List ℕ) × List (List ℕ × List ℕ)) → IsIn changes change
-        → IsChange IsOne labels_of old new change
+        → IsChange IsOne labels_of old.config new.config change
     each_so change there =
         let (rule, is, among) = in_joined changes_in each_rule change there in
-        let so = AllByRecursion-at (IsChange (IsRuleAlert a s rule.0) labels_of old new)
+        let so = AllByRecursion-at
+        (IsChange (IsRuleAlert a s rule.0) labels_of old.config new.config)
         (changes_in rule) change (AllByRecursion-at HasChanges each_rule rule have_changes is).each
         among in
         ((rule.0, rule_there rule is, so.0), so.1, so.2)
 
     all_so : (alert : LabelMap) → IsOne alert
-        → IsHandledAlike old new alert ⊎ HasChange IsOne labels_of old new changes alert
+        → IsHandledAlike old.config new.config alert
+        ⊎ HasChange IsOne labels_of old.config new.config changes alert
     all_so alert (r, one, counts) =
         let there : IsIn (map (λ (rule : AlertingRule × Outcomes). rule.0) each_rule) r =
         IsIn-from_Contains (map (λ (rule : AlertingRule × Outcomes). rule.0) each_rule) r
@@ -171,11 +178,13 @@ module _ (a : Alphabet) (s : Space) (old new : Configuration) (rules : List Aler
               (joined_in changes_in each_rule rule change is in_rule))))
         ]
 
-    pub compared_by_rules : IsDistinct same_text old.receivers → IsDistinct same_text new.receivers
+    pub compared_by_rules : IsDistinct same_text old.config.receivers
+        → IsDistinct same_text new.config.receivers
         → (form : Form) (count : ℕ) (report : List ℕ)
-        → count ≡ count_changes old new (changes_of_rules old new each_rule)
-        → IsWritten form (changes_report old new (changes_of_rules old new each_rule)) report
-        → AreFoundFor a s.impossible (Pair old new) rules found
+        → count ≡ count_changes old new (changes_of_rules old.config new.config each_rule)
+        → IsWritten form (changes_report old new
+        (changes_of_rules old.config new.config each_rule)) report
+        → AreFoundFor a s.impossible (Pair old.config new.config) rules found
         → IsRulesComparison a s old new rules form count report
     compared_by_rules old_apart new_apart form count report counted text over =
         record {
@@ -186,13 +195,14 @@ module _ (a : Alphabet) (s : Space) (old new : Configuration) (rules : List Aler
           are = have_changes;
           changes = changes;
           changes_are = refl;
-          lose = lose IsOne labels_of old new changes each_so all_so old_apart;
-          gain = gain IsOne labels_of old new changes each_so all_so new_apart;
+          lose = lose IsOne labels_of old.config new.config changes each_so all_so old_apart;
+          gain = gain IsOne labels_of old.config new.config changes each_so all_so new_apart;
           none = counted_none IsOne old new (length changes) count (
-            none_told IsOne labels_of old new changes each_so all_so,
-            none_there IsOne labels_of old new changes each_so all_so,
+            none_told IsOne labels_of old.config new.config changes each_so all_so,
+            none_there IsOne labels_of old.config new.config changes each_so all_so,
           )
-              (counted ∙ ap (λ n. n + length (part_lines old new)) (as_many old new each_rule));
+              (counted ∙ ap (λ n. n + length (part_lines old new))
+              (as_many old.config new.config each_rule));
           counted = counted;
           text = text;
         }

@@ -10,6 +10,7 @@ use Rattle.am_labels.specs.Space.{Space}
 use Rattle.am_json.specs.Pointer.{Refusal}
 use Rattle.am_alerting_rules.specs.RulesFile.{AlertingRule}
 use Rattle.am_config.specs.ConfigFile.{Configuration}
+use Rattle.am_config.specs.WholeConfig.{WholeConfiguration}
 use Rattle.am_eval.specs.World.{World}
 use Rattle.am_files.specs.Faults.{Stage, IsFirstFaultOfCall, later_stages}
 use Rattle.am_files.specs.Files.{config_of}
@@ -178,15 +179,15 @@ routes_refused inputs names s c positions place r accepts are refused =
       ),
     )
 
-pub comparison_refused : (inputs : CompareInputs) (s : Space) (old new : Configuration)
+pub comparison_refused : (inputs : CompareInputs) (s : Space) (old new : WholeConfiguration)
     (rules : Option (List AlertingRule)) (place : Place) (r : Refusal)
     → AcceptsCompareInputs inputs s old new rules
-    → IsComparisonRefusal inputs.alphabet s (Pair old new) rules place r
+    → IsComparisonRefusal inputs.alphabet s (Pair old.config new.config) rules place r
     → IsFirstFaultOfCall (compare_promise inputs).stages place r
 comparison_refused inputs s old new rules place r accepts refused =
     let later = refused_later (RefusesComparison inputs) place r
     (s, old, new, rules, accepts, refused) matcher_places
-    (comparison_in inputs.alphabet s (Pair old new) rules place r refused) in
+    (comparison_in inputs.alphabet s (Pair old.config new.config) rules place r refused) in
     inr (
       (s, accepts.says_universe),
       inr (

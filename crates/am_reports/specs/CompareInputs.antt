@@ -5,9 +5,9 @@ use Rattle.am_universe.specs.declared.place.Place.{Place}
 use Rattle.am_universe.specs.declared.place.Place.TheVariants as places
 use Rattle.am_labels.specs.Space.{Space}
 use Rattle.am_alerting_rules.specs.RulesFile.{AlertingRule}
-use Rattle.am_config.specs.ConfigFile.{Configuration, FileSaysConfig}
 use Rattle.am_config.specs.ConfigForm.{ConfigFileRefusedFor}
-use Rattle.am_files.specs.Faults.{Stage, SaysSomeConfig}
+use Rattle.am_config.specs.WholeConfig.{WholeConfiguration, FileSaysWholeConfig}
+use Rattle.am_files.specs.Faults.{Stage}
 use Rattle.am_report_texts.specs.declared.writing.Form.{Form}
 use Rattle.am_classes.specs.declared.alphabet.Alphabet.{Alphabet}
 use Rattle.am_files.specs.Files.{SaysUniverseIfAny}
@@ -27,18 +27,18 @@ pub record CompareInputs : Type 0 where
 
 -- The files are accepted: they say the space, both configurations and the alerting rules. Without a
 -- universe file the space has no labels, and nothing is impossible in it.
-pub record AcceptsCompareInputs (inputs : CompareInputs) (s : Space) (old new : Configuration)
-    (rules : Option (List AlertingRule)) : Type 0 where
+pub record AcceptsCompareInputs (inputs : CompareInputs) (s : Space)
+    (old new : WholeConfiguration) (rules : Option (List AlertingRule)) : Type 0 where
   pub says_universe : SaysUniverseIfAny inputs.universe s
-  pub says_old : FileSaysConfig inputs.old old
-  pub says_new : FileSaysConfig inputs.new new
+  pub says_old : FileSaysWholeConfig inputs.old old
+  pub says_new : FileSaysWholeConfig inputs.new new
   pub says_rules : SaysRulesIfAny inputs.rules rules
 
 -- The stage of a configuration file whose faults are at the given place.
 abbrev pub config_stage_at : Place → List ℕ → Stage
 config_stage_at place bytes = record {
   place = place;
-  accepts = SaysSomeConfig bytes;
+  accepts = (w : WholeConfiguration) × FileSaysWholeConfig bytes w;
   refuses = ConfigFileRefusedFor bytes;
 }
 

@@ -11,6 +11,7 @@ use Rattle.am_json.specs.Pointer.{Refusal}
 use Rattle.am_list_files.specs.AlertsFile.{labels_of}
 use Rattle.am_alerting_rules.specs.RulesFile.{AlertingRule}
 use Rattle.am_config.specs.ConfigFile.{Configuration}
+use Rattle.am_config.specs.WholeConfig.{WholeConfiguration}
 use Rattle.am_files.specs.Faults.{later_stages}
 use Rattle.am_files.specs.Promise.{Promise}
 use Rattle.am_eval.specs.Routing.{receivers}
@@ -85,9 +86,10 @@ pub record HaveAlertsOnlyUnder {C : Type 0} (Are : LabelMap → Type 0) (set_of 
 
 -- All of these alerts are handled alike under both configurations, and all parts of the files that
 -- are no routes say the same.
-abbrev pub NothingChanges : (LabelMap → Type 0) → Configuration → Configuration → Type 0
+abbrev pub NothingChanges : (LabelMap → Type 0) → WholeConfiguration → WholeConfiguration → Type 0
 NothingChanges Are old new =
-    ((alert : LabelMap) → Are alert → IsHandledAlike old new alert) × SayTheSame old new
+    ((alert : LabelMap) → Are alert → IsHandledAlike old.config new.config alert)
+    × SayTheSame old new
 
 -- The text is a comparison of two configurations, for the alerts of a space over an alphabet. It
 -- has a line for each receiver that loses alerts, for each that gains some, for each outcome that
@@ -97,18 +99,18 @@ NothingChanges Are old new =
 -- Source: own choice.
 -- Example: `"db-mail" -> "web-pager" {team="web"}` says that `{team="web"}` goes to `db-mail` under
 -- the old configuration, and to `web-pager` under the new one.
-pub record IsComparison (a : Alphabet) (s : Space) (old new : Configuration) (form : Form)
-    (count : ℕ) (report : List ℕ) : Type 0 where
+pub record IsComparison (a : Alphabet) (s : Space) (old new : WholeConfiguration)
+    (form : Form) (count : ℕ) (report : List ℕ) : Type 0 where
   pub labels : List Label
   pub outcomes : List (List (List ℕ) × List ℕ)
-  pub of_all : AreAllOutcomes a s (Pair old new) labels outcomes
+  pub of_all : AreAllOutcomes a s (Pair old.config new.config) labels outcomes
   pub changes : List (List (List ℕ) × List ℕ)
-  pub changes_are : changes ≡ changes_of old new outcomes
-  pub are : AreChanges (IsAlertOf a s) (label_set_of labels) old new changes
-  pub lose : HaveAlertsOnlyUnder (IsAlertOf a s) (label_set_of labels) old new
-      (losses old new changes)
-  pub gain : HaveAlertsOnlyUnder (IsAlertOf a s) (label_set_of labels) new old
-      (gains old new changes)
+  pub changes_are : changes ≡ changes_of old.config new.config outcomes
+  pub are : AreChanges (IsAlertOf a s) (label_set_of labels) old.config new.config changes
+  pub lose : HaveAlertsOnlyUnder (IsAlertOf a s) (label_set_of labels) old.config new.config
+      (losses old.config new.config changes)
+  pub gain : HaveAlertsOnlyUnder (IsAlertOf a s) (label_set_of labels) new.config old.config
+      (gains old.config new.config changes)
   pub none : (count ≡ 0) ↔ NothingChanges (IsAlertOf a s) old new
   pub counted : count ≡ count_changes old new (map (shown_change labels) changes)
   pub text : IsWritten form (changes_report old new (map (shown_change labels) changes)) report
@@ -123,30 +125,31 @@ IsAlertOfOne a s rules alert =
 -- Source: own choice.
 -- Example: `"db" {alertname="PostgresDown",team="db"}: "db-pager" -> "web-pager"` says that some
 -- alert of a rule of the group `db`, such as the one with these labels, moves.
-pub record IsRulesComparison (a : Alphabet) (s : Space) (old new : Configuration)
+pub record IsRulesComparison (a : Alphabet) (s : Space) (old new : WholeConfiguration)
     (rules : List AlertingRule) (form : Form) (count : ℕ) (report : List ℕ) : Type 0 where
   pub found : List (Option Narrowed)
-  pub over : AreFoundFor a s.impossible (Pair old new) rules found
+  pub over : AreFoundFor a s.impossible (Pair old.config new.config) rules found
   pub each_rule : map (λ rule. rule.0) (with_rule_outcomes rules found) ≡ rules
-  pub outcomes : AllByRecursion (λ rule. AreOutcomesOf (IsRuleAlert a s rule.0) (Pair old new)
-      labels_of rule.1) (with_rule_outcomes rules found)
-  pub are : AllByRecursion (λ rule. AreChanges (IsRuleAlert a s rule.0) labels_of old new
-      (changes_of old new rule.1)) (with_rule_outcomes rules found)
-  pub changes : List (List (List ℕ) × List (List ℕ × List ℕ))
-  pub changes_are : changes ≡ flat_map (λ rule. changes_of old new rule.1)
+  pub outcomes : AllByRecursion (λ rule. AreOutcomesOf (IsRuleAlert a s rule.0)
+      (Pair old.config new.config) labels_of rule.1) (with_rule_outcomes rules found)
+  pub are : AllByRecursion (λ rule. AreChanges (IsRuleAlert a s rule.0) labels_of
+      old.config new.config (changes_of old.config new.config rule.1))
       (with_rule_outcomes rules found)
-  pub lose : HaveAlertsOnlyUnder (IsAlertOfOne a s rules) labels_of old new
-      (losses old new changes)
-  pub gain : HaveAlertsOnlyUnder (IsAlertOfOne a s rules) labels_of new old
-      (gains old new changes)
+  pub changes : List (List (List ℕ) × List (List ℕ × List ℕ))
+  pub changes_are : changes ≡ flat_map (λ rule. changes_of old.config new.config rule.1)
+      (with_rule_outcomes rules found)
+  pub lose : HaveAlertsOnlyUnder (IsAlertOfOne a s rules) labels_of old.config new.config
+      (losses old.config new.config changes)
+  pub gain : HaveAlertsOnlyUnder (IsAlertOfOne a s rules) labels_of new.config old.config
+      (gains old.config new.config changes)
   pub none : (count ≡ 0) ↔ NothingChanges (IsAlertOfOne a s rules) old new
-  pub counted : count
-      ≡ count_changes old new (changes_of_rules old new (with_rule_outcomes rules found))
-  pub text : IsWritten form
-      (changes_report old new (changes_of_rules old new (with_rule_outcomes rules found))) report
+  pub counted : count ≡ count_changes old new
+      (changes_of_rules old.config new.config (with_rule_outcomes rules found))
+  pub text : IsWritten form (changes_report old new
+      (changes_of_rules old.config new.config (with_rule_outcomes rules found))) report
 
 -- The same with or without alerting rules.
-abbrev pub Compares : Alphabet → Space → Configuration → Configuration
+abbrev pub Compares : Alphabet → Space → WholeConfiguration → WholeConfiguration
     → Option (List AlertingRule) → Form → ℕ → List ℕ → Type 0
 Compares a s old new None form count report = IsComparison a s old new form count report
 Compares a s old new (Some rules) form count report =
@@ -163,11 +166,11 @@ Compares a s old new (Some rules) form count report =
 pub record ComparesFiles (inputs : CompareInputs) (changes : ℕ) (report : List ℕ)
     : Type 0 where
   pub space : Space
-  pub old : Configuration
-  pub new : Configuration
+  pub old : WholeConfiguration
+  pub new : WholeConfiguration
   pub rules : Option (List AlertingRule)
   pub accepts : AcceptsCompareInputs inputs space old new rules
-  pub whole : AreDeclaredWhole inputs.alphabet space (Pair old new) space.labels
+  pub whole : AreDeclaredWhole inputs.alphabet space (Pair old.config new.config) space.labels
   pub compares : Compares inputs.alphabet space old new rules inputs.form changes report
 
 -- The inputs are accepted, and what they say is refused at this place.
@@ -178,9 +181,9 @@ IsComparisonRefusal a s k (Some rules) place r = IsRulesRefusal a s k rules plac
 
 abbrev pub RefusesComparison : CompareInputs → Place → Refusal → Type 0
 RefusesComparison inputs place r =
-    (s : Space) × (old : Configuration) × (new : Configuration)
+    (s : Space) × (old : WholeConfiguration) × (new : WholeConfiguration)
     × (rules : Option (List AlertingRule)) × AcceptsCompareInputs inputs s old new rules
-    × IsComparisonRefusal inputs.alphabet s (Pair old new) rules place r
+    × IsComparisonRefusal inputs.alphabet s (Pair old.config new.config) rules place r
 
 -- What `compare` owes. It returns the number of changes.
 -- Source: own choice.

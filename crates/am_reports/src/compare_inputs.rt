@@ -2,16 +2,16 @@
 
 ghost use Rattle.std.specs.Prelude.{◌≡◌, IfOk, IfErr, option_copied};
 ghost use Rattle.am_json.specs.Reading.{IsRefusalAt};
-ghost use Rattle.am_config.specs.ConfigView.{config_view};
-ghost use Rattle.am_config.specs.ConfigFile.{FileSaysConfig};
+ghost use Rattle.am_config.specs.ConfigView.{whole_config_view};
 ghost use Rattle.am_config.specs.ConfigForm.{ConfigFileRefusedFor};
+ghost use Rattle.am_config.specs.WholeConfig.{FileSaysWholeConfig};
 ghost use Rattle.am_files.specs.Faults.{IsFirstFault};
 ghost use Rattle.am_reports.specs.CompareInputs.{AcceptsCompareInputs, compare_input_stages};
 
 use crate::rules_file::read_rules_if_any;
 use am_alerting_rules::AlertingRules;
 use am_classes::Alphabet;
-use am_config::{Config, read_config};
+use am_config::{WholeConfig, read_whole_config};
 use am_files::read_universe_if_any;
 use am_labels::Space;
 use am_report_texts::Form;
@@ -57,8 +57,8 @@ impl<'a> Model for CompareInputs<'a> {
 #[derive(Drop)]
 pub(crate) struct Compared {
     pub space: Space,
-    pub old: Config,
-    pub new: Config,
+    pub old: WholeConfig,
+    pub new: WholeConfig,
     pub rules: Option<AlertingRules>,
 }
 
@@ -66,7 +66,7 @@ pub(crate) struct Compared {
 /// then the alerting rules, if there is a file of them. Fails with the first fault.
 pub(crate) fn read_compared(alloc: Global, inputs: &CompareInputs<'_>) -> Result<Compared, Fault>
     ensures accepts { IfOk result (λ read. AcceptsCompareInputs inputs.now read.space
-        (config_view read.old) (config_view read.new) read.rules) }
+        (whole_config_view read.old) (whole_config_view read.new) read.rules) }
     ensures first { IfErr result (IsFirstFault (compare_input_stages inputs.now)) }
 {
     let space = read_universe_if_any(alloc, inputs.universe)?;
@@ -81,13 +81,13 @@ pub(crate) fn read_compared(alloc: Global, inputs: &CompareInputs<'_>) -> Result
     })
 }
 
-/// Reads a configuration file. Its faults are at the given place.
-fn read_config_at(alloc: Global, place: Place, bytes: &[u8]) -> Result<Config, Fault>
-    ensures says { IfOk result (λ config. FileSaysConfig bytes.now (config_view config)) }
+/// Reads a configuration file, and keeps its fields. Its faults are at the given place.
+fn read_config_at(alloc: Global, place: Place, bytes: &[u8]) -> Result<WholeConfig, Fault>
+    ensures says { IfOk result (λ w. FileSaysWholeConfig bytes.now (whole_config_view w)) }
     ensures refused { IfErr result (IsRefusalAt place (ConfigFileRefusedFor bytes.now)) }
 {
-    match read_config(alloc, bytes) {
-        Ok(config) => Ok(config),
+    match read_whole_config(alloc, bytes) {
+        Ok(whole) => Ok(whole),
         Err(fault) => Err(Fault::within(fault.kind, place, fault.pointer)),
     }
 }

@@ -7,7 +7,7 @@ ghost use Rattle.am_universe.specs.Text.{same_text};
 ghost use Rattle.am_json.specs.Reading.{refusal_of};
 ghost use Rattle.am_alerting_rules.specs.RulesFile.{HasNames};
 ghost use Rattle.am_alerting_rules.specs.RuleTexts.{HasUtf8Texts};
-ghost use Rattle.am_config.specs.ConfigView.{config_view};
+ghost use Rattle.am_config.specs.ConfigView.{config_view, whole_config_view};
 ghost use Rattle.am_files.specs.Promise.{IsKept};
 ghost use Rattle.am_report_texts.specs.Written.{IsWritten};
 ghost use Rattle.am_outcomes.specs.ChangeLines.{changes_report, count_changes};
@@ -24,7 +24,7 @@ use crate::rules_file::rules_if_any;
 use crate::rules_outcomes::outcomes_of_all_rules;
 use am_alerting_rules::AlertingRule;
 use am_classes::Alphabet;
-use am_config::Config;
+use am_config::WholeConfig;
 use am_first_sets::Budget;
 use am_labels::Space;
 use am_outcomes::{Configs, ShownChange, compare_changes, shown_changes};
@@ -102,22 +102,26 @@ fn comparison_of_all(
     alphabet: Alphabet,
     form: Form,
     space: &mut Space,
-    old: &Config,
-    new: &Config,
+    old: &WholeConfig,
+    new: &WholeConfig,
 ) -> Result<ComparedText, Fault>
-    requires old_apart { IsDistinct same_text (config_view old.now).receivers }
-    requires new_apart { IsDistinct same_text (config_view new.now).receivers }
+    requires old_apart { IsDistinct same_text (config_view old.now.config).receivers }
+    requires new_apart { IsDistinct same_text (config_view new.now.config).receivers }
     ensures whole { OnOk result (AreDeclaredWhole alphabet space.old
-        (Pair (config_view old.now) (config_view new.now)) space.old.labels) }
+        (Pair (config_view old.now.config) (config_view new.now.config)) space.old.labels) }
     ensures compares { IfOk result (λ compared. IsComparison alphabet space.old
-        (config_view old.now) (config_view new.now) form compared.changes
+        (whole_config_view old.now) (whole_config_view new.now) form compared.changes
         (string_bytes compared.text)) }
     ensures refused { IfErr result (λ fault. fault.kind ≢ kinds.Memory
-        → IsOutcomesRefusal alphabet space.old (Pair (config_view old.now) (config_view new.now))
-        fault.place (refusal_of fault)) }
+        → IsOutcomesRefusal alphabet space.old
+        (Pair (config_view old.now.config) (config_view new.now.config)) fault.place
+        (refusal_of fault)) }
 {
-    let outcomes = all_outcomes(alloc, alphabet, space, Configs::Pair(old, new))?;
-    let Ok(changes) = shown_changes(alloc, space.universe(), old, new, &outcomes) else {
+    let (old_config, new_config) = (&old.config, &new.config);
+    let configs = Configs::Pair(old_config, new_config);
+    let outcomes = all_outcomes(alloc, alphabet, space, configs)?;
+    let Ok(changes) = shown_changes(alloc, space.universe(), old_config, new_config, &outcomes)
+    else {
         return Err(Fault::memory(alloc));
     };
     match compared_text(alloc, form, old, new, changes.as_slice()) {
@@ -135,27 +139,28 @@ fn comparison_of_rules(
     alphabet: Alphabet,
     form: Form,
     space: &mut Space,
-    old: &Config,
-    new: &Config,
+    old: &WholeConfig,
+    new: &WholeConfig,
     rules: &[AlertingRule],
 ) -> Result<ComparedText, Fault>
-    requires old_apart { IsDistinct same_text (config_view old.now).receivers }
-    requires new_apart { IsDistinct same_text (config_view new.now).receivers }
+    requires old_apart { IsDistinct same_text (config_view old.now.config).receivers }
+    requires new_apart { IsDistinct same_text (config_view new.now.config).receivers }
     requires names { AllByRecursion HasNames rules.now }
     requires texts { AllByRecursion HasUtf8Texts rules.now }
     ensures whole { OnOk result (AreDeclaredWhole alphabet space.old
-        (Pair (config_view old.now) (config_view new.now)) space.old.labels) }
+        (Pair (config_view old.now.config) (config_view new.now.config)) space.old.labels) }
     ensures compares { IfOk result (λ compared. IsRulesComparison alphabet space.old
-        (config_view old.now) (config_view new.now) rules.now form compared.changes
+        (whole_config_view old.now) (whole_config_view new.now) rules.now form compared.changes
         (string_bytes compared.text)) }
     ensures refused { IfErr result (λ fault. fault.kind ≢ kinds.Memory
-        → IsRulesRefusal alphabet space.old (Pair (config_view old.now) (config_view new.now))
-        rules.now fault.place (refusal_of fault)) }
+        → IsRulesRefusal alphabet space.old
+        (Pair (config_view old.now.config) (config_view new.now.config)) rules.now fault.place
+        (refusal_of fault)) }
 {
     let mut budget = Budget::limited();
-    let configs = Configs::Pair(old, new);
+    let configs = Configs::Pair(&old.config, &new.config);
     let found = outcomes_of_all_rules(alloc, alphabet, space, configs, rules, &mut budget)?;
-    let Ok(changes) = changes_of_rules(alloc, old, new, rules, &found) else {
+    let Ok(changes) = changes_of_rules(alloc, &old.config, &new.config, rules, &found) else {
         return Err(Fault::memory(alloc));
     };
     match compared_text(alloc, form, old, new, changes.as_slice()) {
@@ -168,14 +173,14 @@ fn comparison_of_rules(
 fn compared_text(
     alloc: Global,
     form: Form,
-    old: &Config,
-    new: &Config,
+    old: &WholeConfig,
+    new: &WholeConfig,
     changes: &[ShownChange<'_>],
 ) -> Result<ComparedText, AllocError>
     ensures changes { IfOk result (λ compared. compared.changes
-        ≡ count_changes (config_view old.now) (config_view new.now) changes.now) }
+        ≡ count_changes (whole_config_view old.now) (whole_config_view new.now) changes.now) }
     ensures text { IfOk result (λ compared. IsWritten form
-        (changes_report (config_view old.now) (config_view new.now) changes.now)
+        (changes_report (whole_config_view old.now) (whole_config_view new.now) changes.now)
         (string_bytes compared.text)) }
 {
     let compared = compare_changes(alloc, old, new, changes)?;

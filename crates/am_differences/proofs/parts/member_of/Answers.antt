@@ -1,11 +1,9 @@
 use Rattle.std.proofs.Common.{option_map, ap, ◌∙◌}
 use Rattle.serde_json.specs.View.{view}
-use Rattle.serde_json.specs.Find.{get_member}
 use Rattle.serde_json.proofs.Views.{view_of_ref, view-lookup}
 use Rattle.am_differences.proofs.parts.member_of.Goals as goal
 
 pub returns : goal.returns
 returns c =
     view_of_ref c.get.result ∙ ap (option_map view) c.get.ensures.value
-    ∙ view-lookup c.args.key.now c.rest.result.now.entries
-    ∙ ap (get_member c.args.key.now) c.rest.ensures.rest
+    ∙ view-lookup c.args.key.now c.args.config.now.rest.entries

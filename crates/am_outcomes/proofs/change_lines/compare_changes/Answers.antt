@@ -1,6 +1,6 @@
 use Rattle.std.proofs.Common.{◌≡◌, ◌+◌, map, length, codes, ap, sym, ◌∙◌, arith}
 use Rattle.std.proofs.lemmas.List.{length-map}
-use Rattle.am_config.specs.ConfigView.{config_view}
+use Rattle.am_config.specs.ConfigView.{whole_config_view}
 use Rattle.am_report_texts.specs.LineView.{line_view}
 use Rattle.am_differences.specs.PartLines.{part_lines}
 use Rattle.am_outcomes.specs.Changes.{losses, gains, without_groups}
@@ -11,13 +11,13 @@ use Rattle.am_outcomes.proofs.change_lines.compare_changes.Goals as goal
 
 pub returns-clause-report : goal.returns-clause-report
 returns-clause-report c =
-    let old = config_view c.args.old.now in
-    let new = config_view c.args.new.now in
+    let old = whole_config_view c.args.old.now in
+    let new = whole_config_view c.args.new.now in
     let changes = c.args.changes.now in
-    let lost = losses old new (without_groups changes) in
-    let gained = gains old new (without_groups changes) in
+    let lost = losses old.config new.config (without_groups changes) in
+    let gained = gains old.config new.config (without_groups changes) in
     let lines = joined line_view _ _ _ _ _ _ _ (map (receiver_line (codes "loses")) lost)
-    (map (receiver_line (codes "gains")) gained) (map (change_line old new) changes)
+    (map (receiver_line (codes "gains")) gained) (map (change_line old.config new.config) changes)
     (part_lines old new) c.in_ok-append.ensures.items c.in_ok-append-2.ensures.items
     c.in_ok-append-3.ensures.items
     (c.in_ok-lines.ensures ∙ ap (λ fs. map (receiver_line (codes "loses")) (founds_view fs))
@@ -27,7 +27,7 @@ returns-clause-report c =
     ∙ ap (map (receiver_line (codes "gains"))) c.in_ok-gained.ensures)
     c.in_ok-changed.ensures c.in_ok-part_lines.ensures.lines in
     let all : length c.append-2.new.self.items ≡ length changes + length (part_lines old new) =
-    joined_length line_view (change_line old new) _ _ _ changes (part_lines old new)
+    joined_length line_view (change_line old.config new.config) _ _ _ changes (part_lines old new)
     c.in_ok-append-2.ensures.items c.in_ok-changed.ensures c.in_ok-part_lines.ensures.lines in
     let some_lost : length c.in_ok-lost.lost.items ≡ length lost =
     sym (length-map c.in_ok-lost.lost.items _) ∙ ap length c.in_ok-lost.ensures in
@@ -41,10 +41,10 @@ returns-clause-report c =
 
 pub returns-clause-changes : goal.returns-clause-changes
 returns-clause-changes c =
-    let old = config_view c.args.old.now in
-    let new = config_view c.args.new.now in
+    let old = whole_config_view c.args.old.now in
+    let new = whole_config_view c.args.new.now in
     let changes = c.args.changes.now in
     let all : length c.append-2.new.self.items ≡ length changes + length (part_lines old new) =
-    joined_length line_view (change_line old new) _ _ _ changes (part_lines old new)
+    joined_length line_view (change_line old.config new.config) _ _ _ changes (part_lines old new)
     c.in_ok-append-2.ensures.items c.in_ok-changed.ensures c.in_ok-part_lines.ensures.lines in
     omega arith

@@ -3,7 +3,7 @@ use Rattle.std.proofs.Common.{Ok, IfSome, refl, sym, ap, subst, string_bytes}
 use Rattle.std.specs.List.{AllByRecursion}
 use Rattle.std.specs.Result.{result_and}
 use Rattle.am_json.specs.Reading.{refusal_of}
-use Rattle.am_config.specs.ConfigView.{config_view}
+use Rattle.am_config.specs.ConfigView.{whole_config_view}
 use Rattle.am_files.proofs.FirstFaults.{first_of_more}
 use Rattle.am_files.proofs.Promises.{refused, written}
 use Rattle.am_files.specs.Faults.{later_stages}
@@ -51,15 +51,15 @@ returns-in_err-compared-in-Some g c =
     let fault = c.in_err-compared-in-Some.field-0.0 in
     let inputs = c.args.inputs.now in
     let read = c.in_ok-read.read in
-    let old = config_view read.old in
-    let new = config_view read.new in
+    let old = whole_config_view read.old in
+    let new = whole_config_view read.new in
     record {
       kept = refused (compare_promise inputs) fault c.from_residual-in_err-compared-in-Some.result
           refl c.from_residual-in_err-compared-in-Some.ensures.1
           (λ remembered. comparison_refused inputs read.space old new read.rules fault.place
           (refusal_of fault) c.in_ok-read.ensures.accepts
-          (subst (λ rs. IsComparisonRefusal inputs.alphabet read.space (Pair old new) rs fault.place
-          (refusal_of fault)) c.in-Some.ensures
+          (subst (λ rs. IsComparisonRefusal inputs.alphabet read.space
+          (Pair old.config new.config) rs fault.place (refusal_of fault)) c.in-Some.ensures
           (rw (ap (λ (i : CompareInputs). i.alphabet) c.inputs.view_is)
           at (c.in_err-compared-in-Some.ensures.refused remembered))));
     }
@@ -69,15 +69,15 @@ returns-in_err-compared-in-None g c =
     let fault = c.in_err-compared-in-None.field-0.0 in
     let inputs = c.args.inputs.now in
     let read = c.in_ok-read.read in
-    let old = config_view read.old in
-    let new = config_view read.new in
+    let old = whole_config_view read.old in
+    let new = whole_config_view read.new in
     record {
       kept = refused (compare_promise inputs) fault c.from_residual-in_err-compared-in-None.result
           refl c.from_residual-in_err-compared-in-None.ensures.1
           (λ remembered. comparison_refused inputs read.space old new read.rules fault.place
           (refusal_of fault) c.in_ok-read.ensures.accepts
-          (subst (λ rs. IsComparisonRefusal inputs.alphabet read.space (Pair old new) rs fault.place
-          (refusal_of fault)) c.in-None.ensures
+          (subst (λ rs. IsComparisonRefusal inputs.alphabet read.space
+          (Pair old.config new.config) rs fault.place (refusal_of fault)) c.in-None.ensures
           (rw (ap (λ (i : CompareInputs). i.alphabet) c.inputs.view_is)
           at (c.in_err-compared-in-None.ensures.refused remembered))));
     }
@@ -88,14 +88,14 @@ returns g c =
     let read = c.in_ok-read.read in
     let s = read.space in
     let rules = read.rules in
-    let old = config_view read.old in
-    let new = config_view read.new in
+    let old = whole_config_view read.old in
+    let new = whole_config_view read.new in
     let compared = c.match-rules_if_any.compared in
     let count = compared.changes in
     let text = string_bytes compared.text in
     let over = ap (λ (i : CompareInputs). i.alphabet) c.inputs.view_is in
     let formed = ap (λ (i : CompareInputs). i.form) c.inputs.view_is in
-    let whole : AreDeclaredWhole inputs.alphabet s (Pair old new) s.labels =
+    let whole : AreDeclaredWhole inputs.alphabet s (Pair old.config new.config) s.labels =
     elim c.match-rules_if_any.branch [
       | in-Some+in_ok-compared-in-Some w ↦ rw over at w.in_ok-compared-in-Some.ensures.whole
       | in-None+in_ok-compared-in-None w ↦ rw over at w.in_ok-compared-in-None.ensures.whole

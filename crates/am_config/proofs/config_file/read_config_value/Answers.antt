@@ -6,7 +6,7 @@ use Rattle.am_config.specs.ConfigForm.{route_form}
 use Rattle.am_config.specs.RouteView.{route_view, names_of}
 use Rattle.am_json.proofs.Readings.{within_ok, within_gives}
 use Rattle.am_config.proofs.ConfigSays.{config_sound}
-use Rattle.am_config.proofs.config_file.read_config_object.Goals as goal
+use Rattle.am_config.proofs.config_file.read_config_value.Goals as goal
 
 pub invariant_of-result : goal.invariant_of-result
 invariant_of-result c =
@@ -17,7 +17,7 @@ invariant_of-result c =
     c.within_field.result (route_form names MAX_LEVELS None 0 d) read c.within_field.ensures.within in
     let h = rw c.in_ok-root-2.was at g in
     record {
-      sound = config_sound names d (route_view c.in_ok-root-2.root) c.in_ok-rules.rules.items _
+      sound = config_sound names d (route_view c.in_ok-root-2.root) c.in_ok-rules.rules.items
           (within_ok (to_field (codes "route")) ((route_form names MAX_LEVELS None 0 d).result)
           (route_view c.in_ok-root-2.root) h);
     }
