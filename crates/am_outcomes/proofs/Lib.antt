@@ -9,6 +9,8 @@ pub mod FirstWalk
 pub mod MatchedPart
 pub mod WaysFound
 pub mod Gathered
+pub mod Handlers
+pub mod RouterSteps
 pub mod LineSteps
 pub mod HandlerReceivers
 pub mod AlikeRoutes

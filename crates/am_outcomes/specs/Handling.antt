@@ -5,9 +5,11 @@ use Rattle.std.specs.List.{filter_map}
 use lib.Pointwise.{pointwise}
 use Rattle.am_universe.specs.LabelSet.{LabelMap}
 use Rattle.am_universe.specs.Text.{same_text}
+use Rattle.am_labels.specs.Matcher.{all_hold}
 use Rattle.am_config.specs.ConfigFile.{Configuration, RouteTree, receiver_of, options_of}
+use Rattle.am_config.specs.ConfigFile.{Routes, route, no_routes, next_route}
 use Rattle.am_config.specs.Path.{route_at}
-use Rattle.am_eval.specs.Routing.{ends}
+use Rattle.am_eval.specs.Routing.{ends, is_last}
 use Rattle.am_report_texts.specs.ReceiverNames.{receiver_name}
 use Rattle.am_differences.specs.Options.{same_options, differing_options}
 
@@ -16,6 +18,25 @@ use Rattle.am_differences.specs.Options.{same_options, differing_options}
 -- Example: if an alert ends at `/0` and `/1`, they are these two routes.
 abbrev pub handling_routes : LabelMap → Configuration → List RouteTree
 handling_routes s c = filter_map (route_at c.root) (ends s c)
+
+-- The same without paths: the routes that handle an alert from a route on. If the alert does not
+-- match the route, there are none. If it does, they are those of the children that are tried, or
+-- the route itself if there are none of these.
+abbrev pub or_this : RouteTree → List RouteTree → List RouteTree
+or_this t [] = t ∷ []
+or_this t (below ∷ more) = below ∷ more
+
+abbrev mutual
+  pub handlers_at : LabelMap → RouteTree → List RouteTree
+  handlers_at s (route settings children) =
+      if all_hold s settings.matchers
+      then or_this (route settings children) (handlers_among s children)
+      else []
+
+  pub handlers_among : LabelMap → Routes → List RouteTree
+  handlers_among s no_routes = []
+  handlers_among s (next_route t ts) =
+      handlers_at s t ++ (if is_last s t then [] else handlers_among s ts)
 
 -- A route of an old configuration and one of a new one do the same with alerts: their receivers
 -- have the same name, and their options are the same.

@@ -1,5 +1,6 @@
 pub mod Configurations
 pub mod Handling
+pub mod Routers
 pub mod Outcomes
 pub mod Ways
 pub mod Steps

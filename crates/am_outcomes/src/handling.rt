@@ -1,58 +1,86 @@
 //! The outcomes of alerts: at which routes they end, what these do with them, and whether a silence
 //! or a list of matchers matches them.
 
-ghost use Rattle.std.specs.Prelude.{◌≡◌, ◌∷◌, find, map, option_map, IfOk};
+ghost use Rattle.std.specs.Prelude.{◌≡◌, ◌∷◌, List, find, map, option_map, IfOk};
+ghost use Rattle.am_universe.specs.Universe.{Label, sizes};
+ghost use Rattle.am_universe.specs.Choice.{IsWhole};
+ghost use Rattle.am_universe.specs.LabelSet.{label_set_of};
 ghost use Rattle.am_config.specs.ConfigFile.{receiver_of};
 ghost use Rattle.am_config.specs.ConfigView.{config_view};
 ghost use Rattle.am_config.specs.RouteView.{route_view};
 ghost use Rattle.am_eval.specs.Routing.{ends, receivers};
 ghost use Rattle.am_report_texts.specs.ReceiverNames.{receiver_names};
-ghost use Rattle.am_outcomes.specs.Configurations.{configurations_of, silences_view};
-ghost use Rattle.am_outcomes.specs.Handling.{handling_routes, has_receiver, route_pairs};
+ghost use Rattle.am_outcomes.specs.Configurations.{silences_view};
+ghost use Rattle.am_outcomes.specs.Handling.{has_receiver, route_pairs};
 ghost use Rattle.am_outcomes.specs.Handling.{same_names, without_first};
 ghost use Rattle.am_outcomes.specs.Outcomes.{is_silenced_by, one_if, outcome_of};
 ghost use Rattle.am_outcomes.specs.OutcomesView.{lists_view, pairs_view, routes_view};
+ghost use Rattle.am_outcomes.specs.Routers.{AreRoutedOver, IsRouterOver, router_config};
+ghost use Rattle.am_outcomes.specs.Routers.{routed_configurations};
 
-use crate::configs::{ActiveSilence, Configs};
+use crate::configs::ActiveSilence;
+use crate::routers::{Routed, Router};
 use am_config::{Config, Path, Route};
 use am_differences::differing_options;
 use am_eval::{ends, receivers_of};
 use am_report_texts::receiver_name;
-use am_universe::LabelSet;
+use am_universe::{Choice, LabelSet, Universe, set_of};
 use std::alloc::{AllocError, Global};
 
-/// Returns the outcome of an alert with these labels. Fails only if memory runs out.
+/// Returns the outcome of the alert of a whole choice. Fails only if memory runs out.
 pub(crate) fn outcome_of(
     alloc: Global,
-    configs: Configs<'_>,
-    set: &LabelSet,
+    routed: &Routed<'_>,
+    universe: &Universe,
+    choice: &Choice,
 ) -> Result<Vec<Vec<usize>>, AllocError>
-    ensures { IfOk result (λ lists.
-        lists_view lists.items ≡ outcome_of (configurations_of configs.entry) set.now) }
+    requires whole { IsWhole (sizes universe.now) choice.now }
+    requires over { AreRoutedOver universe.now routed.now }
+    ensures { IfOk result (λ lists. lists_view lists.items
+        ≡ outcome_of (routed_configurations routed.now) (label_set_of universe.now choice.now)) }
 {
-    match configs {
-        Configs::One(config) => Ok(vec![in alloc; receivers_of(alloc, config, set)?]?),
-        Configs::Pair(old, new) => {
-            let before = handling_routes(alloc, old, set)?;
-            let after = handling_routes(alloc, new, set)?;
+    match routed {
+        Routed::One(router) => Ok(vec![in alloc; receivers_by(alloc, router, choice)?]?),
+        Routed::Pair(old, new) => {
+            let before = old.handling_routes(alloc, choice)?;
+            let after = new.handling_routes(alloc, choice)?;
             let (before, after) = (before.as_slice(), after.as_slice());
             let old_receivers = receivers_of_routes(alloc, before)?;
             let new_receivers = receivers_of_routes(alloc, after)?;
-            let pairs = route_pairs(alloc, old, before, new, after)?;
+            let pairs = route_pairs(alloc, old.config, before, new.config, after)?;
             let options = differing_options(alloc, pairs.as_slice())?;
             Ok(vec![in alloc; old_receivers, new_receivers, options]?)
         }
-        Configs::Silenced(config, silences) => {
-            let receivers = receivers_of(alloc, config, set)?;
-            let silenced = is_silenced_by(alloc, silences, set)?;
+        Routed::Silenced(router, silences) => {
+            let receivers = receivers_by(alloc, router, choice)?;
+            let set = set_of(alloc, universe, choice)?;
+            let silenced = is_silenced_by(alloc, silences, &set)?;
             Ok(vec![in alloc; receivers, one_if(alloc, silenced)?]?)
         }
-        Configs::Ends(config) => receivers_and_ends(alloc, config, set),
-        Configs::Matched(matchers) => {
-            let matched = matchers.matches(alloc, set)?;
+        Routed::Ends(config) => {
+            let set = set_of(alloc, universe, choice)?;
+            receivers_and_ends(alloc, config, &set)
+        }
+        Routed::Matched(matchers) => {
+            let set = set_of(alloc, universe, choice)?;
+            let matched = matchers.matches(alloc, &set)?;
             Ok(vec![in alloc; one_if(alloc, matched)?]?)
         }
     }
+}
+
+/// Returns the receivers of the alert of a whole choice, by their positions.
+fn receivers_by(
+    alloc: Global,
+    router: &Router<'_>,
+    choice: &Choice,
+) -> Result<Vec<usize>, AllocError>
+    ensures { IfOk result (λ found. (u : List Label) → IsWhole (sizes u) choice.now
+        → IsRouterOver u router.now
+        → found.items ≡ receivers (label_set_of u choice.now) (router_config router.now)) }
+{
+    let routes = router.handling_routes(alloc, choice)?;
+    receivers_of_routes(alloc, routes.as_slice())
 }
 
 /// Returns one item if something is so, and none if not.
@@ -108,25 +136,6 @@ fn is_silenced_by(
         }
     }
     Ok(false)
-}
-
-/// Returns the routes that handle an alert, in order.
-fn handling_routes<'a>(
-    alloc: Global,
-    config: &'a Config,
-    set: &LabelSet,
-) -> Result<Vec<&'a Route>, AllocError>
-    ensures { IfOk result (λ found. routes_view found.items
-        ≡ handling_routes set.now (config_view config.now)) }
-{
-    let paths = ends(alloc, config, set)?;
-    let mut found = Vec::with_capacity(alloc, paths.len())?;
-    for path in paths.as_slice() {
-        if let Some(route) = config.at(path) {
-            found.push(route)?;
-        }
-    }
-    Ok(found)
 }
 
 /// Returns the receivers of some routes, by their positions.

@@ -26,6 +26,7 @@ mod configs;
 mod found;
 mod handling;
 mod outcome_search;
+mod routers;
 
 pub use configs::{ActiveSilence, Configs};
 pub use found::Outcomes;

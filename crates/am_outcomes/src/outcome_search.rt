@@ -15,11 +15,11 @@ ghost use Rattle.am_outcomes.specs.Ways.{HaveManyWays};
 use crate::configs::Configs;
 use crate::found::Outcomes;
 use crate::handling::outcome_of;
+use crate::routers::Routed;
 use crate::steps::{Step, steps_for};
 use crate::ways::firsts_of_ways;
 use am_first_sets::{Budget, PossibleSets, Unfinished};
 use am_labels::{Matchers, Space};
-use am_universe::set_of;
 use indexmap::IndexMap;
 use std::alloc::{AllocError, Global};
 
@@ -27,9 +27,9 @@ use std::alloc::{AllocError, Global};
 #[derive(Drop)]
 pub struct OutcomeSearch<'a> {
     space: &'a Space,
-    configs: Configs<'a>,
     possible: PossibleSets<'a>,
     steps: Vec<Step>,
+    routed: Routed<'a>,
 }
 
 impl<'a> OutcomeSearch<'a> {
@@ -47,9 +47,9 @@ impl<'a> OutcomeSearch<'a> {
     {
         Ok(OutcomeSearch {
             space,
-            configs,
             possible: PossibleSets::of(alloc, space)?,
             steps: steps_for(alloc, space.universe(), configs)?,
+            routed: Routed::of(alloc, space.universe(), configs)?,
         })
     }
 
@@ -78,8 +78,7 @@ impl<'a> OutcomeSearch<'a> {
         };
         let mut firsts = IndexMap::new(alloc);
         for choice in &choices {
-            let set = set_of(alloc, universe, choice)?;
-            let lists = outcome_of(alloc, self.configs, &set)?;
+            let lists = outcome_of(alloc, &self.routed, universe, choice)?;
             if !firsts.contains_key(&lists) {
                 firsts.insert(lists, *choice)?;
             }

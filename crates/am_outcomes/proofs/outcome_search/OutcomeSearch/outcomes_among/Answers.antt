@@ -12,6 +12,7 @@ use Rattle.am_outcomes.specs.FirstsOfWays.{AreFirstsOfWays}
 use Rattle.am_outcomes.specs.MatchedPart.{matched_part}
 use Rattle.am_outcomes.specs.Outcomes.{outcome_of}
 use Rattle.am_outcomes.specs.OutcomeSearch.{searched_configurations, searched_space}
+use Rattle.am_outcomes.specs.Routers.{AreRoutedOver}
 use Rattle.am_outcomes.specs.Steps.{GoesThrough}
 use Rattle.am_outcomes.specs.declared.steps.Step.{Step}
 use Rattle.am_outcomes.proofs.Gathered.{one_outcome_more, outcomes_after, outcomes_are}
@@ -42,18 +43,23 @@ first_choices c =
     (subst₂ (λ (u : List Label) (steps : List Step). GoesThrough u t steps (length steps))
     (sym c.universe-universe.ensures.labels) (sym c.as_slice-steps.ensures.value) c.requires.goes))
 
-pub set_of-requires : goal.set_of-requires
-set_of-requires c =
+pub outcome_of-requires-clause-whole : goal.outcome_of-requires-clause-whole
+outcome_of-requires-clause-whole c =
     let items = c.deref-choice-items.result.now in
     let i = c.loop-choice.choice-index in
     let choice = c.choice-item.result in
     let there = in_at items i choice
     (slice_get_read items (length items) i choice refl c.loop-choice-test.true c.choice-item.is) in
-    let first = (first_choices (goal.at.set_of-requires c).In-Some).each choice
+    let first = (first_choices (goal.at.outcome_of-requires-clause-whole c).In-Some).each choice
     (Contains-from_IsIn c.in-Some.choices.items choice
     (subst (λ (xs : List (List ℕ)). IsIn xs choice) c.deref-choice-items.ensures.value there)) in
     subst (λ (u : List Label). IsWhole (sizes u) choice) (sym c.universe-universe.ensures.labels)
     first.choice.0
+
+pub outcome_of-requires-clause-over : goal.outcome_of-requires-clause-over
+outcome_of-requires-clause-over c =
+    subst (λ (u : List Label). AreRoutedOver u c.args.self.now.routed)
+    (sym c.universe-universe.ensures.labels) c.requires.over
 
 pub returns-clause-some : goal.returns-clause-some
 returns-clause-some c =
@@ -75,8 +81,8 @@ loop-choice-preserved c =
     one_outcome_more s k c.deref-choice-items.result.now c.loop-choice.choice-index choice
     c.loop-choice.firsts.entries c.if-not-contains_key.firsts.entries c.in_ok-lists.lists
     c.loop-choice-test.true c.choice-item.is c.loop-choice.invariant
-    (c.in_ok-lists.ensures ∙ ap (outcome_of k) (c.in_ok-set.ensures.set
-    ∙ ap (λ u. label_set_of u choice) c.universe-universe.ensures.labels))
+    (c.in_ok-lists.ensures
+    ∙ ap (λ u. outcome_of k (label_set_of u choice)) c.universe-universe.ensures.labels)
     (elim c.if-not-contains_key.branch [
       | then-not-contains_key+in_ok-insert w ↦
           ap (λ m. m.entries) w.firsts-is ∙ w.in_ok-insert.ensures.entries
