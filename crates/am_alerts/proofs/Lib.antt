@@ -1,6 +1,7 @@
 mod Truths
 mod Ids
 mod AlertLabelLemmas
+mod RowLemmas
 mod AlertEnds
 mod AlertListLemmas
 mod SilenceNames

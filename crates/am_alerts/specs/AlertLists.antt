@@ -1,13 +1,12 @@
 -- A list for each alert.
 use Rattle.std.specs.Prelude.{◌≡◌, ◌++◌, ◌∷◌, ℕ, List, [], map, length, slice_get, slice_index_or}
 use Rattle.std.specs.Prelude.{Some}
-use Rattle.std.specs.Prelude.{Bool, true, false, if◌then◌else◌}
+use Rattle.std.specs.Prelude.{Bool, true, false}
 use Rattle.std.specs.Global.{Vec}
 use Rattle.am_universe.specs.LabelSet.{LabelMap}
 use Rattle.am_config.specs.ConfigFile.{Rule}
 use Rattle.am_eval.specs.Silencing.{positions_where}
 use Rattle.am_eval.specs.Inhibition.{inhibits}
-use Rattle.am_alerts.specs.AlertLabels.{flag}
 
 -- The list of the alert at a position.
 abbrev pub list_at : {X : Type 0} → List (Vec X) → ℕ → List X
@@ -19,18 +18,12 @@ AreLists alerts list lists =
     (length lists ≡ length alerts)
     × ((i : ℕ) (s : LabelMap) → slice_get alerts i ≡ Some s → list_at lists i ≡ list s)
 
--- Behind the list of each alert, or of each of some alerts, there are more items.
+-- Behind the list of each alert there are more items.
 abbrev pub AddsToAll : {X : Type 0} → List LabelMap → (LabelMap → List X) → List (Vec X)
     → List (Vec X) → Type 0
 AddsToAll alerts more before after =
     (i : ℕ) (s : LabelMap) → slice_get alerts i ≡ Some s
     → list_at after i ≡ list_at before i ++ more s
-
-abbrev pub Adds : {X : Type 0} → List LabelMap → List Bool → (LabelMap → List X) → List (Vec X)
-    → List (Vec X) → Type 0
-Adds alerts among more before after =
-    (i : ℕ) (s : LabelMap) → slice_get alerts i ≡ Some s
-    → list_at after i ≡ list_at before i ++ (if flag among i then more s else [])
 
 -- There are no ends.
 abbrev pub ends_nowhere : List (List ℕ) → Bool

@@ -3,6 +3,7 @@ pub mod Intervals
 pub mod Judge
 pub mod AlertLabels
 pub mod AlertLists
+pub mod RouteEnds
 pub mod Outcomes
 pub mod AlertLines
 pub mod Alerts

@@ -10,24 +10,26 @@ ghost use Rattle.am_config.specs.ConfigView.{config_view};
 ghost use Rattle.am_config.specs.RouteView.{route_view};
 ghost use Rattle.am_eval.specs.Routing.{ends, ends_at, children_seen, ends_tried};
 ghost use Rattle.am_alerts.specs.AlertLabels.{Keeps};
-ghost use Rattle.am_alerts.specs.AlertLists.{Adds, AreLists, ends_nowhere};
+ghost use Rattle.am_alerts.specs.AlertLists.{ends_nowhere};
+ghost use Rattle.am_alerts.specs.RouteEnds.{AddsEnds, AreEnds};
 
 use crate::alert_labels::AlertLabels;
-use crate::alert_lists::{empty_lists, push_where, without};
+use crate::alert_lists::without;
+use crate::route_ends::RouteEnds;
 use am_config::{Config, Path, Route};
 use std::alloc::{AllocError, Global};
 
-/// Returns for each alert the paths of the routes that handle it, as [`am_eval::ends`] does for
-/// one. Fails only if memory runs out.
+/// Returns which alerts end at each route, as [`am_eval::ends`] says for one. Fails only if memory
+/// runs out.
 pub(crate) fn ends_of_alerts(
     alloc: Global,
     config: &Config,
     labels: &AlertLabels<'_>,
-) -> Result<Vec<Vec<Path>>, AllocError>
+) -> Result<Vec<RouteEnds>, AllocError>
     ensures { IfOk result (λ found.
-        AreLists labels.now (λ s. ends s (config_view config.now)) found.items) }
+        AreEnds labels.now (λ s. ends s (config_view config.now)) found.items) }
 {
-    let mut found = empty_lists(alloc, labels.alerts().len())?;
+    let mut found = Vec::new(alloc);
     let all = labels.all(alloc)?;
     add_ends(
         alloc,
@@ -49,20 +51,19 @@ fn add_ends(
     route: &Route,
     path: Path,
     among: &[bool],
-    found: &mut [Vec<Path>],
+    found: &mut Vec<RouteEnds>,
 ) -> Result<Vec<bool>, AllocError>
     requires room { length path + route_levels (route_view route.now) ≤ MAX_LEVELS }
     requires few { route_count (route_view route.now) ≤ MAX_ROUTES }
-    requires count { (length among.now ≡ length labels.now)
-        × (length found.old ≡ length labels.now) }
+    requires count { length among.now ≡ length labels.now }
     ensures matched { IfOk result (λ matched. Keeps labels.now
         (λ s. all_hold s (matchers_of (route_view route.now))) among.now matched.items) }
-    ensures added { OnOk result (Adds labels.now among.now
+    ensures added { OnOk result (AddsEnds labels.now among.now
         (λ s. map (λ below. path ++ below) (ends_at s (route_view route.now)))
-        found.old found.new) }
+        found.old.items found.new.items) }
 {
     let matched = labels.matched(alloc, route.matchers(), among)?;
-    let own = add_ends_of_children(
+    let alerts = add_ends_of_children(
         alloc,
         labels,
         route.routes(),
@@ -70,7 +71,7 @@ fn add_ends(
         matched.as_slice(),
         found,
     )?;
-    push_where(own.as_slice(), path, found)?;
+    found.push(RouteEnds { path, alerts })?;
     Ok(matched)
 }
 
@@ -83,19 +84,18 @@ fn add_ends_of_children(
     children: &[Route],
     path: Path,
     among: &[bool],
-    found: &mut [Vec<Path>],
+    found: &mut Vec<RouteEnds>,
 ) -> Result<Vec<bool>, AllocError>
     requires room { length path + 1 + routes_levels (routes_of (map route_view children.now))
         ≤ MAX_LEVELS }
     requires few { routes_count (routes_of (map route_view children.now)) < MAX_ROUTES }
-    requires count { (length among.now ≡ length labels.now)
-        × (length found.old ≡ length labels.now) }
+    requires count { length among.now ≡ length labels.now }
     ensures none { IfOk result (λ none. Keeps labels.now (λ s. ends_nowhere
         (ends_tried (children_seen s 0 (routes_of (map route_view children.now)))))
         among.now none.items) }
-    ensures added { OnOk result (Adds labels.now among.now (λ s. map (λ below. path ++ below)
+    ensures added { OnOk result (AddsEnds labels.now among.now (λ s. map (λ below. path ++ below)
         (ends_tried (children_seen s 0 (routes_of (map route_view children.now)))))
-        found.old found.new) }
+        found.old.items found.new.items) }
 {
     let mut left = among.to_vec(alloc)?;
     let mut none = among.to_vec(alloc)?;

@@ -5,10 +5,12 @@
 //! inhibition rules and firing alerts that inhibit it, and the time intervals that may mute it.
 #![tactic(auto)]
 
-// The labels of all alerts, tests of their values, and a list for each alert.
+// The labels of all alerts, tests of their values, a list for each alert, and which alerts end at
+// each route.
 mod alert_labels;
 mod alert_lists;
 mod judge;
+mod route_ends;
 
 // The outcomes of all alerts, and of which of them a question is true.
 mod alert_ends;

@@ -6,11 +6,13 @@ ghost use Rattle.am_universe.specs.LabelSet.{LabelMap};
 ghost use Rattle.am_config.specs.ConfigView.{config_view};
 ghost use Rattle.am_eval.specs.Routing.{ends, receivers, receiver_at};
 ghost use Rattle.am_alerts.specs.AlertLists.{AreLists};
+ghost use Rattle.am_alerts.specs.RouteEnds.{AreEnds};
 ghost use Rattle.am_alerts.specs.Outcomes.{HasOutcome};
 
 use crate::alert_ends::ends_of_alerts;
 use crate::alert_hiding::{inhibitors_of_alerts, silencers_of_alerts};
 use crate::alert_labels::AlertLabels;
+use crate::route_ends::{RouteEnds, paths_of};
 use am_config::{Config, Path};
 use am_eval::World;
 use std::alloc::{AllocError, Global};
@@ -19,8 +21,9 @@ use std::marker::Model;
 /// The outcome of an alert.
 #[derive(Clone, Copy, Drop)]
 pub(crate) struct Outcome<'o> {
-    /// The routes that handle it.
-    pub ends: &'o [Path],
+    /// The routes at which alerts end, and the position of this one.
+    pub rows: &'o [RouteEnds],
+    pub alert: usize,
     /// The receivers to which it goes, by their positions.
     pub receivers: &'o [usize],
     /// The silences that hide it, by their positions.
@@ -37,7 +40,7 @@ pub(crate) struct Outcome<'o> {
 pub(crate) struct Outcomes<'w> {
     world: &'w World,
     labels: AlertLabels<'w>,
-    ends: Vec<Vec<Path>>,
+    ends: Vec<RouteEnds>,
     receivers: Vec<Vec<usize>>,
     silencers: Vec<Vec<usize>>,
     inhibitors: Vec<Vec<(usize, usize)>>,
@@ -65,7 +68,12 @@ impl<'w> Outcomes<'w> {
     {
         let labels = AlertLabels::of(alloc, world.alerts())?;
         let ends = ends_of_alerts(alloc, world.config(), &labels)?;
-        let receivers = receivers_of_all(alloc, world.config(), ends.as_slice())?;
+        let receivers = receivers_of_all(
+            alloc,
+            world.config(),
+            ends.as_slice(),
+            world.alerts().len(),
+        )?;
         let silencers = silencers_of_alerts(alloc, world, &labels)?;
         let inhibitors = inhibitors_of_alerts(alloc, world, &labels)?;
         Ok(Outcomes {
@@ -99,7 +107,8 @@ impl<'w> Outcomes<'w> {
             → HasOutcome self.now s result }
     {
         Outcome {
-            ends: self.ends[position].as_slice(),
+            rows: self.ends.as_slice(),
+            alert: position,
             receivers: self.receivers[position].as_slice(),
             silencers: self.silencers[position].as_slice(),
             inhibitors: self.inhibitors[position].as_slice(),
@@ -107,18 +116,20 @@ impl<'w> Outcomes<'w> {
     }
 }
 
-/// The receivers of the routes at each list of paths.
+/// The receivers of the routes at which each alert ends.
 fn receivers_of_all(
     alloc: Global,
     config: &Config,
-    lists: &[Vec<Path>],
+    rows: &[RouteEnds],
+    count: usize,
 ) -> Result<Vec<Vec<usize>>, AllocError>
-    ensures { IfOk result (λ found. (alerts : List LabelMap)
-        → AreLists alerts (λ s. ends s (config_view config.now)) lists.now
+    ensures { IfOk result (λ found. (alerts : List LabelMap) → count ≡ length alerts
+        → AreEnds alerts (λ s. ends s (config_view config.now)) rows.now
         → AreLists alerts (λ s. receivers s (config_view config.now)) found.items) }
 {
-    let mut found = Vec::with_capacity(alloc, lists.len())?;
-    for paths in lists {
+    let mut found = Vec::with_capacity(alloc, count)?;
+    for alert in 0..count {
+        let paths = paths_of(alloc, rows, alert)?;
         found.push(receivers_at(alloc, config, paths.as_slice())?)?;
     }
     Ok(found)

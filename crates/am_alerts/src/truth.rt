@@ -4,14 +4,14 @@ ghost use Rattle.std.specs.Prelude.{◌≡◌, ◌==◌, ℕ, length, not, slice
 ghost use Rattle.std.specs.List.{list_any};
 ghost use Rattle.am_universe.specs.LabelSet.{LabelMap};
 ghost use Rattle.am_eval.specs.QuestionView.{question_view};
-ghost use Rattle.am_eval.specs.Question.{reaches, satisfies};
+ghost use Rattle.am_eval.specs.Question.{satisfies};
 ghost use Rattle.am_alerts.specs.AlertLabels.{flag, AreTruths};
 ghost use Rattle.am_alerts.specs.Outcomes.{HasOutcome};
 
 use crate::alert_labels::AlertLabels;
 use crate::alert_lists::without;
 use crate::outcomes::{Outcome, Outcomes, receivers_at};
-use am_config::Path;
+use crate::route_ends::{reaches, rows_of};
 use am_eval::{Question, Reach, World, ends, inhibited_by, silenced_by};
 use am_universe::LabelSet;
 use std::alloc::{AllocError, Global};
@@ -32,8 +32,10 @@ pub fn is_true_of(
     let receivers = receivers_at(alloc, world.config(), ends.as_slice())?;
     let silencers = silenced_by(alloc, world, set)?;
     let inhibitors = inhibited_by(alloc, world, set)?;
+    let rows = rows_of(alloc, ends.as_slice())?;
     let outcome = Outcome {
-        ends: ends.as_slice(),
+        rows: rows.as_slice(),
+        alert: 0,
         receivers: receivers.as_slice(),
         silencers: silencers.as_slice(),
         inhibitors: inhibitors.as_slice(),
@@ -121,8 +123,8 @@ fn satisfies(
         Question::Silenced => Ok(!outcome.silencers.is_empty()),
         Question::Inhibited => Ok(!outcome.inhibitors.is_empty()),
         Question::Receiver(receiver) => Ok(has_receiver(outcome.receivers, *receiver)),
-        Question::Ends(path) => Ok(reaches(outcome.ends, Reach::Ends, path)),
-        Question::Enters(path) => Ok(reaches(outcome.ends, Reach::Enters, path)),
+        Question::Ends(path) => Ok(reaches(outcome.rows, outcome.alert, Reach::Ends, path)),
+        Question::Enters(path) => Ok(reaches(outcome.rows, outcome.alert, Reach::Enters, path)),
         Question::Braces(matchers) => matchers.matches(alloc, set),
         Question::Not(question) => Ok(!satisfies(alloc, world, question, set, outcome)?),
         Question::And(left, right) => {
@@ -143,14 +145,4 @@ fn has_receiver(receivers: &[usize], receiver: usize) -> bool
     ensures { result ≡ list_any (λ other. other == receiver) receivers.now }
 {
     receivers.iter().any(|other| *other == receiver)
-}
-
-/// Whether an alert with these ends reaches the route at a path.
-fn reaches(ends: &[Path], reach: Reach, path: &Path) -> bool
-    ensures { result ≡ list_any (reaches reach path.now) ends.now }
-{
-    match reach {
-        Reach::Ends => ends.iter().any(|end| *end == *path),
-        Reach::Enters => ends.iter().any(|end| end.leads_through(path)),
-    }
 }

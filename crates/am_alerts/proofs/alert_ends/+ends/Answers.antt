@@ -1,4 +1,4 @@
-use Rattle.std.proofs.Common.{◌≡◌, ◌+◌, ◌++◌, ◌∷◌, [], ◌&&◌, ℕ, List, Bool, Some, arith, false, true, not, if◌then◌else◌, map, drop, refl, sym, ap, ◌∙◌, length, append-nil}
+use Rattle.std.proofs.Common.{◌≡◌, ◌+◌, ◌++◌, [], ◌&&◌, ℕ, List, Bool, Some, arith, false, true, not, if◌then◌else◌, map, drop, refl, sym, ap, ◌∙◌, length, append-nil}
 use Rattle.std.specs.Prelude.{slice_get}
 use Rattle.std.specs.Global.{Vec}
 use Rattle.std.proofs.lemmas.List.{length-append, drop_all}
@@ -13,7 +13,9 @@ use Rattle.am_config.specs.declared.route.Route.{Route}
 use Rattle.am_eval.proofs.ChildEnds.{ends_from}
 use Rattle.am_eval.specs.Routing.{ends_at, ends_tried, children_seen}
 use Rattle.am_alerts.specs.AlertLabels.{flag}
-use Rattle.am_alerts.specs.AlertLists.{list_at, ends_nowhere}
+use Rattle.am_alerts.specs.AlertLists.{ends_nowhere}
+use Rattle.am_alerts.specs.RouteEnds.{ends_of}
+use Rattle.am_alerts.proofs.RowLemmas.{pushed_row}
 use Rattle.am_alerts.proofs.AlertEnds.{ends_here, child_ends, child_nowhere, if_left}
 use Rattle.am_alerts.proofs.alert_ends.+ends.Goals as goal
 
@@ -22,18 +24,18 @@ add_ends-returns-clause-added t c = λ i s at.
     let path = c.args.path in
     let below = λ (children : Routes). ends_tried (children_seen s 0 children) in
     ends_here s (route_view c.args.route.now) path (flag c.args.among.now i)
-    (flag c.in_ok-matched.matched.items i) (flag c.in_ok-own.own.items i) (list_at c.args.found.now i)
-    (list_at c.add_ends_of_children.new.found i) (list_at c.push_where.new.lists i)
+    (flag c.in_ok-matched.matched.items i) (flag c.in_ok-alerts.alerts.items i)
+    (ends_of c.args.found.now.items i) (ends_of c.add_ends_of_children.new.found.items i)
+    (ends_of c.push.new.self.items i)
     (c.in_ok-matched.ensures.matched.1 i s at
     ∙ ap (λ ms. flag c.args.among.now i && all_hold s ms) c.matchers.ensures.matchers)
-    (c.in_ok-own.ensures.none.1 i s at
+    (c.in_ok-alerts.ensures.none.1 i s at
     ∙ (λ j. flag (c.as_slice.ensures.value j) i && ends_nowhere (below (c.routes.ensures.children j))))
-    (c.in_ok-own.ensures.added i s at
-    ∙ (λ j. list_at c.args.found.now i ++ (if flag (c.as_slice.ensures.value j) i
+    (c.in_ok-alerts.ensures.added i s at
+    ∙ (λ j. ends_of c.args.found.now.items i ++ (if flag (c.as_slice.ensures.value j) i
     then map (λ b. path ++ b) (below (c.routes.ensures.children j)) else [])))
-    (c.in_ok-push_where.ensures.pushed i
-    ∙ ap (λ flags. if flag flags i then list_at c.add_ends_of_children.new.found i ++ path ∷ []
-    else list_at c.add_ends_of_children.new.found i) c.as_slice-2.ensures.value)
+    (ap (λ rows. ends_of rows i) c.in_ok-push.ensures.items
+    ∙ pushed_row c.add_ends_of_children.new.found.items (record { path = path; alerts = c.in_ok-alerts.alerts }) i)
 
 pub add_ends_of_children-overflow_cast-position : goal.add_ends_of_children-overflow_cast-position
 add_ends_of_children-overflow_cast-position t c = grind (arith, common_steps, child_within)
@@ -85,10 +87,10 @@ add_ends_of_children-loop-position-preserved t c =
         c.in_ok-none-2.ensures.count ∙ ap length c.as_slice-in-loop-position.ensures.value ∙ old.count.1,
       );
       added = λ i s at.
-          child_ends s k tree rest _ (left i) (matched i) (next i) c.args.path (list_at c.loop-position.found i)
-          (list_at c.add_ends.new.found i) all (is i s at) (goes i)
+          child_ends s k tree rest _ (left i) (matched i) (next i) c.args.path (ends_of c.loop-position.found.items i)
+          (ends_of c.add_ends.new.found.items i) all (is i s at) (goes i)
           (c.in_ok-matched.ensures.added i s at
-          ∙ (λ j. list_at c.loop-position.found i ++ if_left (flag (c.as_slice.ensures.value j) i)
+          ∙ (λ j. ends_of c.loop-position.found.items i ++ if_left (flag (c.as_slice.ensures.value j) i)
           (c.child-below.ensures.steps j) (ends_at s tree)))
           ∙ old.added i s at;
       none = λ i s at.
@@ -105,7 +107,7 @@ add_ends_of_children-returns-clause-added t c = λ i s at.
     let k = c.loop-position.position in
     let children = c.args.children.now in
     let path = c.args.path in
-    let found = list_at c.loop-position.found i in
+    let found = ends_of c.loop-position.found.items i in
     sym (append-nil found)
     ∙ ap (λ ends. found ++ ends) (sym (nothing (flag c.loop-position.left.items i)))
     ∙ ap (λ (cs : List Route). found ++ if_left (flag c.loop-position.left.items i) path (ends_from s k (map route_view cs)))

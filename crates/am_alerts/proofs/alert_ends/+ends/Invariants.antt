@@ -5,7 +5,8 @@ use Rattle.am_config.specs.ConfigFile.{routes_of, route_count, routes_count}
 use Rattle.am_config.specs.RouteView.{route_view}
 use Rattle.am_eval.proofs.ChildEnds.{ends_from}
 use Rattle.am_alerts.specs.AlertLabels.{flag}
-use Rattle.am_alerts.specs.AlertLists.{list_at, ends_nowhere}
+use Rattle.am_alerts.specs.AlertLists.{ends_nowhere}
+use Rattle.am_alerts.specs.RouteEnds.{ends_of}
 use Rattle.am_alerts.proofs.AlertEnds.{if_left, nowhere_if_left}
 use Rattle.am_alerts.proofs.alert_ends.+ends.Given as goal
 
@@ -15,9 +16,9 @@ abbrev pub invariant-add_ends_of_children-loop-position :
 invariant-add_ends_of_children-loop-position l = record {
   count : (length l.left.items ≡ length l.labels) × (length l.none.items ≡ length l.labels);
   added : (i : ℕ) (s : LabelMap) → slice_get l.labels i ≡ Some s
-      → list_at l.found i ++ if_left (flag l.left.items i) l.path
+      → ends_of l.found.items i ++ if_left (flag l.left.items i) l.path
       (ends_from s l.position (map route_view (drop l.position l.children)))
-      ≡ list_at l.fn.found i ++ if_left (flag l.among i) l.path
+      ≡ ends_of l.fn.found.items i ++ if_left (flag l.among i) l.path
       (ends_from s 0 (map route_view l.children));
   none : (i : ℕ) (s : LabelMap) → slice_get l.labels i ≡ Some s
       → (flag l.none.items i && nowhere_if_left (flag l.left.items i)
