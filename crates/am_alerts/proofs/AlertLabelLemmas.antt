@@ -1,8 +1,8 @@
 -- What is right of the labels of all alerts, in any order; and which alerts pass two tests.
-use Rattle.std.proofs.Common.{◌≡◌, ◌↔◌, ℕ, ◌<◌, ◌≤◌, List, [], ◌∷◌, map, Bool, true, false, ◌&&◌, cond, if◌then◌else◌}
-use Rattle.std.proofs.Common.{arith, Some, None, Option, inl, inr, refl, sym, ap, ◌∙◌, subst, get_or, All}
+use Rattle.std.proofs.Common.{◌≡◌, ◌≢◌, ◌↔◌, ℕ, ◌<◌, ◌≤◌, List, [], ◌∷◌, map, Bool, true, false, ◌&&◌, cond, if◌then◌else◌}
+use Rattle.std.proofs.Common.{arith, Some, None, Option, inl, inr, refl, sym, ap, ◌∙◌, subst, get_or, All, length}
 use lib.Dec.{T}
-use Rattle.std.specs.Prelude.{slice_get, unwrap_or}
+use Rattle.std.specs.Prelude.{slice_get, unwrap_or, Contains}
 use Rattle.std.specs.List.{enumerate_from}
 use Rattle.std.specs.List.Sorted.{IsPermutation}
 use Rattle.std.specs.FinMap.{get, find, entries, get-entries, entries_sorted, is_sorted}
@@ -128,6 +128,30 @@ pub whole_again : (alerts : List LabelMap) (labels others : List AlertLabel)
     → IsPermutation labels others → AreWhole alerts labels → AreWhole alerts others
 whole_again alerts labels others moved whole i s name at none =
     whole i s name at (λ l there. none l (Contains-permutation labels others l moved there))
+
+-- the same labels at other locations in memory
+pub right_still : (alerts : List LabelMap) (labels others : List AlertLabel)
+    → map label_view others ≡ map label_view labels → All (IsRight alerts) labels → All (IsRight alerts) others
+right_still alerts labels others same right k d lt =
+    let l = get_or others k d in
+    let there = IsIn-map label_view others l (IsIn-from_Contains others l (Contains-get_or others k d lt)) in
+    let was = IsIn-unmap label_view labels (label_view l) (subst (λ vs. IsIn vs (label_view l)) same there) in
+    let at = Contains-from_IsIn labels was.0 was.1 in
+    subst (λ (v : ℕ × (List ℕ × List ℕ)). (v.0 < length alerts)
+    × ((s : LabelMap) → slice_get alerts v.0 ≡ Some s → value_of s v.1.0 ≡ v.1.1))
+    (ap label_view at.2 ∙ was.2) (right at.0 was.0 at.1)
+
+pub whole_still : (alerts : List LabelMap) (labels others : List AlertLabel)
+    → map label_view others ≡ map label_view labels → AreWhole alerts labels → AreWhole alerts others
+whole_still alerts labels others same whole i s name at none = whole i s name at still
+  where
+    still : (l : AlertLabel) → Contains labels l → l.name.now ≡ name → l.alert ≢ i
+    still l there named own =
+        let now = IsIn-unmap label_view others (label_view l) (subst (λ vs. IsIn vs (label_view l)) (sym same)
+        (IsIn-map label_view labels l (IsIn-from_Contains labels l there))) in
+        none now.0 (Contains-from_IsIn others now.0 now.1)
+        (ap (λ (v : ℕ × (List ℕ × List ℕ)). v.1.0) now.2 ∙ named)
+        (ap (λ (v : ℕ × (List ℕ × List ℕ)). v.0) now.2 ∙ own)
 
 -- ---- Alerts that pass tests.
 

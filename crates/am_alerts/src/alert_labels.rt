@@ -72,6 +72,7 @@ impl<'w> AlertLabels<'w> {
     {
         let mut labels = labels_of(alloc, alerts)?;
         labels.sort_unstable_by_key(|label| label.value);
+        share_values(&mut labels);
         labels.sort_by_key(|label| label.name)?;
         let positions = positions_in(alloc, labels.as_slice())?;
         let firsts = firsts_in(alloc, labels.as_slice())?;
@@ -303,6 +304,19 @@ fn add_labels<'w>(
         })?;
     }
     Ok(())
+}
+
+/// Lets labels with the same value in a row share one text, because one place in memory is read far
+/// faster than many.
+fn share_values<'w>(labels: &mut Vec<AlertLabel<'w>>)
+    ensures { map label_view labels.new.items ≡ map label_view labels.old.items }
+{
+    for k in 1..labels.len() {
+        let value = labels[k - 1].value;
+        if labels[k].value == value {
+            labels[k].value = value;
+        }
+    }
 }
 
 /// Returns for each label the position of its alert.
