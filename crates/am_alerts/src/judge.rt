@@ -45,7 +45,7 @@ pub(crate) struct Judge<'t, 'w> {
     /// values.
     pub(crate) found: Vec<Answer<'w>>,
     pub(crate) before: Vec<Answer<'w>>,
-    /// So many of those before have smaller values than the next one.
+    /// So many of those before have values that come no more.
     pub(crate) passed: usize,
 }
 
@@ -98,14 +98,16 @@ impl<'t, 'w> Judge<'t, 'w> {
         ensures found { self.new.found ≡ self.old.found }
         ensures sound { IsSound self.new }
     {
-        while self.passed < self.before.len() && self.before[self.passed].value < value {
-            self.passed += 1;
-        }
-        if self.passed < self.before.len() {
+        while self.passed < self.before.len() {
             let known = self.before[self.passed];
             if known.value == value {
+                self.passed += 1;
                 return known.passes;
             }
+            if value < known.value {
+                break;
+            }
+            self.passed += 1;
         }
         self.test.passes(value)
     }
