@@ -38,6 +38,15 @@ impl Column {
         })
     }
 
+    /// Whether this is the column of a byte. It takes no memory. `false` promises nothing.
+    pub(crate) fn is_of(&self, nfa: &Nfa, sight: Sight, byte: u8) -> bool
+        ensures { IsTrue result → IsColumn nfa.now sight byte self.now }
+    {
+        self.kind == sight.kind_of(byte)
+            && self.starts == is_start(byte)
+            && has_edges(self.edges.as_slice(), nfa, byte)
+    }
+
     /// Whether two columns are the same. `false` promises nothing.
     pub(crate) fn same(&self, other: &Column) -> bool
         ensures { IsTrue result → (nfa : Nfa) (sight : Sight) (byte : ℕ)
@@ -68,6 +77,26 @@ fn edges_of(alloc: Global, nfa: &Nfa, byte: u8) -> Result<Vec<Edge>, AllocError>
         }
     }
     Ok(edges)
+}
+
+/// Whether these are the steps that reading a byte may take, in the order of the states.
+fn has_edges(edges: &[Edge], nfa: &Nfa, byte: u8) -> bool
+    ensures { IsTrue result → edges.now ≡ edges_of nfa.now byte }
+{
+    let mut seen = 0;
+    for q in 0..nfa.states.len() {
+        if let Some(to) = nfa.next_on(nfa.state(q as u32), byte) {
+            if seen == edges.len() {
+                return false;
+            }
+            let edge = edges[seen];
+            if edge.from != q as u32 || edge.to != to {
+                return false;
+            }
+            seen += 1;
+        }
+    }
+    seen == edges.len()
 }
 
 /// Whether two lists have the same steps in the same order.

@@ -34,11 +34,13 @@ impl Columns {
     {
         let mut columns: Vec<Column> = Vec::new(alloc);
         let mut classes = Vec::with_capacity(alloc, 256)?;
+        let mut last = 0;
         for byte in 0..=u8::MAX {
-            let Some(class) = class_of(alloc, scan, byte, &mut columns)? else {
+            let Some(class) = class_of(alloc, scan, byte, last, &mut columns)? else {
                 return Ok(None);
             };
             classes.push(class)?;
+            last = class;
         }
         let arrivals = arrivals_of(alloc, columns.as_slice(), scan.nfa.states.len())?;
         Ok(Some(Columns {
@@ -52,10 +54,14 @@ impl Columns {
 /// Returns the position of the column of a byte, and adds the column if it is not listed yet. A
 /// byte that is not scanned has no column, so any position will do. Returns `None` if the position
 /// does not fit in a byte.
+///
+/// Most bytes have the column of the byte before them, whose class is `last`. It is tried first,
+/// since making a column takes memory.
 fn class_of(
     alloc: Global,
     scan: &PatternScan,
     byte: u8,
+    last: u8,
     columns: &mut Vec<Column>,
 ) -> Result<Option<u8>, AllocError>
     ensures grows { Grows columns.old.items columns.new.items }
@@ -66,6 +72,11 @@ fn class_of(
 {
     if !scan.bytes.has(byte) {
         return Ok(Some(0));
+    }
+    if let Some(column) = columns.get(usize::from(last)) {
+        if column.is_of(&scan.nfa, scan.sight, byte) {
+            return Ok(Some(last));
+        }
     }
     let column = Column::of(alloc, &scan.nfa, scan.sight, byte)?;
     let place = place_of(columns, column)?;

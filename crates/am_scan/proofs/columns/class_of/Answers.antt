@@ -1,6 +1,13 @@
--- The column was made for the byte.
-use Rattle.std.proofs.Common.{◌≡◌, Some, slice_get, sym, subst}
+-- The column is that of the byte before, or was made for this byte.
+use Rattle.std.proofs.Common.{◌≡◌, Some, slice_get, refl, sym, subst}
+use Rattle.std.proofs.lemmas.Option.{slice_get_read}
 use Rattle.am_scan.proofs.columns.class_of.Goals as goal
+
+pub returns-then-is_of-clause-class : goal.returns-then-is_of-clause-class
+returns-then-is_of-clause-class c = λ scanned.
+    let found = c.in-Some.ensures.lookup in
+    let at = rw (c.deref.ensures.value, c.from.ensures) at (slice_get_read c.deref.result.now _ c.from.result _ refl found.3.0 found.1) in
+    (c.in-Some.column.now, at, c.is_of.ensures c.if-is_of.true)
 
 pub returns-clause-class : goal.returns-clause-class
 returns-clause-class c = λ scanned.
