@@ -3,6 +3,7 @@ use Rattle.std.specs.Prelude.{◌≡◌, ◌≢◌, ◌<◌, ◌≤◌, ℕ, Lis
 use Rattle.std.specs.Prelude.{if◌then◌else◌}
 use Rattle.std.specs.Prelude.{◌⊎◌, slice_get, slice_index, slice_index_or, Option, Some, IfSome}
 use Rattle.std.specs.Prelude.{Contains, All}
+use Rattle.std.specs.Borrow.{Bor}
 use Rattle.std.specs.List.{flat_map, enumerate_from}
 use Rattle.std.specs.List.Sorted.{IsSortedByKey}
 use Rattle.std.specs.FinMap.{entries}
@@ -37,23 +38,26 @@ AreWhole alerts labels =
     → ((l : AlertLabel) → Contains labels l → l.name.now ≡ name → l.alert ≢ i)
     → value_of s name ≡ []
 
--- For each label there is the position of one that has the same value.
-abbrev pub HaveFirsts : List AlertLabel → List ℕ → Type 0
-HaveFirsts labels firsts =
-    (length labels ≤ length firsts)
+-- A value is at a place. For each label there is the place of its value.
+abbrev pub HasValue : List (Bor (List ℕ)) → ℕ → List ℕ → Type 0
+HasValue values place text =
+    (place < length values)
+    × ((v : Bor (List ℕ)) → slice_get values place ≡ Some v → v.now ≡ text)
+
+abbrev pub HaveValues : List AlertLabel → List ℕ → List (Bor (List ℕ)) → Type 0
+HaveValues labels places values =
+    (length labels ≤ length places)
     × ((k : ℕ) (l : AlertLabel) → slice_get labels k ≡ Some l
-    → (slice_index firsts k < length labels)
-    × ((m : AlertLabel) → slice_get labels (slice_index firsts k) ≡ Some m
-    → m.value.now ≡ l.value.now))
+    → HasValue values (slice_index places k) l.value.now)
 
 -- These are the labels of the alerts, sorted by their names.
 pub record AreSorted (alerts : List LabelMap) (labels : List AlertLabel)
-    (positions firsts : List ℕ) : Type 0 where
+    (positions places : List ℕ) (values : List (Bor (List ℕ))) : Type 0 where
   pub right : All (IsRight alerts) labels
   pub whole : AreWhole alerts labels
   pub sorted : IsSortedByKey (λ l. l.name.now) (slice_cmp nat_cmp) labels
   pub placed : map (λ l. l.alert) labels ≡ positions
-  pub rows : HaveFirsts labels firsts
+  pub rows : HaveValues labels places values
 
 -- A truth for each alert: that of a test; and those alerts of some that pass a test.
 abbrev pub flag : List Bool → ℕ → Bool
@@ -70,10 +74,10 @@ Keeps alerts test before after =
     × ((i : ℕ) (s : LabelMap) → slice_get alerts i ≡ Some s
     → flag after i ≡ (flag before i && test s))
 
--- What is known is the truth of a test on the value of the label at a position.
-abbrev pub IsKnown : List AlertLabel → ValueTest → Option (ℕ × Bool) → Type 0
-IsKnown labels test known = IfSome known (λ answer. (l : AlertLabel)
-    → slice_get labels answer.0 ≡ Some l → answer.1 ≡ passes test l.value.now)
+-- What is known is the truth of a test on the value at a place.
+abbrev pub IsKnown : List (Bor (List ℕ)) → ValueTest → Option (ℕ × Bool) → Type 0
+IsKnown values test known = IfSome known (λ answer. (v : Bor (List ℕ))
+    → slice_get values answer.0 ≡ Some v → answer.1 ≡ passes test v.now)
 
 -- In a range of labels, one is that of the alert at a position.
 pub record OwnLabel (labels : List AlertLabel) (start end i : ℕ) : Type 0 where

@@ -5,7 +5,8 @@
 //! be many matchers and alerts.
 
 ghost use Rattle.std.specs.Prelude.{◌≡◌, ◌++◌, ◌≤◌, ◌<◌, ◌+◌, ◌↔◌, ℕ, length, map, slice_get, Some};
-ghost use Rattle.std.specs.Prelude.{IfOk};
+ghost use Rattle.std.specs.Prelude.{IfOk, List};
+ghost use Rattle.std.specs.Borrow.{Bor};
 ghost use Rattle.std.specs.Prelude.{◌&&◌, All, OnOk, true, replicate};
 ghost use Rattle.std.specs.Ordering.{nat_cmp};
 ghost use Rattle.std.specs.Cmp.Lexicographic.{slice_cmp};
@@ -17,7 +18,7 @@ ghost use Rattle.am_eval.specs.Inhibition.{have_equal};
 ghost use Rattle.am_alerts.specs.declared.alert_labels.AlertLabel.{AlertLabel};
 ghost use Rattle.am_alerts.specs.Judge.{passes, IsSound};
 ghost use Rattle.am_alerts.specs.AlertLabels.{label_view, labels_of, all_labels};
-ghost use Rattle.am_alerts.specs.AlertLabels.{AreJudged, HaveFirsts, IsKnown};
+ghost use Rattle.am_alerts.specs.AlertLabels.{AreJudged, HaveValues, HasValue, IsKnown};
 ghost use Rattle.am_alerts.specs.AlertLabels.{AreTruths, Keeps, flag};
 
 use crate::judge::{Judge, ValueTest, judge_for};
@@ -44,8 +45,10 @@ pub(crate) struct AlertLabels<'w> {
     labels: Vec<AlertLabel<'w>>,
     /// For each label, the position of its alert.
     positions: Vec<usize>,
-    /// For each label, the position of the first in a row of labels with the same value.
-    firsts: Vec<usize>,
+    /// For each label, the place of its value.
+    places: Vec<usize>,
+    /// The values, each once for a row of labels that have it.
+    values: Vec<&'w str>,
 }
 
 impl<'w> Model for AlertLabels<'w> {
@@ -62,7 +65,7 @@ impl<'w> Model for AlertLabels<'w> {
     ghost view = { λ a. a.alerts.now };
 
     ghost invariant = { λ a.
-        AreSorted a.alerts.now a.labels.items a.positions.items a.firsts.items };
+        AreSorted a.alerts.now a.labels.items a.positions.items a.places.items a.values.items };
 }
 
 impl<'w> AlertLabels<'w> {
@@ -75,12 +78,13 @@ impl<'w> AlertLabels<'w> {
         share_values(&mut labels);
         labels.sort_by_key(|label| label.name)?;
         let positions = positions_in(alloc, labels.as_slice())?;
-        let firsts = firsts_in(alloc, labels.as_slice())?;
+        let (places, values) = values_in(alloc, labels.as_slice())?;
         Ok(AlertLabels {
             alerts,
             labels,
             positions,
-            firsts,
+            places,
+            values,
         })
     }
 
@@ -181,7 +185,8 @@ impl<'w> AlertLabels<'w> {
         judge_all(
             self.labels.as_slice(),
             self.positions.as_slice(),
-            self.firsts.as_slice(),
+            self.places.as_slice(),
+            self.values.as_slice(),
             range_of(self.labels.as_slice(), name),
             judge,
             among,
@@ -209,7 +214,8 @@ fn those_if(alloc: Global, among: &[bool], condition: bool) -> Result<Vec<bool>,
 fn judge_all<'w>(
     labels: &[AlertLabel<'w>],
     positions: &[usize],
-    firsts: &[usize],
+    places: &[usize],
+    values: &[&'w str],
     range: (usize, usize),
     judge: &mut Judge<'_, 'w>,
     among: &[bool],
@@ -217,7 +223,7 @@ fn judge_all<'w>(
 ) -> Result<(), AllocError>
     requires range { (range.0 ≤ range.1) × (range.1 ≤ length labels.now) }
     requires positions { map (λ l. l.alert) labels.now ≡ positions.now }
-    requires firsts { HaveFirsts labels.now firsts.now }
+    requires values { HaveValues labels.now places.now values.now }
     requires alerts { All (λ l. l.alert < length among.now) labels.now }
     requires count { length kept.old ≡ length among.now }
     requires sound { IsSound judge.old }
@@ -231,36 +237,36 @@ fn judge_all<'w>(
     for k in range.0..range.1 {
         let alert = positions[k];
         if among[alert] {
-            kept[alert] = label_passes(labels, firsts[k], judge, &mut known)?;
+            kept[alert] = value_passes(values, places[k], judge, &mut known)?;
         }
     }
     Ok(())
 }
 
-/// Whether the value of the label at a position passes a test. The last answer is kept, and is
-/// given again for each further label in a row with the same value. Fails only if memory runs out.
-fn label_passes<'w>(
-    labels: &[AlertLabel<'w>],
-    first: usize,
+/// Whether the value at a place passes a test. The last answer is kept, and is given again for each
+/// further label in a row with the same value. Fails only if memory runs out.
+fn value_passes<'w>(
+    values: &[&'w str],
+    place: usize,
     judge: &mut Judge<'_, 'w>,
     known: &mut Option<(usize, bool)>,
 ) -> Result<bool, AllocError>
-    requires within { first < length labels.now }
+    requires within { place < length values.now }
     requires sound { IsSound judge.old }
-    requires known { IsKnown labels.now judge.old.test known.old }
-    ensures truth { IfOk result (λ truth. (l : AlertLabel) → slice_get labels.now first ≡ Some l
-        → truth ≡ passes judge.old.test l.value.now) }
-    ensures known { OnOk result (IsKnown labels.now judge.old.test known.new) }
+    requires known { IsKnown values.now judge.old.test known.old }
+    ensures truth { IfOk result (λ truth. (v : Bor (List ℕ)) → slice_get values.now place ≡ Some v
+        → truth ≡ passes judge.old.test v.now) }
+    ensures known { OnOk result (IsKnown values.now judge.old.test known.new) }
     ensures test { OnOk result (judge.new.test ≡ judge.old.test) }
     ensures sound { OnOk result (IsSound judge.new) }
 {
     if let Some((other, answer)) = *known {
-        if other == first {
+        if other == place {
             return Ok(answer);
         }
     }
-    let answer = judge.passes(labels[first].value)?;
-    *known = Some((first, answer));
+    let answer = judge.passes(values[place])?;
+    *known = Some((place, answer));
     Ok(answer)
 }
 
@@ -330,17 +336,33 @@ fn positions_in(alloc: Global, labels: &[AlertLabel<'_>]) -> Result<Vec<usize>, 
     Ok(positions)
 }
 
-/// Returns for each label the position of the first in a row of labels with the same value.
-fn firsts_in(alloc: Global, labels: &[AlertLabel<'_>]) -> Result<Vec<usize>, AllocError>
-    ensures { IfOk result (λ firsts. HaveFirsts labels.now firsts.items) }
+/// Returns for each label the place of its value, and the values. A value is there once for a row
+/// of labels that have it, so that few places in memory are read.
+fn values_in<'w>(
+    alloc: Global,
+    labels: &[AlertLabel<'w>],
+) -> Result<(Vec<usize>, Vec<&'w str>), AllocError>
+    ensures { IfOk result (λ found. HaveValues labels.now found.0.items found.1.items) }
 {
-    let mut firsts = Vec::with_capacity(alloc, labels.len())?;
-    let mut first = 0;
+    let mut places = Vec::with_capacity(alloc, labels.len())?;
+    let mut values = Vec::new(alloc);
     for k in 0..labels.len() {
-        if labels[k].value != labels[first].value {
-            first = k;
-        }
-        firsts.push(first)?;
+        let place = place_of(labels[k].value, &mut values)?;
+        places.push(place)?;
     }
-    Ok(firsts)
+    Ok((places, values))
+}
+
+/// Returns the place of a value, and adds the value unless it is the last one.
+fn place_of<'w>(value: &'w str, values: &mut Vec<&'w str>) -> Result<usize, AllocError>
+    ensures grows { (k : ℕ) (text : List ℕ) → HasValue values.old.items k text
+        → HasValue values.new.items k text }
+    ensures place { IfOk result (λ place. HasValue values.new.items place value.now) }
+{
+    let count = values.len();
+    if count > 0 && values[count - 1] == value {
+        return Ok(count - 1);
+    }
+    values.push(value)?;
+    Ok(count)
 }

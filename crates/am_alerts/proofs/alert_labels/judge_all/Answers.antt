@@ -99,17 +99,18 @@ bounds-among-alert c =
     subst (λ (n : ℕ). n < length c.args.among.now) (sym (placed labels c.args.positions.now k c.requires.positions lt))
     (c.requires.alerts k blank lt)
 
-pub label_passes-requires-clause-within : goal.label_passes-requires-clause-within
-label_passes-requires-clause-within c =
+pub value_passes-requires-clause-within : goal.value_passes-requires-clause-within
+value_passes-requires-clause-within c =
     let labels = c.args.labels.now in
     let k = c.loop-k.k in
     let lt : k < length labels = omega (arith, c.loop-k-test.true, c.requires.range.1) in
-    (c.requires.firsts.1 k (get_or labels k blank) (slice_get-get_or labels k blank lt)).0
+    (c.requires.values.1 k (get_or labels k blank) (slice_get-get_or labels k blank lt)).0
 
 pub loop-k-preserved : goal.loop-k-preserved
 loop-k-preserved c =
     let labels = c.args.labels.now in
-    let firsts = c.args.firsts.now in
+    let places = c.args.places.now in
+    let values = c.args.values.now in
     let k = c.loop-k.k in
     let test = c.args.judge.now.test in
     let among = c.args.among.now in
@@ -119,29 +120,29 @@ loop-k-preserved c =
     let l = get_or labels k blank in
     let there = slice_get-get_or labels k blank lt in
     let at = placed labels c.args.positions.now k c.requires.positions lt in
-    let first = c.requires.firsts.1 k l there in
+    let own = c.requires.values.1 k l there in
     elim c.if-among-alert.branch [
       | then-among-alert+in_ok-kept w ↦
-          let shown = get_or labels (slice_index_or firsts k 0) blank in
-          let found = slice_get-get_or labels (slice_index_or firsts k 0) blank first.0 in
+          let shown = get_or values (slice_index_or places k 0) blank.value in
+          let found = slice_get-get_or values (slice_index_or places k 0) blank.value own.0 in
           record {
             test = ap (λ j. j.test) w.judge-is ∙ w.in_ok-kept.ensures.test ∙ old.test;
             sound = subst IsSound (sym w.judge-is) w.in_ok-kept.ensures.sound;
-            known = subst (IsKnown labels test) (sym w.known-is)
-                (subst (λ t. IsKnown labels t w.label_passes.new.known) old.test w.in_ok-kept.ensures.known);
+            known = subst (IsKnown values test) (sym w.known-is)
+                (subst (λ t. IsKnown values t w.value_passes.new.known) old.test w.in_ok-kept.ensures.known);
             judged = subst (AreJudged labels c.args.range.0 (k + 1) test among before)
                 (sym (w.kept-is ∙ ap (λ n. set c.loop-k.kept n w.in_ok-kept.field-0) at))
                 (judged_set labels c.args.range.0 k test among before c.loop-k.kept l w.in_ok-kept.field-0
                 c.loop-k.auto.k there
                 (omega (arith, c.requires.alerts k blank lt, c.requires.count, c.loop-k.auto.kept))
                 (ap (flag among) (sym at) ∙ w.if-among-alert.true)
-                (w.in_ok-kept.ensures.truth shown found ∙ ap (λ t. passes t shown.value.now) old.test
-                ∙ ap (passes test) (first.1 shown found)) old.judged);
+                (w.in_ok-kept.ensures.truth shown found ∙ ap (λ t. passes t shown.now) old.test
+                ∙ ap (passes test) (own.1 shown found)) old.judged);
           }
       | else-among-alert w ↦ record {
         test = ap (λ j. j.test) w.judge-is ∙ old.test;
         sound = subst IsSound (sym w.judge-is) old.sound;
-        known = subst (IsKnown labels test) (sym w.known-is) old.known;
+        known = subst (IsKnown values test) (sym w.known-is) old.known;
         judged = subst (AreJudged labels c.args.range.0 (k + 1) test among before) (sym w.kept-is)
             (judged_left labels c.args.range.0 k test among before c.loop-k.kept l c.loop-k.auto.k there
             (ap (flag among) (sym at) ∙ w.if-among-alert.false) old.judged);

@@ -7,6 +7,6 @@ abbrev pub invariant-loop-k : goal.invariant-loop-k
 invariant-loop-k l = record {
   test : l.judge.test ≡ l.initial.judge.test;
   sound : IsSound l.judge;
-  known : IsKnown l.labels l.initial.judge.test l.known;
+  known : IsKnown l.values l.initial.judge.test l.known;
   judged : AreJudged l.labels l.fn.range.0 l.k l.initial.judge.test l.among l.initial.kept l.kept;
 }

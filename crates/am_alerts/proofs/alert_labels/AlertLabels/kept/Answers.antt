@@ -16,7 +16,7 @@ returns-clause-kept c =
     (omega (arith, count, c.in_ok-kept.ensures.count, c.in_ok-kept.kept.ok.0)) in
     let judged = rw (c.as_slice.ensures.value, c.begin-absent.ensures.test, c.deref_mut.ensures.value)
     at c.in_ok-judge_all.ensures.judged in
-    let exactly = rw c.as_slice-4.ensures.value at c.range_of.ensures.exactly in
+    let exactly = rw c.as_slice-5.ensures.value at c.range_of.ensures.exactly in
     let each = kept_of alerts labels range.0 range.1 c.args.judge.now.test among c.in_ok-kept.kept.items new
     c.args.name.now
     (subst (λ xs. All (IsRight xs) labels) c.self.view_is c.self.invariant.right)

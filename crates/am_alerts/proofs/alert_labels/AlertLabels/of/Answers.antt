@@ -2,7 +2,7 @@ use Rattle.std.proofs.Common.{map, sym, ap, ◌∙◌, subst}
 use Rattle.std.proofs.lemmas.List.Sorted.{All-permutation, answers_always}
 use Rattle.std.proofs.Common.{rules}
 use Rattle.am_alerts.specs.declared.alert_labels.AlertLabel.{AlertLabel}
-use Rattle.am_alerts.specs.AlertLabels.{IsRight, HaveFirsts}
+use Rattle.am_alerts.specs.AlertLabels.{IsRight, HaveValues}
 use Rattle.am_alerts.proofs.AlertLabelLemmas.{each_right, right_still, whole_of_all, whole_again, whole_still}
 use Rattle.am_alerts.proofs.alert_labels.AlertLabels.of.Goals as goal
 
@@ -23,6 +23,6 @@ invariant_of-result c =
       sorted = c.in_ok-sort_by_key.ensures.sorted (λ l. l.name)
           (answers_always _ _ _ (λ f a r g h. search rules));
       placed = ap (map (λ (l : AlertLabel). l.alert)) (sym c.as_slice.ensures.value) ∙ c.in_ok-positions.ensures;
-      rows = subst (λ labels. HaveFirsts labels c.in_ok-firsts.firsts.items) c.as_slice-2.ensures.value
-          c.in_ok-firsts.ensures;
+      rows = subst (λ labels. HaveValues labels c.in_ok-places.places.items c.in_ok-places.values.items)
+          c.as_slice-2.ensures.value c.in_ok-places.ensures;
     }
