@@ -15,10 +15,11 @@ ghost use Rattle.am_complete.specs.Representatives.{IsUsual, GainsOnly};
 use crate::AskedLabel;
 use crate::usual_texts::usual_texts;
 use am_classes::{Alphabet, LabelTests, Tested};
-use am_labels::{Comparison, Matcher};
+use am_labels::Matcher;
 use am_list_files::Alerts;
 use am_universe::limits::MAX_VALUES;
 use std::alloc::{AllocError, Global};
+use std::collections::HashSet;
 
 /// Returns texts that stand for the classes of a label's texts, as these texts do. They are chosen
 /// and put in order for a reader: absence comes first, and texts with a line feed come last.
@@ -79,21 +80,36 @@ fn chosen_texts(
     ensures { IfOk result (λ chosen.
         AreChosenEach usual.now wanted.now (map string_bytes chosen.items)) }
 {
+    let named = named_texts(alloc, matchers)?;
     let mut chosen = Vec::with_capacity(alloc, wanted.len())?;
     for text in wanted {
-        let like = chosen_text(matchers, usual, text);
+        let like = chosen_text(&named, usual, text);
         chosen.push(String::from_str(alloc, like)?)?;
     }
     Ok(chosen)
 }
 
+/// Returns the texts that matchers name: those that they ask for, alone or as the only exception.
+fn named_texts<'m>(
+    alloc: Global,
+    matchers: &[&'m Matcher],
+) -> Result<HashSet<&'m str>, AllocError> {
+    let mut named = HashSet::new(alloc);
+    for matcher in matchers {
+        if !matcher.op().takes_pattern() {
+            named.insert(matcher.value())?;
+        }
+    }
+    Ok(named)
+}
+
 /// Returns a text that is alike to a wanted one: that text itself if it is absence or a matcher
 /// names it, or else the first of the usual texts, if one is.
-fn chosen_text<'t>(matchers: &[&Matcher], usual: &'t [Tested], wanted: &'t Tested) -> &'t str
+fn chosen_text<'t>(named: &HashSet<&str>, usual: &'t [Tested], wanted: &'t Tested) -> &'t str
     ensures { IsChosen usual.now wanted.now result.now }
 {
     let text = wanted.text.as_str();
-    if text.is_empty() || is_named(matchers, text) {
+    if text.is_empty() || named.contains(text) {
         return text;
     }
     match first_alike(usual, wanted) {
@@ -107,16 +123,6 @@ fn first_alike<'t>(usual: &'t [Tested], wanted: &Tested) -> Option<&'t Tested>
     ensures { option_map (λ t. t.now) result ≡ find (has_same_hits wanted.now) usual.now }
 {
     usual.iter().find(|other| other.hits == wanted.hits)
-}
-
-/// Whether a matcher names a text: it asks for this text alone, or for all others.
-fn is_named(matchers: &[&Matcher], text: &str) -> bool {
-    for matcher in matchers {
-        if matcher.op().comparison() == Comparison::Text && matcher.value() == text {
-            return true;
-        }
-    }
-    false
 }
 
 /// Puts the texts of a label in order: absence first, and texts with a line feed last.
