@@ -16,3 +16,4 @@ pub mod NeededTexts
 pub mod LabelStates
 pub mod RoomBeside
 pub mod RepresentativeTexts
+pub mod BesideTexts

@@ -53,7 +53,7 @@ all_gained P So old new all so gains =
       | inr gained ↦ so x gained
     ])
 
-pub all_moved : (P : List ℕ → Type 0) (xs ys : List (List ℕ)) → IsPermutation xs ys
+pub all_moved : {X : Type 0} (P : X → Type 0) (xs ys : List X) → IsPermutation xs ys
     → AllByRecursion P xs → AllByRecursion P ys
 all_moved P xs ys moved all =
     AllByRecursion-each P ys (λ y i. AllByRecursion-at P xs y all (IsIn-from_Contains xs y

@@ -1,7 +1,8 @@
 //! The texts that a label lacks in a space, and what that says about the label.
 
 ghost use Rattle.std.specs.Prelude.{◌≡◌, ◌≢◌, List, [], IfOk, IfSome, IfNone, map, string_bytes};
-ghost use Rattle.std.specs.Prelude.{false};
+ghost use Rattle.std.specs.Prelude.{◌++◌, Contains, false};
+ghost use Rattle.std.specs.List.{AllByRecursion};
 ghost use Rattle.std.specs.Option.{option_map_or};
 ghost use Rattle.am_universe.specs.LabelSet.{LabelMap};
 ghost use Rattle.am_labels.specs.Matcher.{Matcher};
@@ -24,6 +25,7 @@ use am_labels::Space;
 use am_list_files::Alerts;
 use am_universe::limits::MAX_VALUES;
 use std::alloc::{AllocError, Global};
+use std::collections::HashSet;
 use std::marker::Model;
 
 /// The texts that a label lacks in a space. If they are all, `count` is the number of classes of
@@ -204,7 +206,47 @@ fn missing_texts(
         (map string_bytes missing.items)) }
 {
     let standing = standing_texts(alloc, space, name)?;
+    // A text that stands is alike to itself, so no test is needed for it.
+    let wanted = texts_beside(alloc, standing.as_slice(), texts)?;
+    if wanted.is_empty() {
+        return Ok(wanted);
+    }
     let standing = tests.tested(alloc, standing)?;
-    let wanted = tests.tested(alloc, texts)?;
+    let wanted = tests.tested(alloc, wanted)?;
     new_texts(alloc, standing, wanted)
+}
+
+/// Returns those of these texts that are not among others.
+fn texts_beside(
+    alloc: Global,
+    others: &[String],
+    texts: Vec<String>,
+) -> Result<Vec<String>, AllocError>
+    ensures from { IfOk result (λ beside. AllByRecursion (Contains (map string_bytes texts.items))
+        (map string_bytes beside.items)) }
+    ensures all { IfOk result (λ beside.
+        AllByRecursion (Contains (map string_bytes others.now ++ map string_bytes beside.items))
+        (map string_bytes texts.items)) }
+{
+    let known = set_of(alloc, others)?;
+    let mut beside = Vec::new(alloc);
+    for text in texts {
+        if known.contains(text.as_str()) {
+            continue;
+        }
+        beside.push(text)?;
+    }
+    Ok(beside)
+}
+
+/// Returns texts as a set.
+fn set_of<'t>(alloc: Global, texts: &'t [String]) -> Result<HashSet<&'t str>, AllocError>
+    ensures { IfOk result (λ set.
+        AllByRecursion (λ text. Contains (map string_bytes texts.now) text.now) set.keys) }
+{
+    let mut set = HashSet::new(alloc);
+    for text in texts {
+        set.insert(text.as_str())?;
+    }
+    Ok(set)
 }
