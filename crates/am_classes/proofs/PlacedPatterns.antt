@@ -12,7 +12,7 @@ use Rattle.am_scan.specs.Closure.{contains}
 use Rattle.am_scan.specs.declared.pattern_automaton.PatternAutomaton.{PatternAutomaton}
 use Rattle.am_scan.proofs.Places.{each_pushed, get_within, take_front}
 use Rattle.am_classes.specs.Automata.{AreAutomataOf, found_by}
-use Rattle.am_classes.specs.PatternPlaces.{ArePlaced, IsPlaced, is_marked}
+use Rattle.am_classes.specs.PatternPlaces.{ArePlaced, IsPlaced, is_found, is_marked}
 use Rattle.am_classes.specs.Named.{names_texts}
 use Rattle.am_classes.specs.Places.{places_from, places_where}
 use Rattle.am_classes.specs.Truths.{compares, finding}
@@ -50,30 +50,53 @@ contains_places test xs k x at = elim (cases_Bool (test x)) [
   ]
 ]
 
-module _ (keys : List (Bor (List ℕ))) (automata : List PatternAutomaton) (marks : List Bool) (found text : List ℕ)
-    (fit : AreAutomataOf keys automata) (count : length automata ≡ length keys)
-    (marked : (k : ℕ) → k < length keys → slice_index_or marks k false ≡ contains found k)
-    (are : found ≡ found_by automata text) where
-  marked_asks : (o : Option ℕ) (m : Matcher) → IsPlaced keys m o
-      → is_marked marks o ≡ (not (names_texts m) && compares text m)
-  marked_asks None m names = rw names refl
-  marked_asks (Some place) m (other, pattern, at, is) =
-      let within : place < length keys = slice_get_within keys place pattern at in
-      let a = get_within automata place (omega (arith, within, count)) in
-      let asks = asks_pattern m.op m.value text (is_pattern m other (known (comparison m.op))) in
-      let right : (not (names_texts m) && compares text m) ≡ finds m.value text = rw other asks in
-      marked place within ∙ ap (λ f. contains f place) are
-      ∙ contains_places (λ (s : PatternAutomaton). finds (pattern_of s) text) automata place a.0 a.1
-      ∙ ap (λ p. finds p text) (fit place a.0 pattern a.1 at ∙ is) ∙ sym right
+module _ (keys : List (Bor (List ℕ))) (found : List ℕ) where
+  module _ (automata : List PatternAutomaton) (text : List ℕ)
+      (fit : AreAutomataOf keys automata) (count : length automata ≡ length keys)
+      (are : found ≡ found_by automata text) where
+    found_asks : (o : Option ℕ) (m : Matcher) → IsPlaced keys m o
+        → is_found found o ≡ (not (names_texts m) && compares text m)
+    found_asks None m names = rw names refl
+    found_asks (Some place) m (other, pattern, at, is) =
+        let within : place < length keys = slice_get_within keys place pattern at in
+        let a = get_within automata place (omega (arith, within, count)) in
+        let asks = asks_pattern m.op m.value text (is_pattern m other (known (comparison m.op))) in
+        let right : (not (names_texts m) && compares text m) ≡ finds m.value text = rw other asks in
+        ap (λ f. contains f place) are
+        ∙ contains_places (λ (s : PatternAutomaton). finds (pattern_of s) text) automata place a.0 a.1
+        ∙ ap (λ p. finds p text) (fit place a.0 pattern a.1 at ∙ is) ∙ sym right
 
-  pub marked_finding : (matchers : List (Bor Matcher)) (places : List (Option ℕ)) → ArePlaced matchers keys places
-      → length (map (λ (m : Bor Matcher). m.now) matchers) ≡ length matchers
-      → places_where (is_marked marks) places ≡ finding (map (λ m. m.now) matchers) text
-  marked_finding matchers places placed same =
-      same_places_of 0 (is_marked marks) (λ m. not (names_texts m) && compares text m) places (map (λ m. m.now) matchers)
-      (placed.count ∙ sym same) (λ k o m at also.
-      let there = get_mapped (λ (b : Bor Matcher). b.now) matchers k m also in
-      marked_asks o m (subst (λ n. IsPlaced keys n o) there.2 (placed.each k there.0 o there.1 at)))
+    pub found_finding : (matchers : List (Bor Matcher)) (places : List (Option ℕ)) → ArePlaced matchers keys places
+        → length (map (λ (m : Bor Matcher). m.now) matchers) ≡ length matchers
+        → places_where (is_found found) places ≡ finding (map (λ m. m.now) matchers) text
+    found_finding matchers places placed same =
+        same_places_of 0 (is_found found) (λ m. not (names_texts m) && compares text m) places (map (λ m. m.now) matchers)
+        (placed.count ∙ sym same) (λ k o m at also.
+        let there = get_mapped (λ (b : Bor Matcher). b.now) matchers k m also in
+        found_asks o m (subst (λ n. IsPlaced keys n o) there.2 (placed.each k there.0 o there.1 at)))
+
+  -- Marks are of the patterns that are found.
+  module _ (marks : List Bool)
+      (marked : (k : ℕ) → k < length keys → slice_index_or marks k false ≡ contains found k) where
+    is_same : (o p : Option ℕ) (m : Matcher) → o ≡ p → IsPlaced keys m o → is_marked marks o ≡ is_found found p
+    is_same o p m same placed = at o placed ∙ ap (is_found found) same
+      where
+        at : (o : Option ℕ) → IsPlaced keys m o → is_marked marks o ≡ is_found found o
+        at None names = refl
+        at (Some place) (other, pattern, here, is) = marked place (slice_get_within keys place pattern here)
+
+    pub marked_found : (matchers : List (Bor Matcher)) (places : List (Option ℕ)) → ArePlaced matchers keys places
+        → places_where (is_marked marks) places ≡ places_where (is_found found) places
+    marked_found matchers places placed =
+        same_places_of 0 (is_marked marks) (is_found found) places places refl (λ k o p at also.
+        let m = get_within matchers k (omega (arith, slice_get_within places k o at, placed.count)) in
+        is_same o p m.0.now (same_Some o p (sym at ∙ also)) (placed.each k m.0 o m.1 at))
+
+-- None of the places is one of none.
+pub none_found : (from : ℕ) (places : List (Option ℕ)) → places_from from (is_found []) places ≡ []
+none_found from [] = refl
+none_found from (None ∷ places) = none_found (from + 1) places
+none_found from (Some place ∷ places) = none_found (from + 1) places
 
 -- One matcher more has its place.
 pub placed_more : (keys : List (Bor (List ℕ))) (xs matchers : List (Bor Matcher)) (i : ℕ) (m : Bor Matcher)

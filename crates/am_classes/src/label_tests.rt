@@ -5,13 +5,15 @@
 //! tests all texts before the next one does.
 
 ghost use Rattle.std.specs.Prelude.{◌≡◌, ◌<◌, ◌++◌, ℕ, List, IfOk, IfSome, OnOk, IsTrue, false};
-ghost use Rattle.std.specs.Prelude.{length, map, slice_index_or, string_bytes};
+ghost use Rattle.std.specs.Prelude.{◌∷◌, [], if◌then◌else◌};
+ghost use Rattle.std.specs.Prelude.{length, map, slice_index_or, string_bytes, vec_len};
 ghost use Rattle.std.specs.List.{AllByRecursion};
 ghost use Rattle.am_labels.specs.Matcher.{Matcher};
+ghost use Rattle.am_scan.specs.Arrivals.{items_at};
 ghost use Rattle.am_scan.specs.Closure.{contains};
 ghost use Rattle.am_scan.specs.Sight.{IsScanned};
 ghost use Rattle.am_classes.specs.Automata.{AreAutomataOf, AreFor, AreScanned};
-ghost use Rattle.am_classes.specs.PatternPlaces.{ArePlaced, is_marked};
+ghost use Rattle.am_classes.specs.PatternPlaces.{ArePlaced, ArePlacesWith, is_found, is_marked};
 ghost use Rattle.am_classes.specs.Places.{places_where};
 
 use crate::finder::Finder;
@@ -154,15 +156,47 @@ impl<'m> LabelTests<'m> {
         ensures tested { IfOk result (λ all. (ms : List Matcher) → IsTestsOf ms self.now
             → AreTested ms all.items) }
     {
+        let lists = places_with(alloc, patterns, self.patterns.len())?;
         let mut all = Vec::with_capacity(alloc, texts.len())?;
         for text in texts {
             let found = ends.found(alloc, text.as_str())?;
-            let marks = marks_at(alloc, found.as_slice(), self.patterns.len())?;
             let mut hits = self.naming(alloc, text.as_str())?;
-            push_hits(patterns, marks.as_slice(), &mut hits)?;
+            self.push_hits(
+                alloc,
+                patterns,
+                lists.as_slice(),
+                found.as_slice(),
+                &mut hits,
+            )?;
             all.push(Tested { text, hits })?;
         }
         Ok(all)
+    }
+
+    /// Adds the places of the matchers whose patterns are found. For one pattern or none, not all
+    /// matchers are gone through.
+    fn push_hits(
+        &self,
+        alloc: Global,
+        patterns: &[Option<usize>],
+        lists: &[Vec<usize>],
+        found: &[usize],
+        hits: &mut Vec<usize>,
+    ) -> Result<(), AllocError>
+        requires placed { ArePlaced self.now.matchers.items self.now.patterns.keys patterns.now }
+        requires lists { ArePlacesWith patterns.now lists.now }
+        ensures { OnOk result (hits.new.items
+            ≡ hits.old.items ++ places_where (is_found found.now) patterns.now) }
+    {
+        if found.is_empty() {
+            return Ok(());
+        }
+        if found.len() == 1 && found[0] < lists.len() {
+            hits.extend_from_slice(lists[found[0]].as_slice())?;
+            return Ok(());
+        }
+        let marks = marks_at(alloc, found, self.patterns.len())?;
+        push_marked(patterns, marks.as_slice(), hits)
     }
 
     /// Tests texts, by one pattern after the other.
@@ -232,6 +266,44 @@ fn have_all(bytes: &ByteSet, texts: &[String]) -> bool
     texts.iter().all(|text| bytes.has_all(text.as_str()))
 }
 
+/// Returns for each of so many patterns the places of the matchers that have it.
+fn places_with(
+    alloc: Global,
+    patterns: &[Option<usize>],
+    count: usize,
+) -> Result<Vec<Vec<usize>>, AllocError>
+    ensures { IfOk result (λ lists. ArePlacesWith patterns.now lists.items) }
+{
+    let mut lists = Vec::with_capacity(alloc, count)?;
+    for _ in 0..count {
+        lists.push(Vec::new(alloc))?;
+    }
+    for (place, pattern) in patterns.iter().enumerate() {
+        push_place(*pattern, place, &mut lists)?;
+    }
+    Ok(lists)
+}
+
+/// Adds a place to the list of a pattern, if that is there.
+fn push_place(
+    pattern: Option<usize>,
+    place: usize,
+    lists: &mut Vec<Vec<usize>>,
+) -> Result<(), AllocError>
+    ensures count { vec_len lists.new ≡ vec_len lists.old }
+    ensures each { OnOk result ((k : ℕ) → k < vec_len lists.old
+        → items_at lists.new.items k ≡ items_at lists.old.items k
+        ++ (if is_found (k ∷ []) pattern then place ∷ [] else [])) }
+{
+    let Some(pattern) = pattern else {
+        return Ok(());
+    };
+    if pattern < lists.len() {
+        lists[pattern].push(place)?;
+    }
+    Ok(())
+}
+
 /// Returns for each of so many places whether it is one of these.
 fn marks_at(alloc: Global, places: &[usize], count: usize) -> Result<Vec<bool>, AllocError>
     ensures { IfOk result (λ marks. (k : ℕ) → k < count
@@ -247,7 +319,7 @@ fn marks_at(alloc: Global, places: &[usize], count: usize) -> Result<Vec<bool>, 
 }
 
 /// Adds the places of the matchers whose patterns are marked.
-fn push_hits(
+fn push_marked(
     patterns: &[Option<usize>],
     marks: &[bool],
     hits: &mut Vec<usize>,

@@ -1,4 +1,4 @@
-use Rattle.std.proofs.Common.{◌≡◌, ◌<◌, ◌++◌, ◌∷◌, [], ℕ, Bor, false, slice_index_or, length, string_bytes, refl, sym, ap, ap₂, ◌∙◌, subst, arith}
+use Rattle.std.proofs.Common.{◌≡◌, ◌++◌, ◌∷◌, [], Bor, string_bytes, refl, sym, ap, ap₂, ◌∙◌, subst}
 use Rattle.std.specs.List.{AllByRecursion}
 use Rattle.std.proofs.lemmas.Iterator.Adapters.{YieldsList-from_vec}
 use Rattle.std.proofs.lemmas.Iterator.Consumers.{YieldsList-end}
@@ -6,13 +6,12 @@ use Rattle.std.proofs.lemmas.List.{length-map, map-append}
 use Rattle.std.proofs.lemmas.List.Folds.{map_fixed}
 use Rattle.am_universe.proofs.DistinctLists.{all_push, all_pushed}
 use Rattle.am_labels.specs.Matcher.{Matcher}
-use Rattle.am_scan.specs.Closure.{contains}
 use Rattle.am_classes.specs.Automata.{AreScanned, found_by}
 use Rattle.am_classes.specs.LabelTests.{named_places}
-use Rattle.am_classes.specs.PatternPlaces.{is_marked}
+use Rattle.am_classes.specs.PatternPlaces.{is_found}
 use Rattle.am_classes.specs.Places.{places_where}
 use Rattle.am_classes.specs.Truths.{AreTested, finding}
-use Rattle.am_classes.proofs.PlacedPatterns.{marked_finding}
+use Rattle.am_classes.proofs.PlacedPatterns.{found_finding}
 use Rattle.am_classes.proofs.label_tests.LabelTests.tested_from_ends.Goals as goal
 
 pub loop-text-preserved : goal.loop-text-preserved
@@ -22,22 +21,18 @@ loop-text-preserved c =
     let automata = c.args.ends.now.automata.now in
     let tests = c.args.self.now in
     let found = c.in_ok-found.found.items in
-    let marks = c.in_ok-marks.marks.items in
-    let count : c.len-in-loop-text.result ≡ length tests.patterns.keys = c.len-in-loop-text.ensures.len in
-    let marked : (k : ℕ) → k < length tests.patterns.keys → slice_index_or marks k false ≡ contains found k =
-    λ k within. c.in_ok-marks.ensures k (omega (arith, within, count)) ∙ ap (λ ks. contains ks k) c.as_slice.ensures.value in
     record {
       texts = simp (c.in_ok-push.ensures.items, map-append) (λ i. c.loop-text.invariant.texts i ++ t ∷ []);
       tested = λ ms is all.
           let parts = all_pushed _ c.loop-text.yielded text all in
           let are : found ≡ found_by automata t = (rw c.as_str.ensures.value at c.in_ok-found.ensures) parts.1 in
-          let asked = marked_finding tests.patterns.keys automata marks found t c.requires.fit c.requires.count marked are
+          let asked = found_finding tests.patterns.keys found automata t c.requires.fit c.requires.count are
           tests.matchers.items c.args.patterns.now c.requires.placed (length-map tests.matchers.items (λ (m : Bor Matcher). m.now)) in
           let named = c.in_ok-hits.ensures ∙ ap (named_places tests.named) c.as_str-in-loop-text.ensures.value ∙ is.named t in
           subst (AreTested ms) (sym c.in_ok-push.ensures.items)
           (all_push _ c.loop-text.all.items _ (c.loop-text.invariant.tested ms is parts.0)
           (c.in_ok-push_hits.ensures
-          ∙ ap₂ ◌++◌ named (ap (λ bs. places_where (is_marked bs) c.args.patterns.now) c.as_slice-in-loop-text.ensures.value
+          ∙ ap₂ ◌++◌ named (ap (λ bs. places_where (is_found bs) c.args.patterns.now) c.as_slice-in-loop-text.ensures.value
           ∙ asked ∙ ap (λ ns. finding ns t) is.matchers)));
     }
 

@@ -3,8 +3,8 @@ use Rattle.std.proofs.lemmas.List.{append-nil, length-take, take_more}
 use Rattle.am_classes.specs.PatternPlaces.{is_marked}
 use Rattle.am_classes.specs.Places.{places_where}
 use Rattle.am_classes.proofs.PlaceLemmas.{places_more}
-use Rattle.am_classes.proofs.label_tests.push_hits.Goals as goal
-use Rattle.am_classes.proofs.label_tests.push_hits.Goals.{then-is_marked+in_ok-push, else-is_marked}
+use Rattle.am_classes.proofs.label_tests.push_marked.Goals as goal
+use Rattle.am_classes.proofs.label_tests.push_marked.Goals.{then-is_marked+in_ok-push, else-is_marked}
 
 pub loop-place-preserved : goal.loop-place-preserved
 loop-place-preserved c =
