@@ -6,6 +6,7 @@ pub mod WholeTexts
 pub mod AutomataLemmas
 pub mod LiveLemmas
 pub mod EnoughLemmas
+pub mod FoundLemmas
 pub mod FrontLemmas
 pub mod StateLemmas
 pub mod AskedLemmas

@@ -37,7 +37,7 @@ seen_first ms (t ∷ there) found h =
     ap₂ ◌||◌ (nat_list_eq_equiv.symm found.items t.hits.items
     ∙ ap (λ ks. pointwise nat_eq ks found.items) h.0) (seen_first ms there found h.1)
 
-any_more : (new before : Bool) → cond new true before ≡ (before || (new || false))
+pub any_more : (new before : Bool) → cond new true before ≡ (before || (new || false))
 any_more true true = refl
 any_more true false = refl
 any_more false true = refl

@@ -1,6 +1,9 @@
 -- Texts that no matcher names. Each stands for a class.
 use Rattle.std.specs.Prelude.{◌≡◌, ◌≤◌, ◌<◌, ◌⊎◌, ℕ, List, Some, slice_get, length}
 use Rattle.std.specs.Prelude.{string_bytes}
+use Rattle.std.specs.Global.{Vec}
+use Rattle.std.specs.HashSet.{HashSet, contains}
+use Rattle.std.specs.List.{list_any}
 use Rattle.am_classes.specs.declared.questions.Questions.{Questions}
 use Rattle.am_classes.specs.declared.candidate.Candidate.{Candidate}
 use Rattle.am_classes.specs.declared.label_state.LabelState.{LabelState}
@@ -9,6 +12,7 @@ use Rattle.am_classes.specs.Alphabet.{IsOver}
 use Rattle.am_classes.specs.State.{FollowsLabel, IsNamed}
 use Rattle.am_classes.specs.Automata.{found_by}
 use Rattle.am_classes.specs.ClassTexts.{IsOther}
+use Rattle.am_classes.specs.Truths.{are_same}
 
 -- A candidate says which patterns find its text. The text is not named, and is over the alphabet.
 pub record IsCandidate (q : Questions) (candidate : Candidate) : Type 0 where
@@ -21,6 +25,14 @@ abbrev pub HasFound : List Candidate → List ℕ → Type 0
 HasFound candidates found =
     (k : ℕ) × (candidate : Candidate) × (slice_get candidates k ≡ Some candidate)
     × (candidate.found.items ≡ found)
+
+-- A set has the found patterns of each candidate, and no others.
+-- Source: own choice.
+-- Example: if `db` and the empty text are candidates of `db.*`, it has the place 0 alone, and none.
+abbrev pub HasEachFound : {S : Type 0} → HashSet (Vec ℕ) S → List Candidate → Type 0
+HasEachFound seen candidates =
+    (found : Vec ℕ) → contains are_same seen found
+    ≡ list_any (λ candidate. are_same candidate.found found) candidates
 
 -- One of some candidates is found by exactly the patterns that find a text.
 abbrev pub HasCandidate : Questions → List Candidate → List ℕ → Type 0

@@ -3,7 +3,7 @@ ghost use Rattle.std.specs.Prelude.{OnOk, length, vec_len, string_bytes};
 ghost use Rattle.am_classes.specs.Enough.{AreEnough};
 ghost use Rattle.am_classes.specs.State.{FollowsLabel, IsNamed, named_texts, patterns_of};
 ghost use Rattle.am_classes.specs.Candidates.{AreCandidates, AreApartCandidates, Represents};
-ghost use Rattle.am_classes.specs.Candidates.{HasFound, AreShortest, RepresentShorter};
+ghost use Rattle.am_classes.specs.Candidates.{HasEachFound, AreShortest, RepresentShorter};
 ghost use Rattle.am_classes.specs.Candidates.{AreTied};
 ghost use Rattle.am_classes.specs.Exploration.{HasManyLabelStates};
 ghost use Rattle.am_classes.specs.ClassTexts.{IsOther};
@@ -15,6 +15,7 @@ use crate::exploration::explored;
 use crate::questions::Questions;
 use crate::reached_state::ReachedState;
 use std::alloc::{AllocError, Global};
+use std::collections::HashSet;
 use std::str::from_utf8;
 
 /// Texts that no matcher names. No two of them are found by exactly the same patterns.
@@ -81,15 +82,18 @@ fn other_text(alloc: Global, questions: &Questions) -> Result<String, AllocError
 }
 
 /// Adds the text of a state to the candidates, unless the text begins inside a character, or is
-/// named, or a candidate is found by the same patterns.
+/// named, or a candidate is found by the same patterns. A set has the patterns of each candidate.
 pub(crate) fn add(
     alloc: Global,
     questions: &Questions,
     item: &ReachedState<'_>,
+    seen: &mut HashSet<Vec<usize>>,
     candidates: &mut Vec<Candidate>,
 ) -> Result<(), AllocError>
     requires follows { FollowsLabel questions.now item.now.state item.now.text.items }
     requires distinct { AreApartCandidates questions.now candidates.old.items }
+    requires seen { HasEachFound seen.old candidates.old.items }
+    ensures seen { OnOk result (HasEachFound seen.new candidates.new.items) }
     ensures distinct { AreApartCandidates questions.now candidates.new.items }
     ensures grows { Grows candidates.old.items candidates.new.items }
     ensures added { OnOk result
@@ -102,7 +106,9 @@ pub(crate) fn add(
         return Ok(());
     }
     let found = questions.found(alloc, &item.state)?;
-    if has_found(candidates.as_slice(), found.as_slice()) {
+    let copy = found.clone()?;
+    let is_new = seen.insert(copy)?;
+    if !is_new {
         return Ok(());
     }
     let Ok(text) = from_utf8(item.text.as_slice()) else {
@@ -112,17 +118,4 @@ pub(crate) fn add(
     let text = String::from_str(alloc, text)?;
     candidates.push(Candidate { text, found })?;
     Ok(())
-}
-
-/// Whether one of the candidates is found by these patterns and no others.
-fn has_found(candidates: &[Candidate], found: &[usize]) -> bool
-    ensures yes { IsTrue result → HasFound candidates.now found.now }
-    ensures no { result ≡ false → HasFound candidates.now found.now → ⊥ }
-{
-    for candidate in candidates {
-        if candidate.found.as_slice() == found {
-            return true;
-        }
-    }
-    false
 }

@@ -29,6 +29,7 @@ use crate::questions::Questions;
 use crate::reached_state::ReachedState;
 use indexmap::IndexSet;
 use std::alloc::{AllocError, Global};
+use std::collections::HashSet;
 
 /// Lists states of a label until each state that a text leads to is listed, and takes candidates
 /// from the texts. States with shorter texts come first. Ends early if there are more candidates
@@ -52,12 +53,13 @@ pub(crate) fn explored(
 {
     let mut listed = IndexSet::new(alloc);
     listed.insert(ReachedState::end(alloc, questions)?)?;
+    let mut seen = HashSet::new(alloc);
     let mut items = Vec::new(alloc);
     for at in 0..=MAX_STATES {
         let Some(item) = listed.get_index(at) else {
             return Ok(Some(CandidateTexts { items, all: true }));
         };
-        add(alloc, questions, item, &mut items)?;
+        add(alloc, questions, item, &mut seen, &mut items)?;
         if items.len() > room {
             return Ok(Some(CandidateTexts { items, all: false }));
         }

@@ -41,12 +41,6 @@ pub get_last : {X : Type 0} (xs : List X) (y : X) → slice_get (xs ++ y ∷ [])
 get_last [] y = refl
 get_last (x ∷ xs) y = get_last xs y
 
--- The element at a position of a prefix that is one longer is from the prefix, or is the next one.
-pub get_front : {X : Type 0} (xs : List X) (i : ℕ) (y x : X) (k : ℕ) → i < length xs
-    → y ≡ get_or xs i y → slice_get (take (i + 1) xs) k ≡ Some x
-    → (slice_get (take i xs) k ≡ Some x) ⊎ (y ≡ x)
-get_front xs i y x k below is e = grind (arith, common_steps, take_more, get_pushed)
-
 -- The prefix of full length has the same element at each position as the list.
 pub get_whole : {X : Type 0} (xs : List X) (n k : ℕ) (x : X) → n ≡ length xs
     → slice_get xs k ≡ Some x → slice_get (take n xs) k ≡ Some x

@@ -1,6 +1,9 @@
 use Rattle.std.proofs.Common.{◌≡◌, Some, slice_get, length, string_bytes, inl, inr, sym, ap, ◌∙◌, subst, arith}
+use Rattle.std.specs.HashSet.{contains}
+use Rattle.std.specs.List.{list_any}
 use Rattle.std.specs.Str.{IsUtf8}
-use Rattle.std.proofs.lemmas.Bool.{cases_lt}
+use Rattle.std.proofs.lemmas.Bool.{cases_lt, not-false, not-true, true≢false, OnFalse_at}
+use Rattle.std.proofs.lemmas.List.Elements.{same_from_all_zip}
 use Rattle.am_classes.specs.declared.candidate.Candidate.{Candidate}
 use Rattle.am_classes.specs.declared.tail.Tail.TheVariants.{Whole}
 use Rattle.am_classes.specs.Automata.{found_by}
@@ -8,10 +11,12 @@ use Rattle.am_classes.specs.State.{FollowsLabel, IsNamed}
 use Rattle.am_classes.proofs.OverLemmas.{followed_over}
 use Rattle.am_classes.proofs.WholeTexts.{followed_utf8}
 use Rattle.am_classes.specs.Candidates.{AreApartCandidates, IsCandidate, IsShortestFound, HasFound}
+use Rattle.am_classes.specs.Truths.{are_same}
 use Rattle.am_scan.proofs.Places.{get_last, grows_pushed}
 use Rattle.am_classes.proofs.TailLemmas.{whole_from}
 use Rattle.am_classes.proofs.CandidateLemmas.{apart_pushed}
 use Rattle.am_classes.proofs.ExplorationLemmas.{each_more}
+use Rattle.am_classes.proofs.FoundLemmas.{found_more, has_from_seen, seen_from_has}
 use Rattle.am_classes.proofs.candidates.add.Goals as goal
 use Rattle.am_classes.proofs.candidates.add.Goals.{After-push}
 
@@ -20,32 +25,51 @@ pub unreachable-requires : goal.unreachable-requires
 unreachable-requires c =
     let item = c.args.item.now in
     let whole = whole_from item.state.tail (sym c.is_whole.ensures ∙ c.if-not-is_whole.false) in
-    c.in_default.ensures.cases.0 (subst IsUtf8 (sym c.as_slice-3.ensures.value)
+    c.in_default.ensures.cases.0 (subst IsUtf8 (sym c.as_slice.ensures.value)
     (followed_utf8 c.args.questions.now item.state item.text.items c.requires.follows whole))
 
-pub returns-then-has_found-clause-added : goal.returns-then-has_found-clause-added
-returns-then-has_found-clause-added c =
+pub returns-then-not-is_new-clause-added : goal.returns-then-not-is_new-clause-added
+returns-then-not-is_new-clause-added c =
     let q = c.args.questions.now in
-    let has = c.has_found.ensures.yes c.if-has_found.true in
+    let own = c.in_ok-copy.copy in
+    let same : own.items ≡ c.in_ok-found.found.items =
+    same_from_all_zip _ c.in_ok-found.found.items own.items c.in_ok-copy.ensures.cases.0 (λ x y same. same) in
+    let some = sym (c.requires.seen own) ∙ not-false _ (sym c.in_ok-is_new.ensures.added ∙ c.if-not-is_new.true) in
+    let has = has_from_seen c.args.candidates.now.items own some in
     λ text follows whole unnamed. (
       has.0,
       has.1,
-      subst (λ cs. slice_get cs has.0 ≡ Some has.1) c.as_slice.ensures.value has.2,
-      has.3 ∙ c.as_slice-2.ensures.value ∙ c.in_ok-found.ensures text follows (followed_utf8 q c.args.item.now.state text follows whole),
+      has.2,
+      has.3 ∙ same ∙ c.in_ok-found.ensures text follows (followed_utf8 q c.args.item.now.state text follows whole),
     )
+
+pub returns-then-not-is_new-clause-seen : goal.returns-then-not-is_new-clause-seen
+returns-then-not-is_new-clause-seen c = λ found.
+    ap (list_any _) (OnFalse_at c.if-not-is_new.true c.in_ok-is_new.ensures.unchanged) ∙ c.requires.seen found
+
+pub returns-clause-seen : goal.returns-clause-seen
+returns-clause-seen c = λ found.
+    let candidates = c.args.candidates.now.items in
+    let own = c.in_ok-copy.copy in
+    let x : Candidate = record { text = c.in_ok-text.text; found = c.in_ok-found.found } in
+    let same : own.items ≡ x.found.items =
+    same_from_all_zip _ x.found.items own.items c.in_ok-copy.ensures.cases.0 (λ x y same. same) in
+    subst (λ cs. contains are_same c.insert.new.self found ≡ list_any (λ c. are_same c.found found) cs)
+    (sym c.in_ok-push.ensures.items)
+    (found_more candidates found x own _ _ same (c.requires.seen found) (c.in_ok-is_new.ensures.updates.0 found))
 
 -- the new candidate has the text of the state, and no candidate is found by the same patterns
 bytes : (c : After-push) → string_bytes c.in_ok-text.text ≡ c.args.item.now.text.items
-bytes c = c.in_ok-text.ensures.ok ∙ c.in-Ok.ensures.cases.0 ∙ c.as_slice-3.ensures.value
+bytes c = c.in_ok-text.ensures.ok ∙ c.in-Ok.ensures.cases.0 ∙ c.as_slice.ensures.value
 
 new : (c : After-push) → HasFound c.args.candidates.now.items c.in_ok-found.found.items → ⊥
 new c = λ has.
-    c.has_found.ensures.no c.if-has_found.false (
-      has.0,
-      has.1,
-      subst (λ cs. slice_get cs has.0 ≡ Some has.1) (sym c.as_slice.ensures.value) has.2,
-      has.3 ∙ sym c.as_slice-2.ensures.value,
-    )
+    let own = c.in_ok-copy.copy in
+    let same : own.items ≡ c.in_ok-found.found.items =
+    same_from_all_zip _ c.in_ok-found.found.items own.items c.in_ok-copy.ensures.cases.0 (λ x y same. same) in
+    let none = sym (c.requires.seen own) ∙ not-true _ (sym c.in_ok-is_new.ensures.added ∙ c.if-not-is_new.false) in
+    let yes = seen_from_has c.args.candidates.now.items own (has.0, has.1, has.2, has.3 ∙ sym same) in
+    true≢false (sym yes ∙ none)
 
 pub returns-clause-distinct : goal.returns-clause-distinct
 returns-clause-distinct c =

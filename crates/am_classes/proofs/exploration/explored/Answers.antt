@@ -33,6 +33,7 @@ loop-at-init c =
       order = λ item next. record { order = short.order; most = λ k x at. omega (arith, short.most k x at) };
       first = (0, first, rw keys refl, subst (FollowsLabel q first.state) empty c.in_ok-end.ensures.follows, omega (arith, ap length empty));
       done = λ k item below at. absurd (omega arith);
+      seen = λ found. grind (arith, common_steps);
       distinct = grind (arith, common_steps);
       shortest = grind (arith, common_steps);
     }
@@ -138,6 +139,7 @@ loop-at-preserved c =
                   c.in_ok-add.ensures.added,
                 )
           ];
+      seen = c.in_ok-add.ensures.seen;
       distinct = c.add.ensures.distinct;
       shortest = shortest (goal.at.loop-at-preserved c).After-add;
     }

@@ -2,7 +2,7 @@ use Rattle.std.proofs.Common.{◌≡◌, ℕ, ◌<◌, ◌≤◌, ◌+◌, Some,
 use Rattle.am_classes.specs.declared.reached_state.ReachedState.{ReachedState}
 use Rattle.am_classes.specs.Exploration.{AreListed, AreShortFirst, HasState, LeadsOn}
 use Rattle.am_classes.specs.declared.limits.TheConstants.{MAX_STATES}
-use Rattle.am_classes.specs.Candidates.{AreApartCandidates, AreShortest, Represents}
+use Rattle.am_classes.specs.Candidates.{AreApartCandidates, AreShortest, HasEachFound, Represents}
 use Rattle.am_classes.proofs.exploration.explored.Given as goal
 
 -- The states so far lead to listed states, and are represented. A state with a shorter text is
@@ -18,6 +18,7 @@ invariant-loop-at l = record {
   done : (k : ℕ) (item : ReachedState) → k < l.at → slice_get l.listed.keys k ≡ Some item
       → ((byte : ℕ) → byte < 256 → LeadsOn l.questions l.listed.keys item byte)
       × Represents l.questions l.items.items item.state;
+  seen : HasEachFound l.seen l.items.items;
   distinct : AreApartCandidates l.questions l.items.items;
   shortest : AreShortest l.questions l.items.items;
 }
