@@ -112,7 +112,8 @@ impl<'m> LabelTests<'m> {
             && have_all(bytes, texts.as_slice())
         {
             if let Some(places) = self.pattern_places(alloc)? {
-                let ends = TextEnds::of(alloc, automata, bytes, texts.len())?;
+                let lasts = last_bytes(texts.as_slice());
+                let ends = TextEnds::of(alloc, automata, &lasts, texts.len())?;
                 return self.tested_from_ends(alloc, &ends, places.as_slice(), texts);
             }
         }
@@ -256,6 +257,17 @@ impl<'m> LabelTests<'m> {
         };
         Finder::of(matcher, automata.get(place))
     }
+}
+
+/// Returns the bytes with which texts end.
+fn last_bytes(texts: &[String]) -> ByteSet {
+    let mut lasts = ByteSet::empty();
+    for text in texts {
+        if let Some(last) = text.as_bytes().last() {
+            lasts.insert(*last);
+        }
+    }
+    lasts
 }
 
 /// Whether each text has only certain bytes.

@@ -46,7 +46,8 @@ pub(crate) fn live_before(
     ensures { IfOk result (λ nexts. (text : List ℕ) → live.now ≡ live_of automata.now text
         → nexts.items ≡ live_of automata.now (byte ∷ text)) }
 {
-    let mut nexts = Vec::with_capacity(alloc, live.len())?;
+    // Most often none of them is left, so no room is taken beforehand.
+    let mut nexts = Vec::new(alloc);
     for pattern in live {
         let place = pattern.place;
         let Some(automaton) = automata.get(place) else {

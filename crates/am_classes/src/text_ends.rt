@@ -27,7 +27,7 @@ pub(crate) struct TextEnds<'t> {
 }
 
 impl<'t> TextEnds<'t> {
-    /// Prepares to read so many texts. They should have only these bytes. Fails only if memory runs
+    /// Prepares to read so many texts. They should end with these bytes. Fails only if memory runs
     /// out.
     pub(crate) fn of(
         alloc: Global,
