@@ -1,5 +1,5 @@
 -- Listed states: with more listed, and for each text one that it leads to.
-use Rattle.std.proofs.Common.{◌≡◌, ◌<◌, ◌≤◌, ◌+◌, ◌-◌, ℕ, zero, suc, ap, set, Option, ◌⊎◌, List, [], ◌∷◌, ◌++◌, Some, None, get_or, replicate, slice_get, length, refl, inl, inr, subst, sym, ◌∙◌, arith, lt-ltb, le-ltb}
+use Rattle.std.proofs.Common.{◌≡◌, ◌<◌, ◌≤◌, ◌+◌, ◌-◌, ℕ, zero, suc, ap, map, set, Option, ◌⊎◌, List, [], ◌∷◌, ◌++◌, Some, None, get_or, replicate, slice_get, length, refl, inl, inr, subst, sym, ◌∙◌, arith, lt-ltb, le-ltb}
 use Rattle.std.proofs.lemmas.Bool.{cases_lt}
 use Rattle.std.proofs.lemmas.Option.{option_and_then_some, same_Some, slice_get_within}
 use Rattle.am_classes.specs.declared.questions.Questions.{Questions}
@@ -10,7 +10,7 @@ use Rattle.am_classes.specs.Utf8.{text_step, tail_with}
 use Rattle.am_classes.specs.State.{FollowsLabel}
 use Rattle.am_classes.specs.Automata.{MakeSame}
 use Rattle.am_classes.specs.Exploration.{HasState, LeadsOn, AreLed, byte_at, IsClosed}
-use Rattle.am_classes.specs.Exploration.{AreShortFirst}
+use Rattle.am_classes.specs.Exploration.{AreShortFirst, HaveLength, IsSameSpent}
 use Rattle.am_scan.specs.Automaton.{Grows}
 use Rattle.am_scan.specs.Sight.{is_scanned}
 use Rattle.am_scan.proofs.Places.{get_pushed, get_last}
@@ -60,6 +60,25 @@ pub has_pushed : (q : Questions) (old new : List ReachedState) (item : ReachedSt
     → length item.text.items ≤ n → HasState q new n text
 has_pushed q old new item n text is follows short =
     (length old, item, subst (λ xs. slice_get xs (length old) ≡ Some item) (sym is) (get_last old item), follows, short)
+
+-- A byte leads on if it leads to a state that is spent, and the same one is listed.
+pub leads_spent : (q : Questions) (listed : List ReachedState) (item : ReachedState) (byte : ℕ)
+    (state : LabelState) (k : ℕ) (other : ReachedState) → slice_get listed k ≡ Some other
+    → IsSameSpent state other.state → HaveLength (length item.text.items + 1) listed
+    → ((text : List ℕ) → FollowsLabel q item.state text → FollowsLabel q state (byte ∷ text))
+    → LeadsOn q listed item byte
+leads_spent q listed item byte state k other at same long step = λ text tail follows has.
+    let here = step text follows in (
+      k,
+      other,
+      at,
+      record {
+        tail = here.tail ∙ ap Some same.tails;
+        fronts = ap (map (λ f. f.now)) (same.fronts.1 ∙ sym same.fronts.0) ∙ here.fronts;
+        live = same.live.1 ∙ sym same.live.0 ∙ here.live;
+      },
+      omega (arith, long k other at),
+    )
 
 -- A byte leads on where another does that leads to the same states.
 pub leads_again : (q : Questions) (listed : List ReachedState) (item : ReachedState) (one other : ℕ)

@@ -3,6 +3,7 @@ use Rattle.std.specs.Prelude.{◌≡◌, ◌<◌, ◌≤◌, ◌+◌, ◌-◌, �
 use Rattle.std.specs.Prelude.{if◌then◌else◌, nat_lt, length, IsSome}
 use Rattle.std.specs.List.{AllByRecursion}
 use Rattle.am_classes.specs.declared.questions.Questions.{Questions}
+use Rattle.am_classes.specs.declared.label_state.LabelState.{LabelState}
 use Rattle.am_classes.specs.declared.reached_state.ReachedState.{ReachedState}
 use Rattle.am_classes.specs.declared.tail.Tail.{Tail}
 use Rattle.am_scan.specs.Sight.{is_scanned}
@@ -36,6 +37,14 @@ pub record AreShortFirst (n : ℕ) (listed : List ReachedState) : Type 0 where
   pub order : (i j : ℕ) (x y : ReachedState) → slice_get listed i ≡ Some x
       → slice_get listed j ≡ Some y → i ≤ j → length x.text.items ≤ length y.text.items
   pub most : (k : ℕ) (x : ReachedState) → slice_get listed k ≡ Some x → length x.text.items ≤ n
+
+-- Two states have the same tail, and neither has a front or a live pattern.
+-- Source: own choice.
+-- Example: if `db.*` is the only pattern, `x` and `y` lead to such states.
+pub record IsSameSpent (one other : LabelState) : Type 0 where
+  pub tails : one.tail ≡ other.tail
+  pub fronts : (one.fronts.items ≡ []) × (other.fronts.items ≡ [])
+  pub live : (one.live.items ≡ []) × (other.live.items ≡ [])
 
 -- A byte before a text that a state follows leads to a text that a listed state follows, unless no
 -- text that has only the bytes that are tried has such a byte there. The text beside the listed

@@ -13,17 +13,19 @@
 //! than `MAX_STATES` states there is no answer. No two listed states are equal, so this is so only
 //! if there are that many. The states are listed in the order of the lengths of their texts, so the
 //! first text of a class is a shortest one.
-ghost use Rattle.std.specs.Prelude.{◌≡◌, ◌<◌, ◌+◌, ℕ, Some, false};
+ghost use Rattle.std.specs.Prelude.{◌≡◌, ◌<◌, ◌+◌, ℕ, Some, false, slice_get};
 ghost use Rattle.std.specs.Prelude.{IfOk, IfSome, IfNone, OnOk, IsTrue, length, vec_len};
 ghost use Rattle.am_classes.specs.declared.questions.Questions.{Questions};
+ghost use Rattle.am_classes.specs.declared.reached_state.ReachedState.{ReachedState};
 ghost use Rattle.am_classes.specs.Enough.{AreEnough};
 ghost use Rattle.am_classes.specs.State.{FollowsLabel, named_texts, patterns_of};
 ghost use Rattle.am_scan.specs.Automaton.{Grows};
 ghost use Rattle.am_classes.specs.Exploration.{AreListed, LeadsOn, AreLed, byte_at};
-ghost use Rattle.am_classes.specs.Exploration.{HaveLength, HasManyLabelStates};
+ghost use Rattle.am_classes.specs.Exploration.{HaveLength, HasManyLabelStates, IsSameSpent};
 ghost use Rattle.am_classes.specs.Candidates.{AreApartCandidates, AreCandidates, AreShortest};
 
 use crate::candidates::{CandidateTexts, add};
+use crate::label_state::LabelState;
 use crate::limits::MAX_STATES;
 use crate::questions::Questions;
 use crate::reached_state::ReachedState;
@@ -132,16 +134,49 @@ fn step_on<'q>(
     ensures grows { Grows nexts.old.items nexts.new.items }
     ensures leads { OnOk result (LeadsOn questions.now nexts.new.items item.now byte) }
 {
+    if !questions.bytes.has(byte) {
+        return Ok(());
+    }
     let class = usize::from(questions.class_of(byte));
     if let Some(before) = led[class] {
         if questions.lead_alike(&item.state, before, byte) {
             return Ok(());
         }
     }
-    let Some(next) = item.longer(alloc, questions, byte)? else {
+    let Some(state) = questions.step(alloc, &item.state, byte)? else {
         return Ok(());
     };
+    if has_spent(nexts.as_slice(), &state) {
+        led[class] = Some(byte);
+        return Ok(());
+    }
+    let next = item.longer(alloc, byte, state)?;
     nexts.push(next)?;
     led[class] = Some(byte);
     Ok(())
+}
+
+/// Whether one of some states is spent, and the same as this one. `false` promises nothing.
+fn has_spent(nexts: &[ReachedState<'_>], state: &LabelState<'_>) -> bool
+    ensures { IsTrue result → (k : ℕ) × (other : ReachedState)
+        × (slice_get nexts.now k ≡ Some other) × IsSameSpent state.now other.state }
+{
+    for next in nexts {
+        if are_spent(state, &next.state) {
+            return true;
+        }
+    }
+    false
+}
+
+/// Whether no named text and no pattern is left in two states, and UTF-8 allows the same bytes
+/// before both. Most bytes lead to such states. `false` promises nothing.
+fn are_spent(one: &LabelState<'_>, other: &LabelState<'_>) -> bool
+    ensures { IsTrue result → IsSameSpent one.now other.now }
+{
+    one.tail == other.tail
+        && one.fronts.is_empty()
+        && other.fronts.is_empty()
+        && one.live.is_empty()
+        && other.live.is_empty()
 }

@@ -1,4 +1,4 @@
-ghost use Rattle.std.specs.Prelude.{◌≡◌, ◌∷◌, [], ℕ, List, None, IfOk, IfSome, IfNone};
+ghost use Rattle.std.specs.Prelude.{◌≡◌, ◌∷◌, [], IfOk};
 
 use crate::label_state::LabelState;
 use crate::questions::Questions;
@@ -15,8 +15,6 @@ pub(crate) struct ReachedState<'q> {
 
 impl<'q> ReachedState<'q> {
     ghost use Rattle.am_classes.specs.State.{FollowsLabel};
-    ghost use Rattle.am_scan.specs.Sight.{is_scanned};
-    ghost use Rattle.am_classes.specs.Utf8.{text_step};
 
     /// The empty text with its state.
     pub(crate) fn end(
@@ -33,28 +31,18 @@ impl<'q> ReachedState<'q> {
         })
     }
 
-    /// Returns the text with one more byte before it, and its state. Returns `None` if no
-    /// text over the alphabet is tried that ends with it.
+    /// Returns the text with one more byte before it, beside a state.
     pub(crate) fn longer(
         &self,
         alloc: Global,
-        questions: &Questions,
         byte: u8,
-    ) -> Result<Option<ReachedState<'q>>, AllocError>
-        requires { FollowsLabel questions.now self.now.state self.now.text.items }
-        ensures text { IfOk result (λ found. IfSome found
-            (λ longer. longer.text.items ≡ byte ∷ self.now.text.items)) }
-        ensures follows { IfOk result (λ found. IfSome found (λ longer. (text : List ℕ)
-            → FollowsLabel questions.now self.now.state text
-            → FollowsLabel questions.now longer.state (byte ∷ text))) }
-        ensures none { IfOk result (λ found. IfNone found
-            (text_step (is_scanned questions.now.bytes) self.now.state.tail byte ≡ None)) }
+        state: LabelState<'q>,
+    ) -> Result<ReachedState<'q>, AllocError>
+        ensures text { IfOk result (λ longer. longer.text.items ≡ byte ∷ self.now.text.items) }
+        ensures state { IfOk result (λ longer. longer.state ≡ state.entry) }
     {
-        let Some(state) = questions.step(alloc, &self.state, byte)? else {
-            return Ok(None);
-        };
         let mut text = vec![in alloc; byte]?;
         text.extend_from_slice(self.text.as_slice())?;
-        Ok(Some(ReachedState { state, text }))
+        Ok(ReachedState { state, text })
     }
 }
