@@ -1,8 +1,9 @@
 -- The live patterns of a text with one more byte before it follow from those of the text.
-use Rattle.std.proofs.Common.{◌≡◌, ◌+◌, ℕ, zero, suc, Bool, true, false, if◌then◌else◌, List, [], ◌∷◌, ◌++◌, Option, Some, None, slice_get, length, refl, sym, ap, ap₂, ◌∙◌, subst, ◌⊎◌, inl, inr, arith}
+use Rattle.std.proofs.Common.{◌≡◌, ◌+◌, ◌<◌, take, get_or, ℕ, zero, suc, Bool, true, false, if◌then◌else◌, List, [], ◌∷◌, ◌++◌, Option, Some, None, slice_get, length, refl, sym, ap, ap₂, ◌∙◌, subst, ◌⊎◌, inl, inr, arith}
 use Rattle.std.specs.List.{flat_map}
 use Rattle.std.specs.Str.{IsUtf8}
 use Rattle.std.proofs.lemmas.Bool.{cases_Bool}
+use Rattle.std.proofs.lemmas.List.{flat_map_more, take_more}
 use Rattle.std.proofs.lemmas.Option.{same_Some}
 use Rattle.am_labels.specs.Pattern.{finds}
 use Rattle.am_scan.specs.Automaton.{is_lost, number_of, pattern_of}
@@ -37,6 +38,16 @@ live_kept place a number free = rw free refl
 
 pub live_lost : (place : ℕ) (a : PatternAutomaton) (number : ℕ) → is_lost a number ≡ true → live_at place a number ≡ []
 live_lost place a number lost = rw lost refl
+
+-- No pattern, for a position that no live pattern has.
+abbrev pub none : LivePattern
+none = record { place = 0; number = 0 }
+
+-- What live patterns become, with the next one.
+pub live_front : {X : Type 0} (f : LivePattern → List X) (live : List LivePattern) (i : ℕ) → i < length live
+    → flat_map f (take (i + 1) live) ≡ flat_map f (take i live) ++ f (get_or live i none)
+live_front f live i within =
+    ap (flat_map f) (take_more live i none within) ∙ sym (flat_map_more f [] (take i live) (get_or live i none))
 
 -- ---- One more pattern.
 

@@ -1,8 +1,9 @@
 -- The places of things that pass a test.
-use Rattle.std.proofs.Common.{◌≡◌, ℕ, ◌+◌, Bool, true, if◌then◌else◌, List, [], ◌∷◌, ◌++◌}
-use Rattle.std.proofs.Common.{Some, slice_get, length, refl, sym, ap, subst, inl, inr, ◌∙◌, arith}
+use Rattle.std.proofs.Common.{◌≡◌, ℕ, ◌+◌, ◌<◌, Bool, true, if◌then◌else◌, List, [], ◌∷◌, ◌++◌}
+use Rattle.std.proofs.Common.{Some, slice_get, length, take, get_or, refl, sym, ap, subst, inl, inr, ◌∙◌, arith}
 use Rattle.std.specs.List.{filter, enumerate_from, AllByRecursion}
 use Rattle.std.proofs.lemmas.Bool.{cases_Bool}
+use Rattle.std.proofs.lemmas.List.{length-take, take_more}
 use Rattle.std.proofs.lemmas.Option.{same_Some}
 use Rattle.am_universe.proofs.ListLemmas.{IsIn, IsIn-map, IsIn-unmap}
 use Rattle.am_universe.proofs.Members.{item_at, numbered_at}
@@ -41,6 +42,17 @@ places_more from test (y ∷ xs) x =
       | inl passes ↦ rw passes (ap (λ ks. from ∷ ks) (subst (λ k. places_from (from + 1) test (xs ++ x ∷ []) ≡ places_from (from + 1) test xs ++ (if test x then k ∷ [] else [])) n more))
       | inr fails ↦ rw fails (subst (λ k. places_from (from + 1) test (xs ++ x ∷ []) ≡ places_from (from + 1) test xs ++ (if test x then k ∷ [] else [])) n more)
     ]
+
+-- The next thing of a list.
+pub places_front : {X : Type 0} (test : X → Bool) (xs : List X) (i : ℕ) (d : X) → i < length xs
+    → places_where test (take (i + 1) xs)
+    ≡ places_where test (take i xs) ++ (if test (get_or xs i d) then i ∷ [] else [])
+places_front test xs i d within =
+    let front = take i xs in
+    let x = get_or xs i d in
+    let here : 0 + length front ≡ i = omega (arith, within, length-take i xs) in
+    ap (places_where test) (take_more xs i d within) ∙ places_more 0 test front x
+    ∙ ap (λ n. places_where test front ++ (if test x then n ∷ [] else [])) here
 
 -- Tests that are the same of each thing have the same places.
 pub same_places : {X : Type 0} (from : ℕ) (test other : X → Bool) (xs : List X)

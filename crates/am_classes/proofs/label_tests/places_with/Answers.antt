@@ -1,8 +1,6 @@
-use Rattle.std.proofs.Common.{◌≡◌, ◌+◌, ◌++◌, ◌∷◌, [], None, if◌then◌else◌, length, take, get_or, sym, ap, ◌∙◌, arith}
-use Rattle.std.proofs.lemmas.List.{length-take, take_more}
+use Rattle.std.proofs.Common.{◌++◌, ◌∷◌, [], None, if◌then◌else◌, get_or, sym, ap, ◌∙◌, arith}
 use Rattle.am_classes.specs.PatternPlaces.{is_found}
-use Rattle.am_classes.specs.Places.{places_where}
-use Rattle.am_classes.proofs.PlaceLemmas.{places_more}
+use Rattle.am_classes.proofs.PlaceLemmas.{places_front}
 use Rattle.am_classes.proofs.label_tests.places_with.Goals as goal
 
 pub loop-place-preserved : goal.loop-place-preserved
@@ -10,12 +8,8 @@ loop-place-preserved c = λ k within.
     let test = is_found (k ∷ []) in
     let patterns = c.args.patterns.now in
     let i = c.loop-place.place in
-    let front = take i patterns in
     let x = get_or patterns i None in
-    let here : 0 + length front ≡ i = omega (arith, c.loop-place-test.true, length-take i patterns) in
-    let more : places_where test (take (i + 1) patterns) ≡ places_where test front ++ (if test x then i ∷ [] else []) =
-    ap (places_where test) (take_more patterns i None c.loop-place-test.true) ∙ places_more 0 test front x
-    ∙ ap (λ n. places_where test front ++ (if test x then n ∷ [] else [])) here in
+    let more = places_front test patterns i None c.loop-place-test.true in
     let count = c.push_place.ensures.count in
     let old = c.loop-place.lists in
     let new = c.push_place.new.lists in

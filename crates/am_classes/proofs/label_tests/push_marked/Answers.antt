@@ -1,8 +1,8 @@
-use Rattle.std.proofs.Common.{◌≡◌, ◌+◌, ◌++◌, ◌∷◌, [], None, if◌then◌else◌, append_assoc, length, take, get_or, refl, sym, ap, ◌∙◌, arith}
-use Rattle.std.proofs.lemmas.List.{append-nil, length-take, take_more}
+use Rattle.std.proofs.Common.{◌++◌, ◌∷◌, [], None, append_assoc, take, get_or, refl, sym, ap, ◌∙◌}
+use Rattle.std.proofs.lemmas.List.{append-nil}
 use Rattle.am_classes.specs.PatternPlaces.{is_marked}
 use Rattle.am_classes.specs.Places.{places_where}
-use Rattle.am_classes.proofs.PlaceLemmas.{places_more}
+use Rattle.am_classes.proofs.PlaceLemmas.{places_front}
 use Rattle.am_classes.proofs.label_tests.push_marked.Goals as goal
 use Rattle.am_classes.proofs.label_tests.push_marked.Goals.{then-is_marked+in_ok-push, else-is_marked}
 
@@ -14,10 +14,7 @@ loop-place-preserved c =
     let i = c.loop-place.place in
     let front = take i patterns in
     let x = get_or patterns i None in
-    let here : 0 + length front ≡ i = omega (arith, c.loop-place-test.true, length-take i patterns) in
-    let more : places_where test (take (i + 1) patterns) ≡ places_where test front ++ (if test x then i ∷ [] else []) =
-    ap (places_where test) (take_more patterns i None c.loop-place-test.true) ∙ places_more 0 test front x
-    ∙ ap (λ k. places_where test front ++ (if test x then k ∷ [] else [])) here in
+    let more = places_front test patterns i None c.loop-place-test.true in
     elim c.if-is_marked.branch [
       | then-is_marked+in_ok-push w ↦
           ap (λ v. v.items) w.hits-is ∙ w.in_ok-push.ensures.items ∙ ap (λ ks. ks ++ i ∷ []) c.loop-place.invariant

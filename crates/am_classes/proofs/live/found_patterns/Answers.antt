@@ -1,28 +1,15 @@
-use Rattle.std.proofs.Common.{◌≡◌, ◌+◌, ◌<◌, ◌++◌, ◌∷◌, [], ℕ, List, Some, if◌then◌else◌, slice_get, length, take, get_or, refl, sym, ap, ◌∙◌, lt-ltb}
+use Rattle.std.proofs.Common.{◌≡◌, ◌++◌, ◌∷◌, [], Some, if◌then◌else◌, slice_get, take, get_or, refl, sym, ap, ◌∙◌, lt-ltb}
 use Rattle.std.specs.List.{flat_map}
-use Rattle.std.proofs.lemmas.List.{append-nil, flat_map_more, take_all, take_more}
+use Rattle.std.proofs.lemmas.List.{append-nil, take_all}
 use Rattle.std.proofs.lemmas.Bool.{true≢false}
 use Rattle.std.proofs.lemmas.Option.{same_Some, slice_get-get_or, slice_get_within}
 use Rattle.am_labels.specs.Pattern.{finds}
 use Rattle.am_scan.specs.Automaton.{number_of, pattern_of}
-use Rattle.am_scan.specs.declared.pattern_automaton.PatternAutomaton.{PatternAutomaton}
 use Rattle.am_universe.proofs.ListLemmas.{AllByRecursion-at}
 use Rattle.am_universe.proofs.Members.{in_at}
-use Rattle.am_classes.specs.declared.live.LivePattern.{LivePattern}
-use Rattle.am_classes.proofs.LiveLemmas.{found_all, found_at, found_live, live_at_place}
+use Rattle.am_classes.proofs.LiveLemmas.{found_all, found_at, found_live, live_at_place, live_front, none}
 use Rattle.am_classes.proofs.live.found_patterns.Goals as goal
 use Rattle.am_classes.proofs.live.found_patterns.Goals.{then-finds+in_ok-push, else-finds}
-
-abbrev none : LivePattern
-none = record { place = 0; number = 0 }
-
--- what the live patterns so far, and one more, find
-more : (live : List LivePattern) (i : ℕ) (automata : List PatternAutomaton) (text : List ℕ) → i < length live
-    → flat_map (found_live automata text) (take (i + 1) live)
-    ≡ flat_map (found_live automata text) (take i live) ++ found_live automata text (get_or live i none)
-more live i automata text within =
-    ap (flat_map (found_live automata text)) (take_more live i none within)
-    ∙ sym (flat_map_more (found_live automata text) [] (take i live) (get_or live i none))
 
 pub loop-pattern-preserved-in_default : goal.loop-pattern-preserved-in_default
 loop-pattern-preserved-in_default c = λ text are scanned utf8.
@@ -54,12 +41,12 @@ loop-pattern-preserved c = λ text are scanned utf8.
           ap (λ v. v.items) w.found-is ∙ w.in_ok-push.ensures.items ∙ ap (λ ks. ks ++ l.place ∷ []) so_far
           ∙ ap (λ ks. flat_map (found_live automata text) (take i live) ++ ks)
           (sym (becomes ∙ rw (← says, w.if-finds.true) refl))
-          ∙ sym (more live i automata text c.loop-pattern-test.true)
+          ∙ sym (live_front (found_live automata text) live i c.loop-pattern-test.true)
       | else-finds w ↦
           ap (λ v. v.items) w.found-is ∙ so_far ∙ sym (append-nil (flat_map (found_live automata text) (take i live)))
           ∙ ap (λ ks. flat_map (found_live automata text) (take i live) ++ ks)
           (sym (becomes ∙ rw (← says, w.if-finds.false) refl))
-          ∙ sym (more live i automata text c.loop-pattern-test.true)
+          ∙ sym (live_front (found_live automata text) live i c.loop-pattern-test.true)
     ]
 
 pub returns : goal.returns

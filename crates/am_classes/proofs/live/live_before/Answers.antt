@@ -1,27 +1,14 @@
-use Rattle.std.proofs.Common.{◌≡◌, ◌+◌, ◌<◌, ◌++◌, ◌∷◌, [], ℕ, List, Some, true, false, slice_get, length, take, get_or, sym, ap, ◌∙◌, lt-ltb, arith}
+use Rattle.std.proofs.Common.{◌≡◌, ◌++◌, ◌∷◌, [], Some, true, false, slice_get, take, get_or, sym, ap, ◌∙◌, lt-ltb, arith}
 use Rattle.std.specs.List.{flat_map}
-use Rattle.std.proofs.lemmas.List.{append-nil, flat_map_more, take_all, take_more}
+use Rattle.std.proofs.lemmas.List.{append-nil, take_all}
 use Rattle.std.proofs.lemmas.Bool.{true≢false}
 use Rattle.std.proofs.lemmas.Option.{same_Some, slice_get-get_or, slice_get_within}
 use Rattle.std.proofs.lemmas.Grind.{common_steps}
 use Rattle.am_scan.specs.Automaton.{is_lost, number_of}
-use Rattle.am_scan.specs.declared.pattern_automaton.PatternAutomaton.{PatternAutomaton}
 use Rattle.am_classes.specs.Live.{live_at}
-use Rattle.am_classes.specs.declared.live.LivePattern.{LivePattern}
-use Rattle.am_classes.proofs.LiveLemmas.{led, led_all, led_at, live_at_place, live_kept, live_lost}
+use Rattle.am_classes.proofs.LiveLemmas.{led, led_all, led_at, live_at_place, live_front, live_kept, live_lost, none}
 use Rattle.am_classes.proofs.live.live_before.Goals as goal
 use Rattle.am_classes.proofs.live.live_before.Goals.{In_default, Joined-not-is_lost, then-not-is_lost+in_ok-push, else-not-is_lost}
-
-abbrev none : LivePattern
-none = record { place = 0; number = 0 }
-
--- what the live patterns so far, and one more, become
-more : (live : List LivePattern) (i : ℕ) (automata : List PatternAutomaton) (text : List ℕ) → i < length live
-    → flat_map (led automata text) (take (i + 1) live)
-    ≡ flat_map (led automata text) (take i live) ++ led automata text (get_or live i none)
-more live i automata text within =
-    ap (flat_map (led automata text)) (take_more live i none within)
-    ∙ sym (flat_map_more (led automata text) [] (take i live) (get_or live i none))
 
 pub loop-pattern-preserved-in_default : goal.loop-pattern-preserved-in_default
 loop-pattern-preserved-in_default c = λ text are.
@@ -53,12 +40,12 @@ loop-pattern-preserved c = λ text are.
           ap (λ v. v.items) w.nexts-is ∙ w.in_ok-push.ensures.items
           ∙ (λ j. so_far j ++ record { place = l.place; number = next j } ∷ [])
           ∙ ap (λ ls. flat_map (led automata longer) (take i live) ++ ls) (sym (becomes ∙ live_kept l.place a _ free))
-          ∙ sym (more live i automata longer c.loop-pattern-test.true)
+          ∙ sym (live_front (led automata longer) live i c.loop-pattern-test.true)
       | else-not-is_lost w ↦
           let lost : is_lost a (number_of a longer) ≡ true = grind (arith, common_steps) in
           ap (λ v. v.items) w.nexts-is ∙ so_far ∙ sym (append-nil (flat_map (led automata longer) (take i live)))
           ∙ ap (λ ls. flat_map (led automata longer) (take i live) ++ ls) (sym (becomes ∙ live_lost l.place a _ lost))
-          ∙ sym (more live i automata longer c.loop-pattern-test.true)
+          ∙ sym (live_front (led automata longer) live i c.loop-pattern-test.true)
     ]
 
 pub returns : goal.returns
