@@ -1,4 +1,8 @@
 pub mod Values
+pub mod Converted
+pub mod KeptMembers
+pub mod ReadTokens
+pub mod OnlyFields
 pub mod Pointers
 pub mod Readings
 pub mod Items

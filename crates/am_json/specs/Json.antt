@@ -49,6 +49,17 @@ SaysBooleanOr default key d truth =
 abbrev pub is_one_of : List ℕ → List (List ℕ) → Bool
 is_one_of key names = list_any (λ name. same_text name key) names
 
+-- The members with these names, and a value with only these fields if it is an object.
+abbrev pub only_members : List (List ℕ) → Members → Members
+only_members names no_members = no_members
+only_members names (member key d rest) =
+    if is_one_of key names then member key d (only_members names rest)
+    else only_members names rest
+
+abbrev pub only_fields : List (List ℕ) → Data → Data
+only_fields names (object members) = object (only_members names members)
+only_fields names d = d
+
 -- A member is not one of the known fields. A member that is `null` is absent, so it is not unknown.
 abbrev pub is_unknown : List (List ℕ) → List ℕ → Data → Bool
 is_unknown known key d = not (is_null d) && not (is_one_of key known)

@@ -14,7 +14,7 @@ use Rattle.am_universe.specs.declared.fault.Fault.{Fault}
 use Rattle.am_json.specs.declared.read_error.ReadError.{ReadError}
 use Rattle.am_json.specs.declared.read_error.ReadError.TheVariants as errors
 use Rattle.am_json.specs.declared.limits.TheConstants.{MAX_FILE_BYTES}
-use Rattle.am_json.specs.Json.{json_of, is_null, field, unknown_field, items_of}
+use Rattle.am_json.specs.Json.{json_of, is_null, field, unknown_field, items_of, only_fields}
 use Rattle.am_json.specs.Objections.{Objection, a_fault, objections_within, first_fault}
 use Rattle.am_json.specs.Objections.{patterns_before, limit_fault}
 use Rattle.am_json.specs.Pointer.{Refusal, refusal_here, refusal_within, to_field, to_item}
@@ -317,3 +317,10 @@ unfoldable pub read_json : List ℕ → Reading Data
 read_json bytes = do
   _ ← check_count MAX_FILE_BYTES (length bytes)
   accept_or null (json_of bytes) (refusal_here kinds.NotJson)
+
+-- The JSON value of a file, with only these fields if it is an object. It is refused as the whole
+-- value is.
+unfoldable pub read_json_fields : List (List ℕ) → List ℕ → Reading Data
+read_json_fields names bytes = do
+  d ← read_json bytes
+  accept (only_fields names d)

@@ -1,11 +1,12 @@
 //! The limit of files, and examples of forms and of what reading gives.
 
 ghost use Rattle.std.specs.Prelude.{◌≡◌, [], ◌∷◌, Some, Ok, Err, true, false, codes};
-ghost use Rattle.serde_json.specs.Data.{string};
+ghost use Rattle.serde_json.specs.Data.{boolean, string};
 ghost use Rattle.am_universe.specs.declared.kind.Kind.TheVariants as kinds;
 ghost use Rattle.am_json.specs.declared.limits.TheConstants.{MAX_FILE_BYTES};
-ghost use Rattle.am_json.specs.FormExamples.{object_of, refused_at, three_fields};
+ghost use Rattle.am_json.specs.FormExamples.{array_of, object_of, refused_at, three_fields};
 ghost use Rattle.am_json.specs.FormExamples.{three_items, two_checks, three_objections};
+ghost use Rattle.am_json.specs.Json.{only_fields};
 ghost use Rattle.am_json.specs.Objections.{a_fault, first_fault, patterns_before};
 ghost use Rattle.am_json.specs.OptionalItems.{read_optional_array};
 ghost use Rattle.am_json.specs.Reading.{as_object, as_text, check_only_fields, required_text};
@@ -29,7 +30,9 @@ pub fn files_have_a_limit()
 /// - `optional`: a field whose value is not an array is objected to at the field;
 /// - `or_null`: an object is neither an array nor `null`, which has no items;
 /// - `both` and `stops`: if two checks fail, both are objected to, and reading stops at the first;
-/// - `first` and `before`: the first fault, and the patterns before it.
+/// - `first` and `before`: the first fault, and the patterns before it;
+/// - `only` and `whole`: of an object, only the fields with these names stay, and of an array all
+///   items.
 pub fn forms_by_example()
     ensures kind { (as_object (string (codes "a"))).objections
         ≡ a_fault (refused_at kinds.Shape []) ∷ [] }
@@ -55,4 +58,7 @@ pub fn forms_by_example()
         ≡ Err (refused_at kinds.Empty []) }
     ensures first { first_fault three_objections ≡ Some (refused_at kinds.Limit (codes "/b")) }
     ensures before { patterns_before three_objections ≡ codes "/a" ∷ [] }
+    ensures only { only_fields (codes "b" ∷ codes "c" ∷ []) three_fields
+        ≡ object_of ((codes "b", boolean true) ∷ []) }
+    ensures whole { only_fields [] (array_of three_items) ≡ array_of three_items }
 {}

@@ -1,11 +1,12 @@
 //! Reading a JSON value part by part, and where and why it is refused.
 //!
-//! [`read_json`] returns the JSON value of a file. Each other function reads or checks a part of a
-//! value: an object, an array, a text, a field, or a count. If the part is not as it must be, the
-//! function fails with a [`ReadError`]. The error says why, and points to the part with a JSON
-//! Pointer (RFC 6901), which starts at the value that the function was given. [`within_field`] and
-//! [`within_item`] make the pointer start at the value around that one instead, and so in the end
-//! at the whole file. From such an error, [`ReadError::at`] makes the fault of the file.
+//! [`read_json`] returns the JSON value of a file, and [`read_json_fields`] that with only some of
+//! its fields. Each other function reads or checks a part of a value: an object, an array, a text,
+//! a field, or a count. If the part is not as it must be, the function fails with a [`ReadError`].
+//! The error says why, and points to the part with a JSON Pointer (RFC 6901), which starts at the
+//! value that the function was given. [`within_field`] and [`within_item`] make the pointer start
+//! at the value around that one instead, and so in the end at the whole file. From such an error,
+//! [`ReadError::at`] makes the fault of the file.
 //!
 //! [`or_refused`] makes a [`ReadError`] of an error that says only why.
 //!
@@ -32,6 +33,13 @@ pub use parts::{
     read_boolean_or, read_json, read_optional_items, refuse_for, required_field, required_items,
     required_text,
 };
+
+// A file of which only some fields are kept.
+mod keep;
+mod number;
+mod read_fields;
+
+pub use read_fields::read_json_fields;
 
 // The items of an array, and the members of an object, one after the other.
 mod each_item;

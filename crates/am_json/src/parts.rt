@@ -164,7 +164,7 @@ fn is_unknown(known: &[&str], key: &str, value: &Value) -> bool
     !value.is_null() && !is_one_of(key, known)
 }
 
-fn is_one_of(key: &str, names: &[&str]) -> bool
+pub(crate) fn is_one_of(key: &str, names: &[&str]) -> bool
     ensures { result ≡ is_one_of key.now (map (λ name. name.now) names.now) }
 {
     names.contains(&key)

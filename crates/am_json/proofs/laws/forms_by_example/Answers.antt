@@ -22,4 +22,6 @@ returns c = record {
   stops = refl;
   first = refl;
   before = refl;
+  only = refl;
+  whole = refl;
 }
