@@ -4,6 +4,7 @@ pub mod MatchersSay
 pub mod RuleSays
 pub mod RestOfFile
 pub mod ConfigSays
+pub mod ConfigFields
 pub mod ConfigLaws
 pub mod SmallestConfig
 pub mod RuleExample

@@ -33,8 +33,8 @@ use crate::rule::Rule;
 use crate::whole_config::WholeConfig;
 use am_json::{
     ReadError, as_object, as_text, check_count, check_only_fields, field, read_boolean_or,
-    read_json, read_optional_array, read_optional_items, refuse_for, required_field,
-    required_items, required_text, within_field, within_item,
+    read_json, read_json_fields, read_optional_array, read_optional_items, refuse_for,
+    required_field, required_items, required_text, within_field, within_item,
 };
 use am_labels::Matchers;
 use am_list_files::label_name_fault;
@@ -59,12 +59,15 @@ const ROUTE_FIELDS: [&str; 12] = [
     "active_time_intervals",
 ];
 
+/// The fields of the file that are read.
+const CONFIG_FIELDS: [&str; 3] = ["receivers", "route", "inhibit_rules"];
+
 /// Reads a configuration file: an Alertmanager configuration (reference 0.25) as JSON.
 ///
 /// A field that is `null` is absent. Some fields may have any value: of a route, those that say how
 /// alerts are grouped and when they are sent; of an inhibition rule, `name`; of a receiver, all but
-/// `name`; and of the file, all but `receivers`, `route` and `inhibit_rules`. The JSON value of the
-/// whole file is in memory until the call returns. Each name of a receiver is compared with those
+/// `name`; and of the file, all but `receivers`, `route` and `inhibit_rules`. The JSON values of
+/// these three are in memory until the call returns. Each name of a receiver is compared with those
 /// before it, and each that a route has with those declared. Fails with the first fault of the
 /// file, at the place `Config`, with the pointer to the part at fault:
 /// - `Limit`: more than `MAX_FILE_BYTES` bytes, [`MAX_RECEIVERS`] receivers, [`MAX_ROUTES`] routes,
@@ -96,6 +99,8 @@ pub fn read_config(alloc: Global, bytes: &[u8]) -> Result<Config, Fault>
 }
 
 /// Reads a configuration file, and keeps its fields but `route`. Fails as [`read_config`] does.
+///
+/// The JSON value of the whole file is in memory until the call returns.
 pub fn read_whole_config(alloc: Global, bytes: &[u8]) -> Result<WholeConfig, Fault>
     ensures says { IfOk result (λ w. FileSaysWholeConfig bytes.now (whole_config_view w)) }
     ensures first { IfErr result (IsRefusalAt places.Config (ConfigFileRefusedFor bytes.now)) }
@@ -106,11 +111,10 @@ pub fn read_whole_config(alloc: Global, bytes: &[u8]) -> Result<WholeConfig, Fau
     }
 }
 
-#[tactic(auto, using(am_json::proofs::Readings::steps), unfolding(crate::specs::ConfigForm::config_file_form))]
 fn read_config_file(alloc: Global, bytes: &[u8]) -> Result<Config, ReadError>
     ensures { Gives config_view result (config_file_form bytes.now) }
 {
-    let value = read_json(alloc, bytes)?;
+    let value = read_json_fields(alloc, bytes, &CONFIG_FIELDS)?;
     read_config_value(alloc, &value)
 }
 
