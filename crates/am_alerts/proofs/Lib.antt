@@ -1,6 +1,8 @@
 mod Truths
 mod Ids
 mod AlertLabelLemmas
+mod LabelRows
+mod NamedLabels
 mod RowLemmas
 mod AlertEnds
 mod AlertListLemmas

@@ -4,10 +4,10 @@
 //! values of a label with others. What is looked at for each alert is kept small, because there may
 //! be many matchers and alerts.
 
-ghost use Rattle.std.specs.Prelude.{◌≡◌, ◌++◌, ◌≤◌, ◌<◌, ◌+◌, ◌↔◌, ℕ, length, map, slice_get, Some};
-ghost use Rattle.std.specs.Prelude.{IfOk, List};
-ghost use Rattle.std.specs.Borrow.{Bor};
-ghost use Rattle.std.specs.Prelude.{◌&&◌, All, OnOk, true, replicate};
+ghost use Rattle.std.specs.Prelude.{◌≡◌, ◌++◌, ◌≤◌, ◌<◌, ◌-◌, ◌↔◌, ℕ, length, map, slice_get, Some};
+ghost use Rattle.std.specs.Prelude.{IfOk, slice_range};
+ghost use Rattle.std.specs.Prelude.{◌&&◌, ◌||◌, not, All, OnOk, true, replicate};
+ghost use Rattle.std.specs.List.{list_any};
 ghost use Rattle.std.specs.Ordering.{nat_cmp};
 ghost use Rattle.std.specs.Cmp.Lexicographic.{slice_cmp};
 ghost use Rattle.std.specs.List.Sorted.{IsSortedByKey};
@@ -18,7 +18,7 @@ ghost use Rattle.am_eval.specs.Inhibition.{have_equal};
 ghost use Rattle.am_alerts.specs.declared.alert_labels.AlertLabel.{AlertLabel};
 ghost use Rattle.am_alerts.specs.Judge.{passes, IsSound};
 ghost use Rattle.am_alerts.specs.AlertLabels.{label_view, labels_of, all_labels};
-ghost use Rattle.am_alerts.specs.AlertLabels.{AreJudged, HaveValues, HasValue, IsKnown};
+ghost use Rattle.am_alerts.specs.AlertLabels.{IsRowEnd, AreRowEnds, is_at, all_pass};
 ghost use Rattle.am_alerts.specs.AlertLabels.{AreTruths, Keeps, flag};
 
 use crate::judge::{Judge, ValueTest, judge_for};
@@ -45,10 +45,8 @@ pub(crate) struct AlertLabels<'w> {
     labels: Vec<AlertLabel<'w>>,
     /// For each label, the position of its alert.
     positions: Vec<usize>,
-    /// For each label, the place of its value.
-    places: Vec<usize>,
-    /// The values, each once for a row of labels that have it.
-    values: Vec<&'w str>,
+    /// For each label, where the row of labels with its value ends.
+    ends: Vec<usize>,
 }
 
 impl<'w> Model for AlertLabels<'w> {
@@ -65,7 +63,7 @@ impl<'w> Model for AlertLabels<'w> {
     ghost view = { λ a. a.alerts.now };
 
     ghost invariant = { λ a.
-        AreSorted a.alerts.now a.labels.items a.positions.items a.places.items a.values.items };
+        AreSorted a.alerts.now a.labels.items a.positions.items a.ends.items };
 }
 
 impl<'w> AlertLabels<'w> {
@@ -78,13 +76,12 @@ impl<'w> AlertLabels<'w> {
         share_values(&mut labels);
         labels.sort_by_key(|label| label.name)?;
         let positions = positions_in(alloc, labels.as_slice())?;
-        let (places, values) = values_in(alloc, labels.as_slice())?;
+        let ends = row_ends(alloc, labels.as_slice())?;
         Ok(AlertLabels {
             alerts,
             labels,
             positions,
-            places,
-            values,
+            ends,
         })
     }
 
@@ -137,7 +134,7 @@ impl<'w> AlertLabels<'w> {
             }
             let matcher = matchers.get(i);
             let mut judge = judge_for(alloc, matcher, last)?;
-            left = self.kept(alloc, matcher.name(), &mut judge, left.as_slice())?;
+            left = self.kept(alloc, matcher.name(), &mut judge, left)?;
             last = Some((matcher, judge));
         }
         Ok(left)
@@ -159,7 +156,7 @@ impl<'w> AlertLabels<'w> {
         let mut left = among.to_vec(alloc)?;
         for name in names {
             let mut judge = Judge::of(alloc, ValueTest::Equal(set.get(name)));
-            left = self.kept(alloc, name, &mut judge, left.as_slice())?;
+            left = self.kept(alloc, name, &mut judge, left)?;
         }
         Ok(left)
     }
@@ -171,103 +168,144 @@ impl<'w> AlertLabels<'w> {
         alloc: Global,
         name: &str,
         judge: &mut Judge<'_, 'w>,
-        among: &[bool],
+        among: Vec<bool>,
     ) -> Result<Vec<bool>, AllocError>
-        requires count { length among.now ≡ length self.now }
+        requires count { length among.items ≡ length self.now }
         requires sound { IsSound judge.old }
         ensures kept { IfOk result (λ kept. Keeps self.now
-            (λ s. passes judge.old.test (value_of s name.now)) among.now kept.items) }
+            (λ s. passes judge.old.test (value_of s name.now)) among.items kept.items) }
         ensures test { OnOk result (judge.new.test ≡ judge.old.test) }
         ensures sound { OnOk result (IsSound judge.new) }
     {
+        let range = range_of(self.labels.as_slice(), name);
+        let positions = &self.positions[range.0..range.1];
         let absent = judge.begin();
-        let mut kept = those_if(alloc, among, absent)?;
+        let mut kept = those_judged(alloc, positions, absent, among)?;
         judge_all(
             self.labels.as_slice(),
             self.positions.as_slice(),
-            self.places.as_slice(),
-            self.values.as_slice(),
-            range_of(self.labels.as_slice(), name),
+            self.ends.as_slice(),
+            range,
             judge,
-            among,
             &mut kept,
         )?;
         Ok(kept)
     }
 }
 
-/// Returns the same alerts if a condition is true, and else none.
-fn those_if(alloc: Global, among: &[bool], condition: bool) -> Result<Vec<bool>, AllocError>
-    ensures count { IfOk result (λ those. length those.items ≡ length among.now) }
-    ensures those { IfOk result (λ those.
-        (i : ℕ) → flag those.items i ≡ (flag among.now i && condition)) }
+/// Returns which of some alerts are judged: those that have a label, whose positions are given, and
+/// all of them if the empty text passes the test. If there are as many positions as alerts, each
+/// alert must have the label. Fails only if memory runs out.
+fn those_judged(
+    alloc: Global,
+    positions: &[usize],
+    absent: bool,
+    among: Vec<bool>,
+) -> Result<Vec<bool>, AllocError>
+    requires positions { All (λ p. p < length among.items) positions.now }
+    requires each { length positions.now ≡ length among.items
+        → (i : ℕ) → i < length among.items → is_at positions.now i ≡ true }
+    ensures count { IfOk result (λ those. length those.items ≡ length among.items) }
+    ensures those { IfOk result (λ those. (i : ℕ) → i < length among.items
+        → flag those.items i
+        ≡ (flag among.items i && (absent || is_at positions.now i))) }
 {
-    if condition {
-        among.to_vec(alloc)
+    if absent || positions.len() == among.len() {
+        Ok(among)
     } else {
-        vec![in alloc; false; among.len()]
+        those_at(alloc, positions, among.as_slice())
     }
 }
 
-/// Judges each of some alerts that has a label in a range by the value of that label. Fails only if
-/// memory runs out.
+/// Returns those of some alerts that are at these positions. Fails only if memory runs out.
+fn those_at(alloc: Global, positions: &[usize], among: &[bool]) -> Result<Vec<bool>, AllocError>
+    requires { All (λ p. p < length among.now) positions.now }
+    ensures count { IfOk result (λ those. length those.items ≡ length among.now) }
+    ensures those { IfOk result (λ those. (i : ℕ)
+        → flag those.items i ≡ (flag among.now i && is_at positions.now i)) }
+{
+    let mut those = vec![in alloc; false; among.len()]?;
+    for position in positions {
+        those[*position] = among[*position];
+    }
+    Ok(those)
+}
+
+/// Judges each row of labels with one value in a range, and drops the alerts of those that fail.
+/// Fails only if memory runs out.
 fn judge_all<'w>(
     labels: &[AlertLabel<'w>],
     positions: &[usize],
-    places: &[usize],
-    values: &[&'w str],
+    ends: &[usize],
     range: (usize, usize),
     judge: &mut Judge<'_, 'w>,
-    among: &[bool],
     kept: &mut [bool],
 ) -> Result<(), AllocError>
     requires range { (range.0 ≤ range.1) × (range.1 ≤ length labels.now) }
     requires positions { map (λ l. l.alert) labels.now ≡ positions.now }
-    requires values { HaveValues labels.now places.now values.now }
-    requires alerts { All (λ l. l.alert < length among.now) labels.now }
-    requires count { length kept.old ≡ length among.now }
+    requires ends { AreRowEnds labels.now ends.now }
+    requires alerts { All (λ l. l.alert < length kept.old) labels.now }
     requires sound { IsSound judge.old }
-    ensures count { OnOk result (length kept.new ≡ length among.now) }
-    ensures judged { OnOk result (AreJudged labels.now range.0 range.1 judge.old.test among.now
-        kept.old kept.new) }
+    ensures count { OnOk result (length kept.new ≡ length kept.old) }
+    ensures judged { OnOk result ((i : ℕ) → flag kept.new i ≡ (flag kept.old i
+        && all_pass judge.old.test (slice_range labels.now range.0 range.1) i)) }
     ensures test { OnOk result (judge.new.test ≡ judge.old.test) }
     ensures sound { OnOk result (IsSound judge.new) }
 {
-    let mut known = None;
-    for k in range.0..range.1 {
-        let alert = positions[k];
-        if among[alert] {
-            kept[alert] = value_passes(values, places[k], judge, &mut known)?;
-        }
+    let mut start = range.0;
+    while start < range.1 {
+        let end = ends[start].min(range.1);
+        judge_row(&positions[start..end], labels[start].value, judge, kept)?;
+        start = end;
     }
     Ok(())
 }
 
-/// Whether the value at a place passes a test. The last answer is kept, and is given again for each
-/// further label in a row with the same value. Fails only if memory runs out.
-fn value_passes<'w>(
-    values: &[&'w str],
-    place: usize,
+/// Drops the alerts at these positions, unless their value passes a test. The value is not tested
+/// if none of them is left. Fails only if memory runs out.
+fn judge_row<'w>(
+    positions: &[usize],
+    value: &'w str,
     judge: &mut Judge<'_, 'w>,
-    known: &mut Option<(usize, bool)>,
-) -> Result<bool, AllocError>
-    requires within { place < length values.now }
+    kept: &mut [bool],
+) -> Result<(), AllocError>
+    requires positions { All (λ p. p < length kept.old) positions.now }
     requires sound { IsSound judge.old }
-    requires known { IsKnown values.now judge.old.test known.old }
-    ensures truth { IfOk result (λ truth. (v : Bor (List ℕ)) → slice_get values.now place ≡ Some v
-        → truth ≡ passes judge.old.test v.now) }
-    ensures known { OnOk result (IsKnown values.now judge.old.test known.new) }
+    ensures count { OnOk result (length kept.new ≡ length kept.old) }
+    ensures judged { OnOk result ((i : ℕ) → flag kept.new i ≡ (flag kept.old i
+        && (passes judge.old.test value.now || not (is_at positions.now i)))) }
     ensures test { OnOk result (judge.new.test ≡ judge.old.test) }
     ensures sound { OnOk result (IsSound judge.new) }
 {
-    if let Some((other, answer)) = *known {
-        if other == place {
-            return Ok(answer);
+    if has_any(kept, positions) && !judge.passes(value)? {
+        drop_all(positions, kept);
+    }
+    Ok(())
+}
+
+/// Whether one of some alerts is at one of these positions.
+fn has_any(among: &[bool], positions: &[usize]) -> bool
+    requires { All (λ p. p < length among.now) positions.now }
+    ensures any { result ≡ list_any (flag among.now) positions.now }
+{
+    for position in positions {
+        if among[*position] {
+            return true;
         }
     }
-    let answer = judge.passes(values[place])?;
-    *known = Some((place, answer));
-    Ok(answer)
+    false
+}
+
+/// Drops the alerts at these positions.
+fn drop_all(positions: &[usize], kept: &mut [bool])
+    requires { All (λ p. p < length kept.old) positions.now }
+    ensures count { length kept.new ≡ length kept.old }
+    ensures dropped { (i : ℕ)
+        → flag kept.new i ≡ (flag kept.old i && not (is_at positions.now i)) }
+{
+    for position in positions {
+        kept[*position] = false;
+    }
 }
 
 /// The positions of the labels of this name: of the first one, and of the one after the last.
@@ -336,33 +374,29 @@ fn positions_in(alloc: Global, labels: &[AlertLabel<'_>]) -> Result<Vec<usize>, 
     Ok(positions)
 }
 
-/// Returns for each label the place of its value, and the values. A value is there once for a row
-/// of labels that have it, so that few places in memory are read.
-fn values_in<'w>(
-    alloc: Global,
-    labels: &[AlertLabel<'w>],
-) -> Result<(Vec<usize>, Vec<&'w str>), AllocError>
-    ensures { IfOk result (λ found. HaveValues labels.now found.0.items found.1.items) }
+/// Returns for each label where the row of labels with its value ends. Fails only if memory runs
+/// out.
+fn row_ends(alloc: Global, labels: &[AlertLabel<'_>]) -> Result<Vec<usize>, AllocError>
+    ensures { IfOk result (λ ends. AreRowEnds labels.now ends.items) }
 {
-    let mut places = Vec::with_capacity(alloc, labels.len())?;
-    let mut values = Vec::new(alloc);
-    for k in 0..labels.len() {
-        let place = place_of(labels[k].value, &mut values)?;
-        places.push(place)?;
+    let count = labels.len();
+    let mut ends = vec![in alloc; count; count]?;
+    for before in (1..count).rev() {
+        ends[before - 1] = end_before(labels, before, ends[before]);
     }
-    Ok((places, values))
+    Ok(ends)
 }
 
-/// Returns the place of a value, and adds the value unless it is the last one.
-fn place_of<'w>(value: &'w str, values: &mut Vec<&'w str>) -> Result<usize, AllocError>
-    ensures grows { (k : ℕ) (text : List ℕ) → HasValue values.old.items k text
-        → HasValue values.new.items k text }
-    ensures place { IfOk result (λ place. HasValue values.new.items place value.now) }
+/// Where the row of labels ends that has the label before a position, if the row from there on ends
+/// at this end.
+fn end_before(labels: &[AlertLabel<'_>], position: usize, end: usize) -> usize
+    requires within { (0 < position) × (position < length labels.now) }
+    requires row { IsRowEnd labels.now position end }
+    ensures row { IsRowEnd labels.now (position - 1) result }
 {
-    let count = values.len();
-    if count > 0 && values[count - 1] == value {
-        return Ok(count - 1);
+    if labels[position - 1].value == labels[position].value {
+        end
+    } else {
+        position
     }
-    values.push(value)?;
-    Ok(count)
 }

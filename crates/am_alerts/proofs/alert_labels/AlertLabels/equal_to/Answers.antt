@@ -26,9 +26,9 @@ loop-name-preserved c =
     let next : Keeps c.args.self.now (λ s. same s name) c.loop-name.left.items c.in_ok-left-2.left.items = (
       kept.0,
       λ k s at. kept.1 k s at
-          ∙ ap (λ t. flag c.as_slice.result.now k && passes t (value_of s c.deref-in-loop-name.result.now))
+          ∙ ap (λ t. flag c.loop-name.left.items k && passes t (value_of s c.deref-in-loop-name.result.now))
           c.of-judge.ensures.test
-          ∙ (λ j. flag (c.as_slice.ensures.value j) k
+          ∙ (λ j. flag c.loop-name.left.items k
           && same_text ((c.get.ensures.value ∙ ap (value_of set) c.deref.ensures) j)
           (value_of s (c.deref-in-loop-name.ensures j))),
     ) in

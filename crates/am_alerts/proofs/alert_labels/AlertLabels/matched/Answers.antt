@@ -33,7 +33,7 @@ loop-i-preserved c =
     let next : Keeps alerts (λ s. condition_holds s m) c.loop-i.left.items c.in_ok-left-2.left.items = (
       kept.0,
       λ k s at. kept.1 k s at
-          ∙ (λ j. flag (c.as_slice.ensures.value j) k && passes judge.test (value_of s (c.name.ensures.name j)))
+          ∙ ap (λ n. flag c.loop-i.left.items k && passes judge.test (value_of s n)) c.name.ensures.name
           ∙ ap (λ b. flag c.loop-i.left.items k && b) (c.in_ok-judge.ensures.test (value_of s m.name)),
     ) in
     record {
