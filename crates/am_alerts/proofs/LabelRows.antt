@@ -61,6 +61,7 @@ blank = record {
   name = record { ref_ptr = (0, 0); now = [] };
   value = record { ref_ptr = (0, 0); now = [] };
   alert = 0;
+  place = 0;
 }
 
 -- the positions of the alerts in a range are below a count

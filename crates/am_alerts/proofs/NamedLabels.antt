@@ -223,7 +223,7 @@ named_there alerts labels name all i s value at there =
     ap (has (named name labels)) (sym (ap (λ (v : ℕ × (List ℕ × List ℕ)). v.0) l.2))
     ∙ has_from (named name labels) l.0 (in_filter (λ m. is_named name m.name.now) labels l.0 l.1 is)
 
-pub each_named : (alerts : List LabelMap) (labels : List AlertLabel) (name : List ℕ) → AreLabels alerts labels
+each_named : (alerts : List LabelMap) (labels : List AlertLabel) (name : List ℕ) → AreLabels alerts labels
     → length alerts ≤ length (named name labels)
     → (i : ℕ) (s : LabelMap) → slice_get alerts i ≡ Some s → has (named name labels) i ≡ true
 each_named alerts labels name all full i s at =

@@ -1,10 +1,12 @@
 //! The labels of all alerts, sorted, so that a matcher is tried once on each value of its label.
 //!
 //! To test a pattern on a text takes far longer than to look at an alert, and most alerts share the
-//! values of a label with others. What is looked at for each alert is kept small, because there may
-//! be many matchers and alerts.
+//! values of a label with others. So the labels with one name and one value stand in a row, and
+//! all alerts of a row are looked at only if its value fails. A value is known by its place among
+//! all values, because there may be many matchers and alerts, and a text may be anywhere in memory.
 
-ghost use Rattle.std.specs.Prelude.{◌≡◌, ◌++◌, ◌≤◌, ◌<◌, ◌-◌, ◌↔◌, ℕ, length, map, slice_get, Some};
+ghost use Rattle.std.specs.Prelude.{◌≡◌, ◌++◌, ◌≤◌, ◌<◌, ◌-◌, ◌↔◌, ℕ, List, length, map};
+ghost use Rattle.std.specs.Prelude.{slice_get, Some};
 ghost use Rattle.std.specs.Prelude.{IfOk, slice_range};
 ghost use Rattle.std.specs.Prelude.{◌&&◌, ◌||◌, not, All, OnOk, true, replicate};
 ghost use Rattle.std.specs.List.{list_any};
@@ -16,10 +18,11 @@ ghost use Rattle.am_labels.specs.Matcher.{all_hold};
 ghost use Rattle.am_config.specs.RouteView.{names_of};
 ghost use Rattle.am_eval.specs.Inhibition.{have_equal};
 ghost use Rattle.am_alerts.specs.declared.alert_labels.AlertLabel.{AlertLabel};
-ghost use Rattle.am_alerts.specs.Judge.{passes, IsSound};
+ghost use Rattle.am_alerts.specs.Judge.{passes, text_at, IsSound};
 ghost use Rattle.am_alerts.specs.AlertLabels.{label_view, labels_of, all_labels};
-ghost use Rattle.am_alerts.specs.AlertLabels.{IsRowEnd, AreRowEnds, is_at, all_pass};
-ghost use Rattle.am_alerts.specs.AlertLabels.{AreTruths, Keeps, flag};
+ghost use Rattle.am_alerts.specs.AlertLabels.{HasValue, HasPlace, IsRowEnd, AreRowEnds};
+ghost use Rattle.am_alerts.specs.AlertLabels.{is_at, all_pass};
+ghost use Rattle.am_alerts.specs.AlertLabels.{AreSorted, AreTruths, Keeps, flag};
 
 use crate::judge::{Judge, ValueTest, judge_for};
 use am_labels::Matchers;
@@ -35,18 +38,28 @@ pub(crate) struct AlertLabel<'w> {
     pub(crate) value: &'w str,
     /// The position of the alert.
     pub(crate) alert: usize,
+    /// The place of the value among all values.
+    pub(crate) place: usize,
+}
+
+/// Some alerts, and their labels, sorted.
+#[derive(Drop)]
+pub(crate) struct SortedLabels<'w> {
+    pub(crate) alerts: &'w Alerts,
+    /// By name, and those of a name by value.
+    pub(crate) labels: Vec<AlertLabel<'w>>,
+    /// For each label, the position of its alert.
+    pub(crate) positions: Vec<usize>,
+    /// For each label, where the row of labels with its value ends.
+    pub(crate) ends: Vec<usize>,
+    /// The values of all labels, each once.
+    pub(crate) values: Vec<&'w str>,
 }
 
 /// The labels of some alerts, sorted.
 #[derive(Drop)]
 pub(crate) struct AlertLabels<'w> {
-    alerts: &'w Alerts,
-    /// By name, and those of a name by value.
-    labels: Vec<AlertLabel<'w>>,
-    /// For each label, the position of its alert.
-    positions: Vec<usize>,
-    /// For each label, where the row of labels with its value ends.
-    ends: Vec<usize>,
+    sorted: SortedLabels<'w>,
 }
 
 impl<'w> Model for AlertLabels<'w> {
@@ -60,10 +73,9 @@ impl<'w> Model for AlertLabels<'w> {
 
     ghost coded = { coded_list label_map_code };
 
-    ghost view = { λ a. a.alerts.now };
+    ghost view = { λ a. a.sorted.alerts.now };
 
-    ghost invariant = { λ a.
-        AreSorted a.alerts.now a.labels.items a.positions.items a.ends.items };
+    ghost invariant = { λ a. AreSorted a.sorted };
 }
 
 impl<'w> AlertLabels<'w> {
@@ -73,30 +85,32 @@ impl<'w> AlertLabels<'w> {
     {
         let mut labels = labels_of(alloc, alerts)?;
         labels.sort_unstable_by_key(|label| label.value);
-        share_values(&mut labels);
+        let values = place_values(alloc, &mut labels)?;
         labels.sort_by_key(|label| label.name)?;
         let positions = positions_in(alloc, labels.as_slice())?;
         let ends = row_ends(alloc, labels.as_slice())?;
-        Ok(AlertLabels {
+        let sorted = SortedLabels {
             alerts,
             labels,
             positions,
             ends,
-        })
+            values,
+        };
+        Ok(AlertLabels { sorted })
     }
 
     /// The alerts.
     pub(crate) fn alerts(&self) -> &'w Alerts
         ensures alerts { result.now ≡ self.now }
     {
-        self.alerts
+        self.sorted.alerts
     }
 
     /// All alerts, as a truth for each. Fails only if memory runs out.
     pub(crate) fn all(&self, alloc: Global) -> Result<Vec<bool>, AllocError>
         ensures all { IfOk result (λ all. all.items ≡ replicate (length self.now) true) }
     {
-        vec![in alloc; true; self.alerts.len()]
+        vec![in alloc; true; self.sorted.alerts.len()]
     }
 
     /// Returns which alerts match a list of matchers, as a truth for each. Fails only if memory
@@ -126,6 +140,7 @@ impl<'w> AlertLabels<'w> {
         ensures matched { IfOk result (λ kept.
             Keeps self.now (λ s. all_hold s matchers.now) among.now kept.items) }
     {
+        let sorted = &self.sorted;
         let mut left = among.to_vec(alloc)?;
         let mut last = None;
         for i in 0..matchers.len() {
@@ -134,7 +149,7 @@ impl<'w> AlertLabels<'w> {
             }
             let matcher = matchers.get(i);
             let mut judge = judge_for(alloc, matcher, last)?;
-            left = self.kept(alloc, matcher.name(), &mut judge, left)?;
+            left = kept(alloc, sorted, matcher.name(), &mut judge, left)?;
             last = Some((matcher, judge));
         }
         Ok(left)
@@ -156,41 +171,35 @@ impl<'w> AlertLabels<'w> {
         let mut left = among.to_vec(alloc)?;
         for name in names {
             let mut judge = Judge::of(alloc, ValueTest::Equal(set.get(name)));
-            left = self.kept(alloc, name, &mut judge, left)?;
+            left = kept(alloc, &self.sorted, name, &mut judge, left)?;
         }
         Ok(left)
     }
+}
 
-    /// Returns which of some alerts have a value that passes a test, for the label of this name. A
-    /// label that is missing has the empty text. Each value is tested once.
-    fn kept(
-        &self,
-        alloc: Global,
-        name: &str,
-        judge: &mut Judge<'_, 'w>,
-        among: Vec<bool>,
-    ) -> Result<Vec<bool>, AllocError>
-        requires count { length among.items ≡ length self.now }
-        requires sound { IsSound judge.old }
-        ensures kept { IfOk result (λ kept. Keeps self.now
-            (λ s. passes judge.old.test (value_of s name.now)) among.items kept.items) }
-        ensures test { OnOk result (judge.new.test ≡ judge.old.test) }
-        ensures sound { OnOk result (IsSound judge.new) }
-    {
-        let range = range_of(self.labels.as_slice(), name);
-        let positions = &self.positions[range.0..range.1];
-        let absent = judge.begin();
-        let mut kept = those_judged(alloc, positions, absent, among)?;
-        judge_all(
-            self.labels.as_slice(),
-            self.positions.as_slice(),
-            self.ends.as_slice(),
-            range,
-            judge,
-            &mut kept,
-        )?;
-        Ok(kept)
-    }
+/// Returns which of some alerts have a value that passes a test, for the label of this name. Where
+/// the label is missing, the value is the empty text. Each value is tested once.
+fn kept(
+    alloc: Global,
+    sorted: &SortedLabels<'_>,
+    name: &str,
+    judge: &mut Judge<'_>,
+    among: Vec<bool>,
+) -> Result<Vec<bool>, AllocError>
+    requires sorted { AreSorted sorted.now }
+    requires count { length among.items ≡ length sorted.now.alerts.now }
+    requires sound { IsSound sorted.now.values.items judge.old }
+    ensures kept { IfOk result (λ kept. Keeps sorted.now.alerts.now
+        (λ s. passes judge.old.test (value_of s name.now)) among.items kept.items) }
+    ensures test { OnOk result (judge.new.test ≡ judge.old.test) }
+    ensures sound { OnOk result (IsSound sorted.now.values.items judge.new) }
+{
+    let range = range_of(sorted.labels.as_slice(), name);
+    let positions = &sorted.positions[range.0..range.1];
+    let absent = judge.begin();
+    let mut kept = those_judged(alloc, positions, absent, among)?;
+    judge_all(sorted, range, judge, &mut kept)?;
+    Ok(kept)
 }
 
 /// Returns which of some alerts are judged: those that have a label, whose positions are given, and
@@ -233,51 +242,52 @@ fn those_at(alloc: Global, positions: &[usize], among: &[bool]) -> Result<Vec<bo
 
 /// Judges each row of labels with one value in a range, and drops the alerts of those that fail.
 /// Fails only if memory runs out.
-fn judge_all<'w>(
-    labels: &[AlertLabel<'w>],
-    positions: &[usize],
-    ends: &[usize],
+fn judge_all(
+    sorted: &SortedLabels<'_>,
     range: (usize, usize),
-    judge: &mut Judge<'_, 'w>,
+    judge: &mut Judge<'_>,
     kept: &mut [bool],
 ) -> Result<(), AllocError>
-    requires range { (range.0 ≤ range.1) × (range.1 ≤ length labels.now) }
-    requires positions { map (λ l. l.alert) labels.now ≡ positions.now }
-    requires ends { AreRowEnds labels.now ends.now }
-    requires alerts { All (λ l. l.alert < length kept.old) labels.now }
-    requires sound { IsSound judge.old }
+    requires sorted { AreSorted sorted.now }
+    requires range { (range.0 ≤ range.1) × (range.1 ≤ length sorted.now.labels.items) }
+    requires count { length kept.old ≡ length sorted.now.alerts.now }
+    requires sound { IsSound sorted.now.values.items judge.old }
     ensures count { OnOk result (length kept.new ≡ length kept.old) }
     ensures judged { OnOk result ((i : ℕ) → flag kept.new i ≡ (flag kept.old i
-        && all_pass judge.old.test (slice_range labels.now range.0 range.1) i)) }
+        && all_pass judge.old.test (slice_range sorted.now.labels.items range.0 range.1) i)) }
     ensures test { OnOk result (judge.new.test ≡ judge.old.test) }
-    ensures sound { OnOk result (IsSound judge.new) }
+    ensures sound { OnOk result (IsSound sorted.now.values.items judge.new) }
 {
+    let values = sorted.values.as_slice();
     let mut start = range.0;
     while start < range.1 {
-        let end = ends[start].min(range.1);
-        judge_row(&positions[start..end], labels[start].value, judge, kept)?;
+        let end = sorted.ends[start].min(range.1);
+        let place = sorted.labels[start].place;
+        judge_row(&sorted.positions[start..end], values, place, judge, kept)?;
         start = end;
     }
     Ok(())
 }
 
-/// Drops the alerts at these positions, unless their value passes a test. The value is not tested
-/// if none of them is left. Fails only if memory runs out.
-fn judge_row<'w>(
+/// Drops the alerts at these positions, unless their value, which is at a place, passes a test. The
+/// value is not tested if none of them is left. Fails only if memory runs out.
+fn judge_row(
     positions: &[usize],
-    value: &'w str,
-    judge: &mut Judge<'_, 'w>,
+    values: &[&str],
+    place: usize,
+    judge: &mut Judge<'_>,
     kept: &mut [bool],
 ) -> Result<(), AllocError>
     requires positions { All (λ p. p < length kept.old) positions.now }
-    requires sound { IsSound judge.old }
+    requires place { place < length values.now }
+    requires sound { IsSound values.now judge.old }
     ensures count { OnOk result (length kept.new ≡ length kept.old) }
     ensures judged { OnOk result ((i : ℕ) → flag kept.new i ≡ (flag kept.old i
-        && (passes judge.old.test value.now || not (is_at positions.now i)))) }
+        && (passes judge.old.test (text_at values.now place) || not (is_at positions.now i)))) }
     ensures test { OnOk result (judge.new.test ≡ judge.old.test) }
-    ensures sound { OnOk result (IsSound judge.new) }
+    ensures sound { OnOk result (IsSound values.now judge.new) }
 {
-    if has_any(kept, positions) && !judge.passes(value)? {
+    if has_any(kept, positions) && !judge.passes(values, place)? {
         drop_all(positions, kept);
     }
     Ok(())
@@ -345,22 +355,40 @@ fn add_labels<'w>(
             name: name.as_str(),
             value: value.as_str(),
             alert,
+            place: 0,
         })?;
     }
     Ok(())
 }
 
-/// Lets labels with the same value in a row share one text, because one place in memory is read far
-/// faster than many.
-fn share_values<'w>(labels: &mut Vec<AlertLabel<'w>>)
-    ensures { map label_view labels.new.items ≡ map label_view labels.old.items }
+/// Gives each label the place of its value, and returns the values, each once if the labels are
+/// sorted by their values. Fails only if memory runs out.
+fn place_values<'w>(
+    alloc: Global,
+    labels: &mut Vec<AlertLabel<'w>>,
+) -> Result<Vec<&'w str>, AllocError>
+    ensures same { OnOk result (map label_view labels.new.items ≡ map label_view labels.old.items) }
+    ensures placed { IfOk result (λ values. All (HasPlace values.items) labels.new.items) }
 {
-    for k in 1..labels.len() {
-        let value = labels[k - 1].value;
-        if labels[k].value == value {
-            labels[k].value = value;
-        }
+    let mut values = Vec::new(alloc);
+    for k in 0..labels.len() {
+        labels[k].place = place_of(labels[k].value, &mut values)?;
     }
+    Ok(values)
+}
+
+/// Returns the place of a value, and adds the value unless it is the last one.
+fn place_of<'w>(value: &'w str, values: &mut Vec<&'w str>) -> Result<usize, AllocError>
+    ensures grows { (k : ℕ) (text : List ℕ) → HasValue values.old.items k text
+        → HasValue values.new.items k text }
+    ensures place { IfOk result (λ place. HasValue values.new.items place value.now) }
+{
+    let count = values.len();
+    if count > 0 && values[count - 1] == value {
+        return Ok(count - 1);
+    }
+    values.push(value)?;
+    Ok(count)
 }
 
 /// Returns for each label the position of its alert.
@@ -394,7 +422,7 @@ fn end_before(labels: &[AlertLabel<'_>], position: usize, end: usize) -> usize
     requires row { IsRowEnd labels.now position end }
     ensures row { IsRowEnd labels.now (position - 1) result }
 {
-    if labels[position - 1].value == labels[position].value {
+    if labels[position - 1].place == labels[position].place {
         end
     } else {
         position

@@ -1,7 +1,8 @@
 //! Tests of the values of labels, and the answers that are known.
 
-ghost use Rattle.std.specs.Prelude.{◌≡◌, [], IfOk, IfSome, IsTrue, OnOk};
-ghost use Rattle.am_alerts.specs.Judge.{passes, IsSound, IsTestOf};
+ghost use Rattle.std.specs.Prelude.{◌≡◌, ◌<◌, ℕ, List, [], length, IfOk, IfSome, IsTrue, OnOk};
+ghost use Rattle.std.specs.Borrow.{Bor};
+ghost use Rattle.am_alerts.specs.Judge.{passes, text_at, IsSound, IsTestOf};
 
 use am_labels::{Matcher, PreparedMatcher};
 use std::alloc::{AllocError, Global};
@@ -31,29 +32,31 @@ impl<'t> ValueTest<'t> {
 
 /// Whether a value passes a test.
 #[derive(Clone, Copy, Drop)]
-pub(crate) struct Answer<'w> {
-    pub(crate) value: &'w str,
+pub(crate) struct Answer {
+    /// The place of the value among all values.
+    pub(crate) place: usize,
     pub(crate) passes: bool,
 }
 
 /// Tests the values of labels, those of one label after those of another. The answers for the last
 /// label are kept, because labels often share their values, and matchers of a list their patterns.
+/// Values are given by their places among all values, which are compared far faster than texts.
 #[derive(Drop)]
-pub(crate) struct Judge<'t, 'w> {
+pub(crate) struct Judge<'t> {
     pub(crate) test: ValueTest<'t>,
     /// The answers for the label that is judged, and for the one before it, in the order of the
     /// values.
-    pub(crate) found: Vec<Answer<'w>>,
-    pub(crate) before: Vec<Answer<'w>>,
+    pub(crate) found: Vec<Answer>,
+    pub(crate) before: Vec<Answer>,
     /// So many of those before have values that come no more.
     pub(crate) passed: usize,
 }
 
-impl<'t, 'w> Judge<'t, 'w> {
+impl<'t> Judge<'t> {
     /// A judge that knows no answer yet.
-    pub(crate) fn of(alloc: Global, test: ValueTest<'t>) -> Judge<'t, 'w>
+    pub(crate) fn of(alloc: Global, test: ValueTest<'t>) -> Judge<'t>
         ensures test { result.test ≡ test.entry }
-        ensures sound { IsSound result }
+        ensures sound { (values : List (Bor (List ℕ))) → IsSound values result }
     {
         Judge {
             test,
@@ -65,10 +68,10 @@ impl<'t, 'w> Judge<'t, 'w> {
 
     /// Begins to judge another label. Returns whether the empty text passes the test.
     pub(crate) fn begin(&mut self) -> bool
-        requires sound { IsSound self.old }
         ensures empty { result ≡ passes self.old.test [] }
         ensures test { self.new.test ≡ self.old.test }
-        ensures sound { IsSound self.new }
+        ensures sound { (values : List (Bor (List ℕ))) → IsSound values self.old
+            → IsSound values self.new }
     {
         mem::swap(&mut self.before, &mut self.found);
         self.found.clear();
@@ -76,53 +79,55 @@ impl<'t, 'w> Judge<'t, 'w> {
         self.test.passes("")
     }
 
-    /// Whether a value of the label passes the test. The values of a label come in order. Fails
+    /// Whether the value at a place passes the test. The values of a label come in order. Fails
     /// only if memory runs out.
-    pub(crate) fn passes(&mut self, value: &'w str) -> Result<bool, AllocError>
-        requires sound { IsSound self.old }
-        ensures truth { IfOk result (λ truth. truth ≡ passes self.old.test value.now) }
+    pub(crate) fn passes(&mut self, values: &[&str], place: usize) -> Result<bool, AllocError>
+        requires place { place < length values.now }
+        requires sound { IsSound values.now self.old }
+        ensures truth { IfOk result (λ truth.
+            truth ≡ passes self.old.test (text_at values.now place)) }
         ensures test { OnOk result (self.new.test ≡ self.old.test) }
-        ensures sound { OnOk result (IsSound self.new) }
+        ensures sound { OnOk result (IsSound values.now self.new) }
     {
-        let passes = self.answer(value);
-        self.found.push(Answer { value, passes })?;
+        let passes = self.answer(values, place);
+        self.found.push(Answer { place, passes })?;
         Ok(passes)
     }
 
-    /// Whether a value passes the test, from the answers for the label before it, if that has the
-    /// value too.
-    fn answer(&mut self, value: &str) -> bool
-        requires sound { IsSound self.old }
-        ensures truth { result ≡ passes self.old.test value.now }
+    /// Whether the value at a place passes the test, from the answers for the label before it, if
+    /// that has the value too.
+    fn answer(&mut self, values: &[&str], place: usize) -> bool
+        requires place { place < length values.now }
+        requires sound { IsSound values.now self.old }
+        ensures truth { result ≡ passes self.old.test (text_at values.now place) }
         ensures test { self.new.test ≡ self.old.test }
         ensures found { self.new.found ≡ self.old.found }
-        ensures sound { IsSound self.new }
+        ensures sound { IsSound values.now self.new }
     {
         while self.passed < self.before.len() {
             let known = self.before[self.passed];
-            if known.value == value {
-                self.passed += 1;
-                return known.passes;
-            }
-            if value < known.value {
+            if place < known.place {
                 break;
             }
             self.passed += 1;
+            if known.place == place {
+                return known.passes;
+            }
         }
-        self.test.passes(value)
+        self.test.passes(values[place])
     }
 }
 
 /// Returns the judge for a matcher. It is the last one, if that is for a matcher that makes the
 /// same test. Fails only if memory runs out.
-pub(crate) fn judge_for<'t, 'w>(
+pub(crate) fn judge_for<'t>(
     alloc: Global,
     matcher: &'t Matcher,
-    last: Option<(&'t Matcher, Judge<'t, 'w>)>,
-) -> Result<Judge<'t, 'w>, AllocError>
-    requires last { IfSome last (λ known.
-        IsSound known.1 × IsTestOf known.1.test known.0.now) }
-    ensures sound { IfOk result IsSound }
+    last: Option<(&'t Matcher, Judge<'t>)>,
+) -> Result<Judge<'t>, AllocError>
+    requires last { IfSome last (λ known. IsTestOf known.1.test known.0.now) }
+    ensures sound { IfOk result (λ judge. (values : List (Bor (List ℕ)))
+        → IfSome last.entry (λ known. IsSound values known.1) → IsSound values judge) }
     ensures test { IfOk result (λ judge. IsTestOf judge.test matcher.now) }
 {
     if let Some((other, judge)) = last {

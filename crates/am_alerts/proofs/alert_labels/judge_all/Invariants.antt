@@ -10,9 +10,9 @@ invariant-loop-start l = record {
   from : l.fn.range.0 ≤ l.start;
   within : l.start ≤ l.fn.range.1;
   test : l.judge.test ≡ l.initial.judge.test;
-  sound : IsSound l.judge;
+  sound : IsSound l.values l.judge;
   judged : (i : ℕ) → flag l.kept i ≡ (flag l.initial.kept i
-      && all_pass l.initial.judge.test (slice_range l.labels l.fn.range.0 l.start) i);
+      && all_pass l.initial.judge.test (slice_range l.sorted.labels.items l.fn.range.0 l.start) i);
 }
 
 abbrev pub decreases-loop-start : goal.decreases-loop-start

@@ -2,7 +2,7 @@ use Rattle.std.proofs.Common.{◌≡◌, ℕ, List, [], ◌∷◌, Bool, true, f
 use Rattle.std.specs.Prelude.{◌==◌}
 use Rattle.std.specs.List.{list_any}
 use Rattle.std.proofs.lemmas.Bool.{true≢false, or_cases, or_parts, eqb-true}
-use Rattle.am_alerts.specs.Judge.{passes}
+use Rattle.am_alerts.specs.Judge.{passes, text_at}
 use Rattle.am_alerts.specs.AlertLabels.{flag, is_at}
 use Rattle.am_alerts.proofs.alert_labels.judge_row.Goals as goal
 use Rattle.am_alerts.proofs.alert_labels.judge_row.Goals.{else-has_any-via-then-has_any+in_ok-passes+else-not-branch, else-has_any-via-else-has_any}
@@ -38,6 +38,6 @@ returns-else-has_any-clause-judged c = λ i.
           ∙ ap (λ t. flag kept i && (t || not (is_at positions i)))
           (sym w.if-not-branch.false ∙ w.in_ok-passes.ensures.truth)
       | else-has_any-via-else-has_any w ↦
-          absent (flag kept i) (passes test c.args.value.now) (is_at positions i)
+          absent (flag kept i) (passes test (text_at c.args.values.now c.args.place)) (is_at positions i)
           (none_at kept positions i (sym c.has_any.ensures.any ∙ w.if-has_any.false))
     ]

@@ -1,4 +1,5 @@
-use Rattle.std.proofs.Common.{◌≡◌, ◌+◌, ℕ, List, Bool, true, false, take, refl, sym, ap, ◌∙◌, ◌&&◌, string_bytes}
+use Rattle.std.proofs.Common.{◌≡◌, ◌+◌, ℕ, List, Bool, true, false, take, refl, sym, ap, ◌∙◌, ◌&&◌, string_bytes, length}
+use Rattle.std.specs.Prelude.{slice_get}
 use Rattle.std.specs.List.{list_all}
 use Rattle.std.proofs.lemmas.List.{take_all, map_more}
 use Rattle.std.proofs.lemmas.List.Folds.{list_all-append}
@@ -15,6 +16,9 @@ and_true : (b : Bool) → (b && true) ≡ b
 and_true true = refl
 and_true false = refl
 
+pub kept-requires-clause-sound : goal.kept-requires-clause-sound
+kept-requires-clause-sound c = c.of-judge.ensures.sound c.self.inside.sorted.values.items
+
 pub loop-name-preserved : goal.loop-name-preserved
 loop-name-preserved c =
     let names = c.args.names.now in
@@ -24,8 +28,8 @@ loop-name-preserved c =
     let kept = c.in_ok-left-2.ensures.kept in
     let same = λ (s : LabelMap) (n : List ℕ). same_text (value_of set n) (value_of s n) in
     let next : Keeps c.args.self.now (λ s. same s name) c.loop-name.left.items c.in_ok-left-2.left.items = (
-      kept.0,
-      λ k s at. kept.1 k s at
+      kept.0 ∙ ap length c.self.view_is,
+      λ k s at. kept.1 k s (ap (λ alerts. slice_get alerts k) c.self.view_is ∙ at)
           ∙ ap (λ t. flag c.loop-name.left.items k && passes t (value_of s c.deref-in-loop-name.result.now))
           c.of-judge.ensures.test
           ∙ (λ j. flag c.loop-name.left.items k

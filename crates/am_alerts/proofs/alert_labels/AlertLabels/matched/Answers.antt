@@ -4,7 +4,7 @@ use mathlib.Core.Bool.{beq}
 use Rattle.std.proofs.lemmas.Bool.{false≢true}
 use Rattle.std.proofs.lemmas.List.{take_all, take-append-drop}
 use Rattle.std.proofs.lemmas.List.Folds.{list_all_more, list_all-append}
-use Rattle.std.proofs.lemmas.Option.{get_or_from_slice_get, slice_get_within}
+use Rattle.std.proofs.lemmas.Option.{get_or_from_slice_get, slice_get_within, IfSome_then}
 use Rattle.am_universe.specs.LabelSet.{value_of}
 use Rattle.am_labels.specs.Matcher.{all_hold, condition_holds}
 use Rattle.am_alerts.specs.Judge.{passes}
@@ -21,6 +21,11 @@ none_left true true q x e f = absurd (false≢true (sym f ∙ e))
 none_left true false q x e f = f
 none_left false p q x e f = f
 
+pub kept-requires-clause-sound : goal.kept-requires-clause-sound
+kept-requires-clause-sound c =
+    c.in_ok-judge.ensures.sound c.self.inside.sorted.values.items
+    (IfSome_then c.loop-i.last c.loop-i.invariant.last (λ known is. is.0))
+
 pub loop-i-preserved : goal.loop-i-preserved
 loop-i-preserved c =
     let alerts = c.args.self.now in
@@ -31,8 +36,8 @@ loop-i-preserved c =
     let kept = c.in_ok-left-2.ensures.kept in
     let judge = c.in_ok-judge.judge in
     let next : Keeps alerts (λ s. condition_holds s m) c.loop-i.left.items c.in_ok-left-2.left.items = (
-      kept.0,
-      λ k s at. kept.1 k s at
+      kept.0 ∙ ap length c.self.view_is,
+      λ k s at. kept.1 k s (ap (λ alerts. slice_get alerts k) c.self.view_is ∙ at)
           ∙ ap (λ n. flag c.loop-i.left.items k && passes judge.test (value_of s n)) c.name.ensures.name
           ∙ ap (λ b. flag c.loop-i.left.items k && b) (c.in_ok-judge.ensures.test (value_of s m.name)),
     ) in

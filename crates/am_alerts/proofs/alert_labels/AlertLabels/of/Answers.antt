@@ -1,24 +1,26 @@
 use Rattle.std.proofs.Common.{map, sym, ap, ◌∙◌, subst}
-use Rattle.std.proofs.lemmas.List.Sorted.{IsPermutation-map, IsPermutation-trans, answers_always}
+use Rattle.std.proofs.lemmas.List.Sorted.{IsPermutation-map, IsPermutation-trans, All-permutation, answers_always}
 use Rattle.std.specs.List.Sorted.{IsPermutation}
 use Rattle.std.proofs.Common.{rules}
 use Rattle.am_alerts.specs.declared.alert_labels.AlertLabel.{AlertLabel}
-use Rattle.am_alerts.specs.AlertLabels.{label_view, all_labels, AreRowEnds}
+use Rattle.am_alerts.specs.AlertLabels.{label_view, all_labels, AreRowEnds, HasPlace}
 use Rattle.am_alerts.proofs.alert_labels.AlertLabels.of.Goals as goal
 
 pub invariant_of-result : goal.invariant_of-result
 invariant_of-result c =
     let by_value = IsPermutation-map label_view _ _ c.sort_unstable_by_key.ensures.permutation in
-    let by_name = IsPermutation-map label_view _ _ c.in_ok-sort_by_key.ensures.permutation in
-    let shared = c.share_values.ensures in
-    let all : IsPermutation (all_labels c.args.alerts.now) (map label_view c.share_values.new.labels.items) =
-    subst (λ views. IsPermutation views (map label_view c.share_values.new.labels.items)) c.in_ok-labels.ensures
-    (subst (IsPermutation (map label_view c.in_ok-labels.labels.items)) (sym shared) by_value) in
+    let by_name = c.in_ok-sort_by_key.ensures.permutation in
+    let placed = c.in_ok-values.ensures in
+    let values = c.in_ok-values.values.items in
+    let all : IsPermutation (all_labels c.args.alerts.now) (map label_view c.place_values.new.labels.items) =
+    subst (λ views. IsPermutation views (map label_view c.place_values.new.labels.items)) c.in_ok-labels.ensures
+    (subst (IsPermutation (map label_view c.in_ok-labels.labels.items)) (sym placed.same) by_value) in
     record {
-      all = IsPermutation-trans _ _ _ all by_name;
-      sorted = c.in_ok-sort_by_key.ensures.sorted (λ l. l.name)
+      all = IsPermutation-trans _ _ _ all (IsPermutation-map label_view _ _ by_name);
+      by_name = c.in_ok-sort_by_key.ensures.sorted (λ l. l.name)
           (answers_always _ _ _ (λ f a r g h. search rules));
-      placed = ap (map (λ (l : AlertLabel). l.alert)) (sym c.as_slice.ensures.value) ∙ c.in_ok-positions.ensures;
+      positions = ap (map (λ (l : AlertLabel). l.alert)) (sym c.as_slice.ensures.value) ∙ c.in_ok-positions.ensures;
       rows = subst (λ labels. AreRowEnds labels c.in_ok-ends.ends.items)
           c.as_slice-2.ensures.value c.in_ok-ends.ensures;
+      places = All-permutation (HasPlace values) _ _ by_name placed.placed;
     }
