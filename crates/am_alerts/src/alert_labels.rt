@@ -262,32 +262,33 @@ fn judge_all(
     let mut start = range.0;
     while start < range.1 {
         let end = sorted.ends[start].min(range.1);
-        let place = sorted.labels[start].place;
-        judge_row(&sorted.positions[start..end], values, place, judge, kept)?;
+        let row = &sorted.positions[start..end];
+        judge_row(row, values, &sorted.labels[start], judge, kept)?;
         start = end;
     }
     Ok(())
 }
 
-/// Drops the alerts at these positions, unless their value, which is at a place, passes a test. The
-/// value is not tested if none of them is left. Fails only if memory runs out.
+/// Drops the alerts at these positions, unless their value, which a label has, passes a test. The
+/// label is not looked at if none of them is left. Fails only if memory runs out.
 fn judge_row(
     positions: &[usize],
     values: &[&str],
-    place: usize,
+    label: &AlertLabel<'_>,
     judge: &mut Judge<'_>,
     kept: &mut [bool],
 ) -> Result<(), AllocError>
     requires positions { All (λ p. p < length kept.old) positions.now }
-    requires place { place < length values.now }
+    requires place { label.now.place < length values.now }
     requires sound { IsSound values.now judge.old }
     ensures count { OnOk result (length kept.new ≡ length kept.old) }
     ensures judged { OnOk result ((i : ℕ) → flag kept.new i ≡ (flag kept.old i
-        && (passes judge.old.test (text_at values.now place) || not (is_at positions.now i)))) }
+        && (passes judge.old.test (text_at values.now label.now.place)
+        || not (is_at positions.now i)))) }
     ensures test { OnOk result (judge.new.test ≡ judge.old.test) }
     ensures sound { OnOk result (IsSound values.now judge.new) }
 {
-    if has_any(kept, positions) && !judge.passes(values, place)? {
+    if has_any(kept, positions) && !judge.passes(values, label.place)? {
         drop_all(positions, kept);
     }
     Ok(())

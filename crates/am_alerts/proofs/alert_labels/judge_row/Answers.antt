@@ -38,6 +38,6 @@ returns-else-has_any-clause-judged c = λ i.
           ∙ ap (λ t. flag kept i && (t || not (is_at positions i)))
           (sym w.if-not-branch.false ∙ w.in_ok-passes.ensures.truth)
       | else-has_any-via-else-has_any w ↦
-          absent (flag kept i) (passes test (text_at c.args.values.now c.args.place)) (is_at positions i)
+          absent (flag kept i) (passes test (text_at c.args.values.now c.args.label.now.place)) (is_at positions i)
           (none_at kept positions i (sym c.has_any.ensures.any ∙ w.if-has_any.false))
     ]
