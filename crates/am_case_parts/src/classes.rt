@@ -1,7 +1,7 @@
 //! Classes of texts that a list of matchers cannot tell apart.
 
 use crate::texts::Refusal;
-use am_classes::{Alphabet, classes};
+use am_classes::{Alphabet, SpareAutomata, classes};
 use am_labels::{Matcher, parse_matchers};
 use std::alloc::{AllocError, Global};
 
@@ -22,7 +22,8 @@ fn classes_text(
     alphabet: Alphabet,
     matchers: &[&Matcher],
 ) -> Result<Vec<u8>, Refusal> {
-    let Some(found) = classes(alloc, alphabet, matchers)? else {
+    let mut spare = SpareAutomata::none(alloc);
+    let Some(found) = classes(alloc, alphabet, matchers, &mut spare)? else {
         return Ok(Vec::from_slice(alloc, b"unproved")?);
     };
     if !found.all {

@@ -36,7 +36,7 @@ use crate::named_texts::{named_texts, names_texts, naming_matchers};
 use crate::questions::Questions;
 use crate::samples::samples;
 use crate::tested::new_texts;
-use crate::{Alphabet, LabelTests};
+use crate::{Alphabet, LabelTests, SpareAutomata};
 use am_labels::Matcher;
 use am_scan::{ByteSet, PatternAutomaton};
 use am_universe::limits::MAX_VALUES;
@@ -65,11 +65,13 @@ pub struct ClassTexts<'m> {
 /// `other`, repeated until it is not named. Returns `None` if the classes cannot be computed: a
 /// pattern cannot be followed, or there are too many states. If each pattern is an alternation of
 /// plain texts, all classes are always found. If the others are made of plain characters, `.*` and
-/// bars, they are found unless there are too many states or classes. Fails only if memory runs out.
+/// bars, they are found unless there are too many states or classes. Automata that are spare are
+/// taken where they fit. Fails only if memory runs out.
 pub fn classes<'m>(
     alloc: Global,
     alphabet: Alphabet,
     matchers: &[&'m Matcher],
+    spare: &mut SpareAutomata<'m>,
 ) -> Result<Option<ClassTexts<'m>>, AllocError>
     ensures covers { IfOk result (λ found. IfSome found (λ classes. IsTrue classes.all
         → Covers alphabet (map (λ m. m.now) matchers.now) (map string_bytes classes.texts.items))) }
@@ -100,7 +102,7 @@ pub fn classes<'m>(
     let patterns = tests.patterns.as_slice();
     let texts = named_texts(alloc, alphabet, matchers)?;
     let bytes = enough_bytes(alloc, alphabet, texts.as_slice(), patterns)?;
-    let Some(automata) = automata_of(alloc, bytes, patterns)? else {
+    let Some(automata) = automata_of(alloc, bytes, patterns, spare)? else {
         return Ok(None);
     };
     let named = apart_texts(alloc, &tests, &bytes, automata.as_slice(), texts.as_slice())?;
@@ -174,7 +176,8 @@ fn many_of_part<'m>(
     let patterns = tests.patterns.as_slice();
     let mut texts = named_texts(alloc, alphabet, matchers)?;
     let bytes = enough_bytes(alloc, alphabet, texts.as_slice(), patterns)?;
-    let Some(automata) = automata_of(alloc, bytes, patterns)? else {
+    let mut spare = SpareAutomata::none(alloc);
+    let Some(automata) = automata_of(alloc, bytes, patterns, &mut spare)? else {
         return Ok(None);
     };
     // Each text is tested by each pattern. So if there are patterns, only the first texts are.

@@ -34,10 +34,12 @@ mod reached_state;
 mod finder;
 mod label_tests;
 mod naming;
+mod spare_automata;
 mod tested;
 mod text_ends;
 
 pub use label_tests::LabelTests;
+pub use spare_automata::SpareAutomata;
 pub use tested::{Tested, new_texts};
 
 // The texts that stand for the classes, one for each.

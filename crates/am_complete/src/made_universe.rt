@@ -34,7 +34,7 @@ ghost use Rattle.am_complete.specs.Representatives.{AreRepresentatives, AddsRepr
 use crate::label_texts::standing_texts;
 use crate::missing_texts::{Missing, missing_at};
 use crate::{AllowedNames, AskedLabel};
-use am_classes::Alphabet;
+use am_classes::{Alphabet, SpareAutomata};
 use am_labels::Space;
 use am_list_files::Alerts;
 use am_universe::{Kind, Universe};
@@ -143,8 +143,10 @@ fn missing_of_each<'m>(
         asked.now missing.items) }
 {
     let mut missing = Vec::with_capacity(alloc, asked.len())?;
+    let mut spare = SpareAutomata::none(alloc);
     for label in asked {
-        missing.push(missing_at(alloc, alphabet, allowed, space, label, alerts)?)?;
+        let found = missing_at(alloc, alphabet, allowed, space, label, alerts, &mut spare)?;
+        missing.push(found)?;
     }
     Ok(missing)
 }

@@ -20,7 +20,7 @@ use crate::label_texts::standing_texts;
 use crate::possible_texts::possible_texts;
 use crate::representatives::representatives;
 use crate::{AllowedNames, AskedLabel, Completeness};
-use am_classes::{Alphabet, ClassTexts, LabelTests, classes, new_texts};
+use am_classes::{Alphabet, ClassTexts, LabelTests, SpareAutomata, classes, new_texts};
 use am_labels::Space;
 use am_list_files::Alerts;
 use am_universe::limits::MAX_VALUES;
@@ -88,20 +88,22 @@ impl<'m> Missing<'m> {
 /// Finds what a space lacks at a label that is asked about. A label that is not declared has
 /// absence alone. If texts are missing, returns the first of them, in the order of a made universe.
 /// If not all classes were found, but more than a label may have values, every universe lacks one.
-pub(crate) fn completeness_at(
+pub(crate) fn completeness_at<'m>(
     alloc: Global,
     alphabet: Alphabet,
     space: &Space,
-    label: &AskedLabel<'_>,
+    label: &AskedLabel<'m>,
     alerts: Option<&Alerts>,
+    spare: &mut SpareAutomata<'m>,
 ) -> Result<Completeness, AllocError>
     requires { label.now.name ≢ [] → HasThoseOfLists space.now.impossible label.now }
     ensures { IfOk result (IsFoundAt alphabet space.now label.now) }
 {
-    let Some(found) = known_texts(alloc, alphabet, label, alerts)? else {
+    let Some(found) = known_texts(alloc, alphabet, label, alerts, spare)? else {
         return Ok(Completeness::Unproved(label.first()));
     };
-    let missing = missing_of(alloc, alphabet, AllowedNames::OfFiles, space, label, found)?;
+    let allowed = AllowedNames::OfFiles;
+    let missing = missing_of(alloc, alphabet, allowed, space, label, found, spare)?;
     let (named, all) = (missing.named, missing.all);
     if !all && (!named || missing.count <= MAX_VALUES) {
         return Ok(Completeness::Unproved(label.first()));
@@ -124,17 +126,18 @@ pub(crate) fn missing_at<'m>(
     space: &Space,
     label: &AskedLabel<'m>,
     alerts: Option<&Alerts>,
+    spare: &mut SpareAutomata<'m>,
 ) -> Result<Missing<'m>, AllocError>
     requires { label.now.name ≢ [] → HasThoseOfLists space.now.impossible label.now }
     ensures missing { IfOk result (IsMissingAt alphabet allowed space.now label.now) }
     ensures representatives { IfOk result
         (AreRepresentatives alphabet (option_map_or (λ a. a.now) alerts.entry []) label.now) }
 {
-    let Some(known) = known_texts(alloc, alphabet, label, alerts)? else {
+    let Some(known) = known_texts(alloc, alphabet, label, alerts, spare)? else {
         let found = found_texts(alloc, alphabet, label, alerts)?;
-        return missing_of(alloc, alphabet, allowed, space, label, found);
+        return missing_of(alloc, alphabet, allowed, space, label, found, spare);
     };
-    missing_of(alloc, alphabet, allowed, space, label, known)
+    missing_of(alloc, alphabet, allowed, space, label, known, spare)
 }
 
 /// Returns one text for each class of a label's texts, as a reader would choose them, or more texts
@@ -145,6 +148,7 @@ fn known_texts<'m>(
     alphabet: Alphabet,
     label: &AskedLabel<'m>,
     alerts: Option<&Alerts>,
+    spare: &mut SpareAutomata<'m>,
 ) -> Result<Option<ClassTexts<'m>>, AllocError>
     ensures some { IfOk result (λ found. IfSome found (λ known. AreFoundTexts alphabet
         (option_map_or (λ a. a.now) alerts.entry []) label.now known
@@ -152,7 +156,7 @@ fn known_texts<'m>(
     ensures none { IfOk result (λ found. IfNone found
         (MayBePastLimits alphabet label.now.matchers)) }
 {
-    let Some(known) = classes(alloc, alphabet, label.matchers())? else {
+    let Some(known) = classes(alloc, alphabet, label.matchers(), spare)? else {
         return Ok(None);
     };
     if !known.all {
@@ -163,7 +167,8 @@ fn known_texts<'m>(
     Ok(Some(ClassTexts { texts, all, tests }))
 }
 
-/// Finds which of these texts of a label it lacks in a space.
+/// Finds which of these texts of a label it lacks in a space. The automata of their tests are spare
+/// then.
 fn missing_of<'m>(
     alloc: Global,
     alphabet: Alphabet,
@@ -171,6 +176,7 @@ fn missing_of<'m>(
     space: &Space,
     label: &AskedLabel<'m>,
     found: ClassTexts<'m>,
+    spare: &mut SpareAutomata<'m>,
 ) -> Result<Missing<'m>, AllocError>
     requires { label.now.name ≢ [] → HasThoseOfLists space.now.impossible label.now }
     ensures { IfOk result (λ missing. (alerts : List LabelMap)
@@ -180,14 +186,16 @@ fn missing_of<'m>(
         × AreRepresentatives alphabet alerts label.now missing) }
 {
     let name = label.name();
-    let wanted = possible_texts(alloc, space.impossible(), name, found.texts)?;
+    let ClassTexts { texts, all, tests } = found;
+    let wanted = possible_texts(alloc, space.impossible(), name, texts)?;
     let count = wanted.len();
-    let texts = missing_texts(alloc, space, name, &found.tests, wanted)?;
+    let texts = missing_texts(alloc, space, name, &tests, wanted)?;
+    *spare = SpareAutomata::of(alloc, tests)?;
     Ok(Missing {
         name,
         named: may_declare(alloc, allowed, name),
         texts,
-        all: found.all,
+        all,
         count,
     })
 }

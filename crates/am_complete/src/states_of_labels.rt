@@ -16,7 +16,7 @@ ghost use Rattle.am_complete.specs.FoundState.{is_unseen, has_label, IsSoOfName}
 use crate::made_universe::is_declared;
 use crate::missing_texts::completeness_at;
 use crate::{AskedLabel, Completeness, LabelState};
-use am_classes::Alphabet;
+use am_classes::{Alphabet, SpareAutomata};
 use am_labels::Space;
 use am_list_files::Alerts;
 use am_universe::LabelSet;
@@ -27,11 +27,11 @@ use std::alloc::{AllocError, Global};
 /// asked about, in the order of `asked`. With alerts, each state also says whether none of them has
 /// the label. The matchers of the space's impossible lists must be among those that ask. Fails only
 /// if memory runs out.
-pub fn label_states(
+pub fn label_states<'m>(
     alloc: Global,
     alphabet: Alphabet,
     space: &Space,
-    asked: &[AskedLabel<'_>],
+    asked: &[AskedLabel<'m>],
     alerts: Option<&Alerts>,
 ) -> Result<Vec<LabelState>, AllocError>
     requires { (ms : List Matcher) × IsAskedOf asked.now ms
@@ -51,25 +51,29 @@ pub fn label_states(
 {
     let universe = space.universe();
     let mut states = Vec::new(alloc);
+    let mut spare = SpareAutomata::none(alloc);
     for i in 0..universe.len() {
-        states.push(state_of(alloc, alphabet, space, asked, alerts, universe.name(i))?)?;
+        let name = universe.name(i);
+        states.push(state_of(alloc, alphabet, space, asked, alerts, name, &mut spare)?)?;
     }
     for label in asked {
-        if !is_declared(universe, label.name()) {
-            states.push(state_of(alloc, alphabet, space, asked, alerts, label.name())?)?;
+        let name = label.name();
+        if !is_declared(universe, name) {
+            states.push(state_of(alloc, alphabet, space, asked, alerts, name, &mut spare)?)?;
         }
     }
     Ok(states)
 }
 
 /// Returns the state of the label of this name.
-fn state_of(
+fn state_of<'m>(
     alloc: Global,
     alphabet: Alphabet,
     space: &Space,
-    asked: &[AskedLabel<'_>],
+    asked: &[AskedLabel<'m>],
     alerts: Option<&Alerts>,
     name: &str,
+    spare: &mut SpareAutomata<'m>,
 ) -> Result<LabelState, AllocError>
     requires { (ms : List Matcher) × IsAskedOf asked.now ms
         × AreAmong (impossible_matchers space.now.impossible) ms }
@@ -77,7 +81,7 @@ fn state_of(
     ensures so { IfOk result (IsSoOfName alphabet space.now asked.now
         (option_map (λ a. a.now) alerts.entry)) }
 {
-    let completeness = completeness_of(alloc, alphabet, space, asked, alerts, name)?;
+    let completeness = completeness_of(alloc, alphabet, space, asked, alerts, name, spare)?;
     Ok(LabelState {
         name: String::from_str(alloc, name)?,
         completeness,
@@ -86,13 +90,14 @@ fn state_of(
 }
 
 /// Finds what a space lacks at the label of a name.
-fn completeness_of(
+fn completeness_of<'m>(
     alloc: Global,
     alphabet: Alphabet,
     space: &Space,
-    asked: &[AskedLabel<'_>],
+    asked: &[AskedLabel<'m>],
     alerts: Option<&Alerts>,
     name: &str,
+    spare: &mut SpareAutomata<'m>,
 ) -> Result<Completeness, AllocError>
     requires { (ms : List Matcher) × IsAskedOf asked.now ms
         × AreAmong (impossible_matchers space.now.impossible) ms }
@@ -105,7 +110,7 @@ fn completeness_of(
     if label.matchers().is_empty() {
         return Ok(Completeness::Unasked);
     }
-    completeness_at(alloc, alphabet, space, label, alerts)
+    completeness_at(alloc, alphabet, space, label, alerts, spare)
 }
 
 /// Returns the label of this name among those that are asked about, if it is one.

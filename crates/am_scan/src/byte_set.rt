@@ -1,7 +1,7 @@
 ghost use Rattle.std.specs.Prelude.{◌≡◌, ◌||◌, ◌==◌, ◌<◌, ℕ, true, false, IsTrue};
 
 /// A set of bytes: those that some texts may have.
-#[derive(Clone, Copy, Drop)]
+#[derive(Clone, Copy, PartialEq, Eq, Drop)]
 pub struct ByteSet {
     pub(crate) marks: [bool; 256],
 }

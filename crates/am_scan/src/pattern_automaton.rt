@@ -132,6 +132,16 @@ impl PatternAutomaton {
         }))
     }
 
+    /// Whether this is the automaton of a pattern for texts that have only these bytes. Only `true`
+    /// promises something.
+    #[tactic(auto, unfolding(crate::specs::Automaton::pattern_of, crate::specs::Automaton::scanned_bytes))]
+    pub fn is_of(&self, pattern: &str, bytes: &ByteSet) -> bool
+        ensures { IsTrue result → (pattern_of self.now ≡ pattern.now)
+            × (scanned_bytes self.now ≡ bytes.now) }
+    {
+        self.pattern.as_str() == pattern && self.bytes == *bytes
+    }
+
     /// Whether the automaton reads a text: the text has only the bytes that texts may have.
     #[tactic(auto, unfolding(crate::specs::Automaton::scanned_bytes))]
     pub fn reads(&self, text: &str) -> bool
