@@ -1,6 +1,6 @@
 -- Listed states: with more listed, and for each text one that it leads to.
-use Rattle.std.proofs.Common.{◌≡◌, ◌<◌, ◌≤◌, ◌+◌, ◌-◌, ℕ, zero, suc, ap, map, set, Option, ◌⊎◌, List, [], ◌∷◌, ◌++◌, Some, None, get_or, replicate, slice_get, length, refl, inl, inr, subst, sym, ◌∙◌, arith, lt-ltb, le-ltb}
-use Rattle.std.proofs.lemmas.Bool.{cases_lt}
+use Rattle.std.proofs.Common.{◌≡◌, ◌<◌, ◌≤◌, ◌+◌, ◌-◌, ℕ, zero, suc, ap, map, set, false, Option, ◌⊎◌, List, [], ◌∷◌, ◌++◌, Some, None, get_or, replicate, slice_get, length, refl, inl, inr, subst, sym, ◌∙◌, arith, lt-ltb, le-ltb}
+use Rattle.std.proofs.lemmas.Bool.{cases_lt, false≢true}
 use Rattle.std.proofs.lemmas.Option.{option_and_then_some, same_Some, slice_get_within}
 use Rattle.am_classes.specs.declared.questions.Questions.{Questions}
 use Rattle.am_classes.specs.declared.label_state.LabelState.{LabelState}
@@ -14,7 +14,7 @@ use Rattle.am_classes.specs.Exploration.{AreShortFirst, HaveLength, IsSameSpent}
 use Rattle.am_scan.specs.Automaton.{Grows}
 use Rattle.am_scan.specs.Sight.{is_scanned}
 use Rattle.am_scan.proofs.Places.{get_pushed, get_last}
-use Rattle.am_classes.proofs.TailLemmas.{step_byte}
+use Rattle.am_classes.proofs.TailLemmas.{in_utf8, step_byte}
 
 -- A listed state is still there when more is listed.
 pub has_kept : (q : Questions) (old new : List ReachedState) (n : ℕ) (text : List ℕ)
@@ -146,6 +146,15 @@ place_of_byte byte small =
         ]
       ]
     ]
+
+-- A byte that is not of the set leads to no text that is tried.
+pub unscanned_leads : (q : Questions) (listed : List ReachedState) (item : ReachedState) (byte : ℕ)
+    → is_scanned q.bytes byte ≡ false → LeadsOn q listed item byte
+unscanned_leads q listed item byte not = λ text tail follows has.
+    option_and_then_some (λ last. text_step (is_scanned q.bytes) last byte)
+    (tail_with (is_scanned q.bytes) text) tail has
+    (λ last before step.
+    absurd (false≢true (sym not ∙ (in_utf8 (is_scanned q.bytes) last tail byte step).0)))
 
 -- Each text that is the end of a text that is tried leads to a listed state, or to one at or
 -- behind a position if only the states before that lead on. The text beside it is not longer.

@@ -1,11 +1,12 @@
 -- States of a label that are listed, each with a text that leads to it.
 use Rattle.std.specs.Prelude.{◌≡◌, ◌<◌, ◌≤◌, ◌+◌, ◌-◌, ℕ, List, [], ◌∷◌, Option, Some, slice_get}
-use Rattle.std.specs.Prelude.{if◌then◌else◌, nat_lt, length, IsSome}
+use Rattle.std.specs.Prelude.{if◌then◌else◌, nat_lt, length, IsSome, true}
 use Rattle.std.specs.List.{AllByRecursion}
 use Rattle.am_classes.specs.declared.questions.Questions.{Questions}
 use Rattle.am_classes.specs.declared.label_state.LabelState.{LabelState}
 use Rattle.am_classes.specs.declared.reached_state.ReachedState.{ReachedState}
 use Rattle.am_classes.specs.declared.tail.Tail.{Tail}
+use Rattle.am_scan.specs.declared.byte_set.ByteSet.{ByteSet}
 use Rattle.am_scan.specs.Sight.{is_scanned}
 use Rattle.am_classes.specs.Utf8.{tail_with}
 use Rattle.am_classes.specs.declared.limits.TheConstants.{MAX_STATES}
@@ -77,6 +78,14 @@ byte_at place =
     else if nat_lt place 95 then place + 2
     else if nat_lt place 127 then place - 95
     else place
+
+-- Some bytes have each byte of a set.
+abbrev pub HasByte : List ℕ → ℕ → Type 0
+HasByte bytes byte = (k : ℕ) × (slice_get bytes k ≡ Some byte)
+
+abbrev pub HasEachByte : ByteSet → List ℕ → Type 0
+HasEachByte set bytes =
+    (byte : ℕ) → byte < 256 → is_scanned set byte ≡ true → HasByte bytes byte
 
 -- No text leads out of what is listed, from the states before position `at`.
 -- Source: own choice; the term is that of finite automata, whose states are closed under steps.

@@ -21,6 +21,7 @@ ghost use Rattle.am_classes.specs.Enough.{AreEnough};
 ghost use Rattle.am_classes.specs.State.{FollowsLabel, named_texts, patterns_of};
 ghost use Rattle.am_scan.specs.Automaton.{Grows};
 ghost use Rattle.am_classes.specs.Exploration.{AreListed, LeadsOn, AreLed, byte_at};
+ghost use Rattle.am_classes.specs.Exploration.{HasEachByte};
 ghost use Rattle.am_classes.specs.Exploration.{HaveLength, HasManyLabelStates, IsSameSpent};
 ghost use Rattle.am_classes.specs.Candidates.{AreApartCandidates, AreCandidates, AreShortest};
 
@@ -29,6 +30,7 @@ use crate::label_state::LabelState;
 use crate::limits::MAX_STATES;
 use crate::questions::Questions;
 use crate::reached_state::ReachedState;
+use am_scan::ByteSet;
 use indexmap::IndexSet;
 use std::alloc::{AllocError, Global};
 use std::collections::HashSet;
@@ -57,6 +59,7 @@ pub(crate) fn explored(
     listed.insert(ReachedState::end(alloc, questions)?)?;
     let mut seen = HashSet::new(alloc);
     let mut items = Vec::new(alloc);
+    let order = bytes_in_order(alloc, &questions.bytes)?;
     for at in 0..=MAX_STATES {
         let Some(item) = listed.get_index(at) else {
             return Ok(Some(CandidateTexts { items, all: true }));
@@ -65,7 +68,7 @@ pub(crate) fn explored(
         if items.len() > room {
             return Ok(Some(CandidateTexts { items, all: false }));
         }
-        let nexts = next_states(alloc, questions, item)?;
+        let nexts = next_states(alloc, questions, order.as_slice(), item)?;
         listed.extend(nexts)?;
         if listed.len() > MAX_STATES {
             return Ok(None);
@@ -75,13 +78,15 @@ pub(crate) fn explored(
 }
 
 /// Returns states to which bytes lead from a state, each with a text. For each byte that leads to a
-/// state, one of them serves.
+/// state, one of them serves. They are tried in this order.
 fn next_states<'q>(
     alloc: Global,
     questions: &Questions,
+    order: &[u8],
     item: &ReachedState<'q>,
 ) -> Result<Vec<ReachedState<'q>>, AllocError>
-    requires { FollowsLabel questions.now item.now.state item.now.text.items }
+    requires follows { FollowsLabel questions.now item.now.state item.now.text.items }
+    requires order { HasEachByte questions.now.bytes order.now }
     ensures own { IfOk result (λ nexts. AreListed questions.now nexts.items) }
     ensures leads { IfOk result (λ nexts. (byte : ℕ) → byte < 256
         → LeadsOn questions.now nexts.items item.now byte) }
@@ -90,10 +95,24 @@ fn next_states<'q>(
 {
     let mut nexts = Vec::new(alloc);
     let mut led = [None; 256];
-    for place in 0..256 {
-        step_on(alloc, questions, item, byte_at(place), &mut led, &mut nexts)?;
+    for byte in order {
+        step_on(alloc, questions, item, *byte, &mut led, &mut nexts)?;
     }
     Ok(nexts)
+}
+
+/// Returns the bytes of a set, in the order in which they are tried.
+fn bytes_in_order(alloc: Global, bytes: &ByteSet) -> Result<Vec<u8>, AllocError>
+    ensures { IfOk result (λ order. HasEachByte bytes.now order.items) }
+{
+    let mut order = Vec::new(alloc);
+    for place in 0..256 {
+        let byte = byte_at(place);
+        if bytes.has(byte) {
+            order.push(byte)?;
+        }
+    }
+    Ok(order)
 }
 
 /// The byte at a place of the order in which bytes are tried. Printable bytes come first, those
@@ -134,9 +153,6 @@ fn step_on<'q>(
     ensures grows { Grows nexts.old.items nexts.new.items }
     ensures leads { OnOk result (LeadsOn questions.now nexts.new.items item.now byte) }
 {
-    if !questions.bytes.has(byte) {
-        return Ok(());
-    }
     let class = usize::from(questions.class_of(byte));
     if let Some(before) = led[class] {
         if questions.lead_alike(&item.state, before, byte) {

@@ -105,6 +105,9 @@ impl<'m> LabelTests<'m> {
         ensures tested { IfOk result (λ all. (ms : List Matcher) → IsTestsOf ms self.now
             → AreTested ms all.items) }
     {
+        if texts.is_empty() {
+            return Ok(Vec::new(alloc));
+        }
         // For each text all matchers are gone through, so most of them must have a pattern to test.
         let have_patterns = self.matchers.len() / 2 <= automata.len();
         if have_patterns

@@ -1,34 +1,52 @@
-use Rattle.std.proofs.Common.{subst, below_more, arith}
+use Rattle.std.proofs.Common.{◌≡◌, ◌∙◌, slice_get, sym, ap, subst, arith, inl, inr}
+use Rattle.std.proofs.lemmas.Bool.{cases_Bool, cases_lt}
 use Rattle.std.proofs.lemmas.Grind.{common_steps}
-use Rattle.am_classes.specs.Exploration.{LeadsOn, byte_at}
-use Rattle.am_classes.proofs.ExplorationLemmas.{leads_kept, none_led, place_of_byte}
+use Rattle.std.proofs.lemmas.Option.{same_Some, slice_get-get_or, slice_get_within}
+use Rattle.am_scan.specs.Sight.{is_scanned}
+use Rattle.am_classes.specs.Exploration.{LeadsOn}
+use Rattle.am_classes.proofs.ExplorationLemmas.{leads_kept, none_led, unscanned_leads}
 use Rattle.am_classes.proofs.exploration.next_states.Goals as goal
 
-pub loop-place-init : goal.loop-place-init
-loop-place-init c = record {
+pub loop-byte-init : goal.loop-byte-init
+loop-byte-init c = record {
   own = grind (arith, common_steps);
   same = grind (arith, common_steps);
   led = λ class byte at. absurd (none_led 256 class byte at);
-  leads = λ place below. absurd (omega arith);
+  leads = λ k byte below at. absurd (omega arith);
 }
 
-pub loop-place-preserved : goal.loop-place-preserved
-loop-place-preserved c =
+pub loop-byte-preserved : goal.loop-byte-preserved
+loop-byte-preserved c =
     let q = c.args.questions.now in
     let item = c.args.item.now in
-    let old = c.loop-place.nexts.items in
+    let old = c.loop-byte.nexts.items in
     let new = c.step_on.new.nexts.items in
+    let order = c.args.order.now in
+    let i = c.loop-byte.byte-index in
+    let here = slice_get-get_or order i 0 c.loop-byte-test.true in
     record {
       own = c.step_on.ensures.own;
       same = c.step_on.ensures.same;
       led = c.step_on.ensures.led;
-      leads = below_more (λ place. LeadsOn q new item (byte_at place)) c.loop-place.place
-          (λ place below. leads_kept q old new item (byte_at place) c.step_on.ensures.grows (c.loop-place.invariant.leads place below))
-          (subst (LeadsOn q new item) c.byte_at.ensures c.in_ok-step_on.ensures.leads);
+      leads = λ k byte below at. elim (cases_lt k i) [
+        | inl before ↦
+            leads_kept q old new item byte c.step_on.ensures.grows
+            (c.loop-byte.invariant.leads k byte before at)
+        | inr last ↦
+            let same : k ≡ i = omega (arith, below, last) in
+            subst (LeadsOn q new item)
+            (same_Some _ byte (sym here ∙ ap (slice_get order) (sym same) ∙ at))
+            c.in_ok-step_on.ensures.leads
+      ];
     }
 
 pub returns-clause-leads : goal.returns-clause-leads
 returns-clause-leads c = λ byte small.
-    let at = place_of_byte byte small in
-    subst (LeadsOn c.args.questions.now c.loop-place.nexts.items c.args.item.now) at.2
-    (c.loop-place.invariant.leads at.0 (omega (arith, at.1)))
+    elim (cases_Bool (is_scanned c.args.questions.now.bytes byte)) [
+      | inl scanned ↦
+          let listed = c.requires.order byte small scanned in
+          c.loop-byte.invariant.leads listed.0 byte
+          (omega (arith, c.loop-byte-test.false, slice_get_within c.args.order.now listed.0 byte listed.1))
+          listed.1
+      | inr not ↦ unscanned_leads c.args.questions.now c.loop-byte.nexts.items c.args.item.now byte not
+    ]
