@@ -1,13 +1,11 @@
 //! Reading the universe file.
 
 ghost use Rattle.std.specs.Prelude.{◌≡◌, ◌<◌, ◌≤◌, [], ◌∷◌, ◌++◌, length, map, None, Ok, Err, IfOk};
-ghost use Rattle.std.specs.Prelude.{IfErr, OnOk, string_bytes, option_map, codes};
+ghost use Rattle.std.specs.Prelude.{IfErr, string_bytes, option_map, codes};
 ghost use Rattle.std.specs.List.{filter_map};
 ghost use Rattle.serde_json.specs.Find.{as_str};
 ghost use Rattle.serde_json.specs.View.{view};
 ghost use Rattle.am_universe.specs.declared.place.Place.TheVariants as places;
-ghost use Rattle.am_json.specs.declared.read_error.ReadError.TheVariants as errors;
-ghost use Rattle.am_universe.specs.Universe.{label_fault};
 ghost use Rattle.am_universe.specs.UniverseView.{label_of, texts_of};
 ghost use Rattle.am_json.specs.Reading.{Gives, IsRefusalAt, read_items};
 ghost use Rattle.am_json.specs.Json.{field, items_in_field};
@@ -27,7 +25,7 @@ use am_json::{
 use am_labels::limits::MAX_IMPOSSIBLE;
 use am_labels::{Matchers, Space, parse_matchers};
 use am_universe::limits::MAX_LABELS;
-use am_universe::{Fault, Kind, Place, Universe};
+use am_universe::{Fault, Place, Universe};
 use serde_json::Value;
 use std::alloc::{AllocError, Global};
 
@@ -125,25 +123,9 @@ fn read_each_label(alloc: Global, items: &[Value]) -> Result<Universe, ReadError
     for item in items {
         let found = read_next_label(alloc, &universe, item);
         let next = within_item(alloc, universe.len(), found)?;
-        add(&mut universe, next)?;
+        universe.add_checked(next.0, next.1)?;
     }
     Ok(universe)
-}
-
-/// Adds a label that has no fault. Fails only if memory runs out.
-fn add(universe: &mut Universe, label: (String, Vec<Option<String>>)) -> Result<(), ReadError>
-    requires { label_fault universe.old (label_of label.0 label.1) ≡ None }
-    ensures ok { OnOk result (universe.new ≡ universe.old ++ label_of label.0 label.1 ∷ []) }
-    ensures memory { IfErr result (λ e. e ≡ errors.Memory) }
-{
-    let (name, values) = label;
-    match universe.add(name, values) {
-        Ok(()) => Ok(()),
-        Err(fault) => {
-            prove!(fault.kind == Kind::Memory);
-            Err(ReadError::Memory)
-        }
-    }
 }
 
 /// Reads the name and the values of a label that follows those of the universe.

@@ -106,6 +106,12 @@ no_part_at_fault of_name u values fine =
     let split = no_first (fault_at parts.Name of_name) (label_values_fault values) full.1 in
     (full.0, nothing_at parts.Name of_name split.0, split.1)
 
+-- A label without a fault, with a label name, has none if its name may have any form.
+pub checked_label : (u : List Label) (l : Label) → label_fault u l ≡ None → any_label_fault u l ≡ None
+checked_label u l fine =
+    let parts = no_part_at_fault (name_fault u l.name) u l.values fine in
+    subst (λ of_name. named_label_fault of_name u l.values ≡ None) (parts.1 ∙ sym (name_fine u l.name parts.1).1) fine
+
 pub added_is_universe : (u : List Label) (l : Label) → IsUniverse u → any_label_fault u l ≡ None → IsUniverse (u ++ l ∷ [])
 added_is_universe u l h fine =
     let parts = no_part_at_fault (any_name_fault u l.name) u l.values fine in

@@ -9,12 +9,13 @@ ghost use Rattle.am_universe.specs.Universe.{any_label_fault, memory_fault};
 ghost use Rattle.am_universe.specs.LabelSet.{value_at};
 ghost use Rattle.am_universe.specs.Choice.{admits};
 ghost use Rattle.am_universe.specs.UniverseView.{label_of, texts_of};
+ghost use Rattle.am_universe.specs.Text.{same_text};
 ghost use Rattle.am_universe.specs.declared.kind.Kind.TheVariants as kinds;
 
 use crate::label_name::is_label_name;
 use crate::limits::{MAX_LABELS, MAX_VALUES};
 use crate::{Choice, Kind, LabelFault, LabelPart};
-use std::alloc::Global;
+use std::alloc::{AllocError, Global};
 use std::marker::Model;
 
 /// A label and the values that it may have; `None` is absence.
@@ -158,6 +159,25 @@ impl Universe {
     {
         let of_name = self.any_name_fault(name.as_str());
         self.add_unless(of_name, name, values)
+    }
+
+    /// Adds a label that was checked before: it has no fault. It is not checked again, because each
+    /// value would be compared with all before it.
+    ///
+    /// Fails only if memory runs out; then nothing has changed.
+    pub fn add_checked(
+        &mut self,
+        name: String,
+        values: Vec<Option<String>>,
+    ) -> Result<(), AllocError>
+        requires checked { label_fault self.old (label_of name values) ≡ None }
+        ensures ok { OnOk result (self.new ≡ self.old ++ label_of name values ∷ []) }
+        ensures err { OnErr result (self.new ≡ self.old) }
+    {
+        match self.labels.push(Label { name, values }) {
+            Ok(()) => Ok(()),
+            Err(_) => Err(AllocError),
+        }
     }
 
     /// Adds a label after the others, unless it has a fault; `of_name` is the fault of its name.
@@ -312,10 +332,18 @@ fn is_same(other: &Option<String>, value: Option<&str>) -> bool
         ≡ same_value (option_map string_bytes other.now) (option_map (λ t. t.now) value.entry) }
 {
     match (other, value) {
-        (Some(other), Some(text)) => other.as_str() == text,
+        (Some(other), Some(text)) => is_same_text(other.as_str(), text),
         (None, None) => true,
         _ => false,
     }
+}
+
+/// Whether two texts are the same. Most values of a label differ in the last byte, so that is
+/// looked at first.
+fn is_same_text(one: &str, other: &str) -> bool
+    ensures { result ≡ same_text one.now other.now }
+{
+    one.as_bytes().last() == other.as_bytes().last() && one == other
 }
 
 pub(crate) fn text_of(value: &Option<String>) -> Option<&str>

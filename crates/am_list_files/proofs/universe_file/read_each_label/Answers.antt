@@ -37,15 +37,15 @@ loop-item-preserved c =
     within_gives (λ label. label_of label.0 label.1) (to_item (length l.universe))
     c.read_next_label-found.result _ (next_label_form l.universe (view c.item-item.result))
     c.read_next_label-found.ensures (rw c.len.ensures.len at c.in_ok-next.ensures.within) in
-    rw c.in_ok-add.ensures.ok (record {
+    rw c.in_ok-add_checked.ensures.ok (record {
       leads = item_goes_on view next_label_form l.universe c.args.items.now l.item-index
           c.item-item.result label _ c.loop-item-test.true c.item-item.is next l.invariant.leads;
       count = omega (arith, length-append l.universe (label ∷ []), l.invariant.count);
     })
 
 -- the label that was read has no fault, and there is room for it
-pub add-requires : goal.add-requires
-add-requires c =
+pub add_checked-requires : goal.add_checked-requires
+add_checked-requires c =
     let l = c.loop-item in
     let next =
     within_gives (λ label. label_of label.0 label.1) (to_item (length l.universe))
@@ -53,8 +53,10 @@ add-requires c =
     c.read_next_label-found.ensures (rw c.len.ensures.len at c.in_ok-next.ensures.within) in
     let room : length l.universe < MAX_LABELS =
     omega (arith, l.invariant.count, c.loop-item-test.true, c.requires) in
-    no_fault_read l.universe (view c.item-item.result)
-    (label_of c.in_ok-next.next.0 c.in_ok-next.next.1) room next
+    record {
+      checked = no_fault_read l.universe (view c.item-item.result)
+          (label_of c.in_ok-next.next.0 c.in_ok-next.next.1) room next;
+    }
 
 pub returns : goal.returns
 returns c =
