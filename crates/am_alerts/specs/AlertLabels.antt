@@ -1,5 +1,5 @@
 -- The labels of all alerts, as they are sorted, and tests of a label of all alerts.
-use Rattle.std.specs.Prelude.{◌≡◌, ◌==◌, ◌<◌, ◌≤◌, ℕ, List, map, length, Bool, false, not, All}
+use Rattle.std.specs.Prelude.{◌≡◌, ◌==◌, ◌↔◌, ◌<◌, ◌≤◌, ℕ, List, map, length, Bool, false, not, All}
 use Rattle.std.specs.Prelude.{◌&&◌, ◌||◌, slice_get, slice_index, slice_index_or, Some}
 use Rattle.std.specs.Borrow.{Bor}
 use Rattle.std.specs.List.{flat_map, enumerate_from, list_any, list_all}
@@ -9,6 +9,7 @@ use Rattle.std.specs.Ordering.{nat_cmp}
 use Rattle.std.specs.Cmp.Lexicographic.{slice_cmp}
 use Rattle.am_universe.specs.LabelSet.{LabelMap}
 use Rattle.am_alerts.specs.declared.alert_labels.AlertLabel.{AlertLabel}
+use Rattle.am_alerts.specs.declared.alert_labels.NameRange.{NameRange}
 use Rattle.am_alerts.specs.declared.alert_labels.SortedLabels.{SortedLabels}
 use Rattle.am_alerts.specs.declared.judge.ValueTest.{ValueTest}
 use Rattle.am_alerts.specs.Judge.{passes, text_at}
@@ -43,6 +44,15 @@ AreRowEnds labels ends =
     (length ends ≡ length labels)
     × ((k : ℕ) → k < length labels → IsRowEnd labels k (slice_index ends k))
 
+-- The labels with a name are those in a range of positions.
+pub record IsRangeOf (labels : List AlertLabel) (name : List ℕ) (range : ℕ × ℕ) : Type 0 where
+  pub ordered : (range.0 ≤ range.1) × (range.1 ≤ length labels)
+  pub exactly : (k : ℕ) (l : AlertLabel) → slice_get labels k ≡ Some l
+      → (l.name.now ≡ name ↔ ((range.0 ≤ k) × (k < range.1)))
+
+abbrev pub IsNameRange : List AlertLabel → NameRange → Type 0
+IsNameRange labels n = IsRangeOf labels n.name.now n.range
+
 -- The labels are those of the alerts, sorted by their names.
 pub record AreSorted (sorted : SortedLabels) : Type 0 where
   pub all : IsPermutation (all_labels sorted.alerts.now) (map label_view sorted.labels.items)
@@ -50,6 +60,7 @@ pub record AreSorted (sorted : SortedLabels) : Type 0 where
   pub positions : map (λ l. l.alert) sorted.labels.items ≡ sorted.positions.items
   pub rows : AreRowEnds sorted.labels.items sorted.ends.items
   pub places : All (HasPlace sorted.values.items) sorted.labels.items
+  pub names : All (IsNameRange sorted.labels.items) sorted.names.items
 
 -- A truth for each alert: that of a test; and those alerts of some that pass a test.
 abbrev pub flag : List Bool → ℕ → Bool

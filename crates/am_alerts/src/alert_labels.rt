@@ -22,6 +22,7 @@ ghost use Rattle.am_alerts.specs.Judge.{passes, text_at, IsSound};
 ghost use Rattle.am_alerts.specs.AlertLabels.{label_view, labels_of, all_labels};
 ghost use Rattle.am_alerts.specs.AlertLabels.{HasValue, HasPlace, IsRowEnd, AreRowEnds};
 ghost use Rattle.am_alerts.specs.AlertLabels.{is_at, all_pass};
+ghost use Rattle.am_alerts.specs.AlertLabels.{IsNameRange, IsRangeOf};
 ghost use Rattle.am_alerts.specs.AlertLabels.{AreSorted, AreTruths, Keeps, flag};
 
 use crate::judge::{Judge, ValueTest, judge_for};
@@ -42,6 +43,14 @@ pub(crate) struct AlertLabel<'w> {
     pub(crate) place: usize,
 }
 
+/// Where the labels of a name are.
+#[derive(Clone, Copy, Drop)]
+pub(crate) struct NameRange<'w> {
+    pub(crate) name: &'w str,
+    /// The positions of the first one, and of the one after the last.
+    pub(crate) range: (usize, usize),
+}
+
 /// Some alerts, and their labels, sorted.
 #[derive(Drop)]
 pub(crate) struct SortedLabels<'w> {
@@ -54,6 +63,9 @@ pub(crate) struct SortedLabels<'w> {
     pub(crate) ends: Vec<usize>,
     /// The values of all labels, each once.
     pub(crate) values: Vec<&'w str>,
+    /// The names of all labels, in their order, each with its range. They are far fewer than the
+    /// labels, so a name is found in few places of memory.
+    pub(crate) names: Vec<NameRange<'w>>,
 }
 
 /// The labels of some alerts, sorted.
@@ -89,12 +101,14 @@ impl<'w> AlertLabels<'w> {
         labels.sort_by_key(|label| label.name)?;
         let positions = positions_in(alloc, labels.as_slice())?;
         let ends = row_ends(alloc, labels.as_slice())?;
+        let names = names_in(alloc, labels.as_slice())?;
         let sorted = SortedLabels {
             alerts,
             labels,
             positions,
             ends,
             values,
+            names,
         };
         Ok(AlertLabels { sorted })
     }
@@ -194,7 +208,7 @@ fn kept(
     ensures test { OnOk result (judge.new.test ≡ judge.old.test) }
     ensures sound { OnOk result (IsSound sorted.now.values.items judge.new) }
 {
-    let range = range_of(sorted.labels.as_slice(), name);
+    let range = range_in(sorted, name);
     let positions = &sorted.positions[range.0..range.1];
     let absent = judge.begin();
     let mut kept = those_judged(alloc, positions, absent, among)?;
@@ -320,11 +334,40 @@ fn drop_all(positions: &[usize], kept: &mut [bool])
 }
 
 /// The positions of the labels of this name: of the first one, and of the one after the last.
+fn range_in(sorted: &SortedLabels<'_>, name: &str) -> (usize, usize)
+    requires sorted { AreSorted sorted.now }
+    ensures range { IsRangeOf sorted.now.labels.items name.now result }
+{
+    let at = sorted.names.partition_point(|known| known.name < name);
+    if let Some(known) = sorted.names.get(at) {
+        if known.name == name {
+            return known.range;
+        }
+    }
+    // No label has the name.
+    range_of(sorted.labels.as_slice(), name)
+}
+
+/// Returns the names of labels, each with its range. Fails only if memory runs out.
+fn names_in<'w>(alloc: Global, labels: &[AlertLabel<'w>]) -> Result<Vec<NameRange<'w>>, AllocError>
+    requires { IsSortedByKey (λ l. l.name.now) (slice_cmp nat_cmp) labels.now }
+    ensures { IfOk result (λ names. All (IsNameRange labels.now) names.items) }
+{
+    let mut names = Vec::new(alloc);
+    let mut start = 0;
+    while start < labels.len() {
+        let name = labels[start].name;
+        let range = range_of(labels, name);
+        names.push(NameRange { name, range })?;
+        start = range.1;
+    }
+    Ok(names)
+}
+
+/// The same, found among all labels.
 fn range_of(labels: &[AlertLabel<'_>], name: &str) -> (usize, usize)
     requires { IsSortedByKey (λ l. l.name.now) (slice_cmp nat_cmp) labels.now }
-    ensures ordered { (result.0 ≤ result.1) × (result.1 ≤ length labels.now) }
-    ensures exactly { (k : ℕ) (l : AlertLabel) → slice_get labels.now k ≡ Some l
-        → (l.name.now ≡ name.now ↔ ((result.0 ≤ k) × (k < result.1))) }
+    ensures range { IsRangeOf labels.now name.now result }
 {
     let start = labels.partition_point(|label| label.name < name);
     let end = labels.partition_point(|label| label.name <= name);

@@ -49,36 +49,38 @@ returns c =
     let start = IsPartitionPoint-from_clause before labels _ c.partition_point-start.ensures.partitioned first (λ a r q k. search rules) in
     let end = IsPartitionPoint-from_clause not_behind labels _ c.partition_point-end.ensures.partitioned last (λ a r q k. search rules) in
     record {
-      ordered = (
-        elim (cases_lt c.partition_point-end.result c.partition_point-start.result) [
-          | inl less ↦ elim (slice_get_cases labels c.partition_point-end.result).1 [
-            | inl found ↦ absurd (apart (order (get_or labels c.partition_point-end.result found.0))
-                (start.0 c.partition_point-end.result found.0 (omega arith) less)
-                (end.1 c.partition_point-end.result found.0 (omega arith) found.1))
-            | inr past ↦ absurd (omega (arith, past.0, less, c.partition_point-start.ensures.bound))
-          ]
-          | inr more ↦ more
-        ],
-        c.partition_point-end.ensures.bound,
-      );
-      exactly = λ k l at.
-          let here : get_or labels k l ≡ l = get_or_from_slice_get labels k l l at in
-          let lt : k < length labels = slice_get_within labels k l at in (
-            λ named.
-                let tie : order (get_or labels k l) ≡ Equal =
-                ap order here ∙ ap (λ n. slice_cmp nat_cmp n name) named ∙ tied_itself nat_list_cmp_total name in (
-                  elim (cases_lt k c.partition_point-start.result) [
-                    | inl less ↦ absurd (false≢true (sym (ap is_lt tie) ∙ start.0 k l (omega arith) less))
-                    | inr more ↦ more
-                  ],
-                  elim (cases_lt k c.partition_point-end.result) [
-                    | inl less ↦ less
-                    | inr more ↦ absurd (false≢true (sym (end.1 k l more lt) ∙ ap is_le tie))
-                  ],
-                ),
-            λ inside. slice_cmp-IsAntisymmetric nat_cmp-IsAntisymmetric l.name.now name
-                (ap order (sym here)
-                ∙ between (order (get_or labels k l)) (start.1 k l inside.0 lt)
-                (end.0 k l (omega arith) inside.1)),
-          );
+      range = record {
+        ordered = (
+          elim (cases_lt c.partition_point-end.result c.partition_point-start.result) [
+            | inl less ↦ elim (slice_get_cases labels c.partition_point-end.result).1 [
+              | inl found ↦ absurd (apart (order (get_or labels c.partition_point-end.result found.0))
+                  (start.0 c.partition_point-end.result found.0 (omega arith) less)
+                  (end.1 c.partition_point-end.result found.0 (omega arith) found.1))
+              | inr past ↦ absurd (omega (arith, past.0, less, c.partition_point-start.ensures.bound))
+            ]
+            | inr more ↦ more
+          ],
+          c.partition_point-end.ensures.bound,
+        );
+        exactly = λ k l at.
+            let here : get_or labels k l ≡ l = get_or_from_slice_get labels k l l at in
+            let lt : k < length labels = slice_get_within labels k l at in (
+              λ named.
+                  let tie : order (get_or labels k l) ≡ Equal =
+                  ap order here ∙ ap (λ n. slice_cmp nat_cmp n name) named ∙ tied_itself nat_list_cmp_total name in (
+                    elim (cases_lt k c.partition_point-start.result) [
+                      | inl less ↦ absurd (false≢true (sym (ap is_lt tie) ∙ start.0 k l (omega arith) less))
+                      | inr more ↦ more
+                    ],
+                    elim (cases_lt k c.partition_point-end.result) [
+                      | inl less ↦ less
+                      | inr more ↦ absurd (false≢true (sym (end.1 k l more lt) ∙ ap is_le tie))
+                    ],
+                  ),
+              λ inside. slice_cmp-IsAntisymmetric nat_cmp-IsAntisymmetric l.name.now name
+                  (ap order (sym here)
+                  ∙ between (order (get_or labels k l)) (start.1 k l inside.0 lt)
+                  (end.0 k l (omega arith) inside.1)),
+            );
+      };
     }

@@ -1,10 +1,18 @@
-use Rattle.std.proofs.Common.{map, sym, ap, ◌∙◌, subst}
+use Rattle.std.proofs.Common.{All, map, sym, ap, ◌∙◌, subst}
 use Rattle.std.proofs.lemmas.List.Sorted.{IsPermutation-map, IsPermutation-trans, All-permutation, answers_always}
-use Rattle.std.specs.List.Sorted.{IsPermutation}
+use Rattle.std.specs.Ordering.{nat_cmp}
+use Rattle.std.specs.Cmp.Lexicographic.{slice_cmp}
+use Rattle.std.specs.List.Sorted.{IsPermutation, IsSortedByKey}
 use Rattle.std.proofs.Common.{rules}
 use Rattle.am_alerts.specs.declared.alert_labels.AlertLabel.{AlertLabel}
-use Rattle.am_alerts.specs.AlertLabels.{label_view, all_labels, AreRowEnds, HasPlace}
+use Rattle.am_alerts.specs.AlertLabels.{label_view, all_labels, AreRowEnds, HasPlace, IsNameRange}
 use Rattle.am_alerts.proofs.alert_labels.AlertLabels.of.Goals as goal
+
+pub names_in-requires : goal.names_in-requires
+names_in-requires c =
+    subst (IsSortedByKey (λ (l : AlertLabel). l.name.now) (slice_cmp nat_cmp)) (sym c.as_slice-3.ensures.value)
+    (c.in_ok-sort_by_key.ensures.sorted (λ l. l.name)
+    (answers_always _ _ _ (λ f a r g h. search rules)))
 
 pub invariant_of-result : goal.invariant_of-result
 invariant_of-result c =
@@ -23,4 +31,6 @@ invariant_of-result c =
       rows = subst (λ labels. AreRowEnds labels c.in_ok-ends.ends.items)
           c.as_slice-2.ensures.value c.in_ok-ends.ensures;
       places = All-permutation (HasPlace values) _ _ by_name placed.placed;
+      names = subst (λ labels. All (IsNameRange labels) c.in_ok-names.names.items)
+          c.as_slice-3.ensures.value c.in_ok-names.ensures;
     }
