@@ -344,7 +344,7 @@ fn range_in(sorted: &SortedLabels<'_>, name: &str) -> (usize, usize)
             return known.range;
         }
     }
-    // No label has the name.
+    // Then no label has it. That the names are all is not proved, so the labels are searched.
     range_of(sorted.labels.as_slice(), name)
 }
 

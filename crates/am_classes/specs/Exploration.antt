@@ -79,7 +79,7 @@ byte_at place =
     else if nat_lt place 127 then place - 95
     else place
 
--- Some bytes have each byte of a set.
+-- A byte is among some bytes; and each byte of a set is.
 abbrev pub HasByte : List ℕ → ℕ → Type 0
 HasByte bytes byte = (k : ℕ) × (slice_get bytes k ≡ Some byte)
 

@@ -17,6 +17,7 @@ pub(crate) enum Keep<'n> {
 }
 
 impl<'n> Keep<'n> {
+    /// Whether nothing is kept.
     pub(crate) fn is_nothing(self) -> bool
         ensures { result ≡ is_nothing self.entry }
     {

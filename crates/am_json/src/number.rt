@@ -22,6 +22,7 @@ pub(crate) fn number_of(text: &str) -> Option<Number>
     }
 }
 
+/// Whether a number begins with a minus.
 fn has_minus(bytes: &[u8]) -> bool
     ensures value { result ≡ (slice_index bytes.now 0 == 45) }
     ensures some { IsTrue result → 0 < length bytes.now }
@@ -29,6 +30,7 @@ fn has_minus(bytes: &[u8]) -> bool
     !bytes.is_empty() && bytes[0] == b'-'
 }
 
+/// Returns the number of a numeral without a minus, or `None` if it is out of range.
 fn unsigned(numeral: &Numeral<'_>) -> Option<Number>
     ensures { option_map number_view result ≡ number_from false numeral.now }
 {
@@ -38,6 +40,7 @@ fn unsigned(numeral: &Numeral<'_>) -> Option<Number>
     }
 }
 
+/// Returns the number of a numeral behind a minus, or `None` if it is out of range.
 fn negative(numeral: &Numeral<'_>) -> Option<Number>
     ensures { option_map number_view result ≡ number_from true numeral.now }
 {
@@ -47,6 +50,7 @@ fn negative(numeral: &Numeral<'_>) -> Option<Number>
     }
 }
 
+/// Returns the float that is nearest to a numeral, or `None` if it is infinite.
 fn nearest(is_negative: bool, numeral: &Numeral<'_>) -> Option<Number>
     ensures { option_map number_view result ≡ float_of is_negative numeral.now }
 {
