@@ -38,7 +38,7 @@ pub fn parse_set_words(alloc: Global, words: &[&str]) -> Result<LabelSet, Kind>
     ensures refused { IfErr result (λ kind. kind ≢ kinds.Memory
         → SetWordsRefusedFor (map (λ word. word.now) words.now) kind) }
 {
-    let matchers = parse_words(alloc, words)?;
+    let matchers = parse_words(alloc, None, words)?;
     if !are_equalities(matchers.as_slice()) {
         return Err(Kind::BadMatcher);
     }

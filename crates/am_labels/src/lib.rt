@@ -54,7 +54,7 @@ mod matcher_text;
 mod quotes;
 
 pub use label_set_text::{parse_set, parse_set_words};
-pub use matcher_text::parse_matchers;
+pub use matcher_text::{parse_matchers, parse_more_matchers};
 
 // Where a text of matchers ends in a question.
 mod brace_list;

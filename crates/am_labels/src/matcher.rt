@@ -32,7 +32,7 @@ impl Model for Matcher {
     ghost view = { λ m.
         record { name = string_bytes m.name; op = m.op; value = string_bytes m.value } };
 
-    // The label has a name. The pattern is built once, if the operator takes one.
+    // The label has a name. There is a pattern exactly if the operator takes one.
     ghost invariant = { λ m. (string_bytes m.name ≢ [])
         × (m.pattern ≡ (if takes_pattern m.op then Some (string_bytes m.value) else None)) };
 }
@@ -60,11 +60,41 @@ impl Matcher {
         ensures memory { IfErr result (λ kind. kind ≡ kinds.Memory
             → (takes_pattern op ≡ true) × (in_profile (string_bytes value) ≡ true)) }
     {
+        Matcher::new_beside(alloc, None, name, op, value)
+    }
+
+    /// Makes a matcher as `new` does. If the other matcher has the same pattern, it is not built
+    /// again.
+    pub(crate) fn new_beside(
+        alloc: Global,
+        other: Option<&Matcher>,
+        name: String,
+        op: Op,
+        value: String,
+    ) -> Result<Matcher, Kind>
+        ensures ok { IfOk result (λ m.
+            m ≡ record { name = string_bytes name; op = op; value = string_bytes value }) }
+        ensures named { OnOk result (string_bytes name ≢ []) }
+        ensures valid_pattern { OnOk result (IsTrue (has_valid_pattern
+            (record { name = string_bytes name; op = op; value = string_bytes value }))) }
+        ensures unnamed { string_bytes name ≡ [] → result ≡ Err kinds.Empty }
+        ensures outside { string_bytes name ≢ [] → takes_pattern op ≡ true
+            → in_profile (string_bytes value) ≡ false → result ≡ Err kinds.PatternProfile }
+        ensures refused { IfErr result (λ kind. kind ≢ kinds.Memory
+            → MatcherRefusedFor
+            (record { name = string_bytes name; op = op; value = string_bytes value }) kind) }
+        ensures memory { IfErr result (λ kind. kind ≡ kinds.Memory
+            → (takes_pattern op ≡ true) × (in_profile (string_bytes value) ≡ true)) }
+    {
         if name.is_empty() {
             return Err(Kind::Empty);
         }
         let pattern = if op.takes_pattern() {
-            Some(Pattern::new(alloc, value.as_str())?)
+            let other = match other {
+                Some(other) => other.pattern.as_ref(),
+                None => None,
+            };
+            Some(Pattern::new_beside(alloc, other, value.as_str())?)
         } else {
             None
         };

@@ -55,12 +55,32 @@ pub fn parse_matchers(alloc: Global, text: &str) -> Result<Matchers, Kind>
     ensures valid_patterns { IfOk result (λ ms. IsTrue (have_valid_patterns ms)) }
     ensures refused { IfErr result (λ kind. kind ≢ kinds.Memory → TextRefusedFor text.now kind) }
 {
-    parse_words(alloc, &[text])
+    parse_more_matchers(alloc, &Matchers::empty(alloc), text)
+}
+
+/// Reads a list of matchers that follows others, as in one route. Returns the list without those
+/// before it.
+///
+/// Reads as [`parse_matchers`] does, and fails as it does. A matcher that has the pattern of the
+/// one before it takes over what was built for that one. So a pattern is built once, however many
+/// matchers in a row have it.
+pub fn parse_more_matchers(alloc: Global, before: &Matchers, text: &str) -> Result<Matchers, Kind>
+    ensures spelled { IfOk result (λ ms. Spells text.now ms) }
+    ensures at_most { IfOk result (λ ms. length ms ≤ MAX_MATCHERS) }
+    ensures valid_patterns { IfOk result (λ ms. IsTrue (have_valid_patterns ms)) }
+    ensures refused { IfErr result (λ kind. kind ≢ kinds.Memory → TextRefusedFor text.now kind) }
+{
+    parse_words(alloc, before.last(), &[text])
 }
 
 /// Reads a list of matchers from words: one word is the text of a list, and each of several is one
-/// matcher. Fails as `parse_matchers` does, with `BadMatcher` if the words do not spell a list.
-pub(crate) fn parse_words(alloc: Global, words: &[&str]) -> Result<Matchers, Kind>
+/// matcher. Fails as `parse_matchers` does, with `BadMatcher` if the words do not spell a list. The
+/// first matcher may take over the pattern of the matcher before.
+pub(crate) fn parse_words(
+    alloc: Global,
+    before: Option<&Matcher>,
+    words: &[&str],
+) -> Result<Matchers, Kind>
     ensures spelled { IfOk result (λ ms. WordsSpell (map (λ word. word.now) words.now) ms) }
     ensures at_most { IfOk result (λ ms. length ms ≤ MAX_MATCHERS) }
     ensures valid_patterns { IfOk result (λ ms. IsTrue (have_valid_patterns ms)) }
@@ -71,11 +91,16 @@ pub(crate) fn parse_words(alloc: Global, words: &[&str]) -> Result<Matchers, Kin
     if list.len() > MAX_MATCHERS {
         return Err(Kind::Limit);
     }
-    matchers_of(alloc, list)
+    matchers_of(alloc, before, list)
 }
 
-/// The matchers that were read, each with its pattern built.
-fn matchers_of(alloc: Global, list: Vec<SpelledMatcher>) -> Result<Matchers, Kind>
+/// The matchers that were read, each with its pattern: built, or taken over from the matcher before
+/// it.
+fn matchers_of(
+    alloc: Global,
+    before: Option<&Matcher>,
+    list: Vec<SpelledMatcher>,
+) -> Result<Matchers, Kind>
     requires named { All (λ m. m.name ≢ []) list.items }
     requires at_most { length list.items ≤ MAX_MATCHERS }
     ensures ok { IfOk result (λ ms. ms ≡ list.items) }
@@ -85,7 +110,9 @@ fn matchers_of(alloc: Global, list: Vec<SpelledMatcher>) -> Result<Matchers, Kin
 {
     let mut matchers = Matchers::empty(alloc);
     for spelled in list {
-        matchers.push(Matcher::new(alloc, spelled.name, spelled.op, spelled.value)?)?;
+        let beside = matchers.last().or(before);
+        let matcher = Matcher::new_beside(alloc, beside, spelled.name, spelled.op, spelled.value)?;
+        matchers.push(matcher)?;
     }
     Ok(matchers)
 }

@@ -112,6 +112,11 @@ impl Matchers {
         &self.matchers[i]
     }
 
+    /// The last matcher, if there is one.
+    pub(crate) fn last(&self) -> Option<&Matcher> {
+        self.matchers.as_slice().last()
+    }
+
     /// The matchers as a slice.
     pub(crate) fn as_slice(&self) -> &[Matcher]
         ensures { result.now ≡ self.now }

@@ -26,21 +26,24 @@ use regex_syntax::{Config, ErrorKind, Parsed};
 use regex_vm::PikeVm;
 use std::alloc::{AllocError, Global};
 use std::marker::Model;
+use std::rc::Rc;
 
 /// The most bytes that the tables of a compiled pattern may have. The crate `regex` has the same
 /// limit, unless it is told another.
 const MAX_PATTERN_BYTES: usize = 10 << 20;
 
 /// A pattern, which has to match a whole text. It is compiled, unless it has wildcards alone. The
-/// compiled form is large, so it is boxed.
+/// compiled form is large, so patterns of the same text may share it.
 #[derive(Drop)]
 pub(crate) struct Pattern {
     text: String,
-    nfa: Option<Box<Nfa>>,
+    nfa: Option<Rc<Nfa>>,
 }
 
 impl Model for Pattern {
     ghost use Rattle.std.specs.Prelude.{◌≡◌, ℕ, List, MatchOption, string_bytes, true};
+    ghost use Rattle.am_labels.specs.Pattern.{is_pattern};
+    ghost use Rattle.am_labels.specs.PatternProfile.{in_profile};
     ghost use Rattle.am_labels.specs.PatternView.{IsSearchFor};
     ghost use Rattle.am_labels.specs.Wildcards.{is_wildcards};
 
@@ -48,11 +51,49 @@ impl Model for Pattern {
 
     ghost view = { λ p. string_bytes p.text };
 
-    ghost invariant = { λ p. MatchOption p.nfa (is_wildcards (string_bytes p.text) ≡ true)
+    ghost invariant = { λ p. (in_profile (string_bytes p.text) ≡ true)
+        × (is_pattern (string_bytes p.text) ≡ true)
+        × MatchOption p.nfa (is_wildcards (string_bytes p.text) ≡ true)
         (λ nfa. IsSearchFor nfa.value (string_bytes p.text)) };
 }
 
 impl Pattern {
+    /// Reads a pattern as `new` does. If the other pattern has the same text, nothing is compiled
+    /// again.
+    pub(crate) fn new_beside(
+        alloc: Global,
+        other: Option<&Pattern>,
+        value: &str,
+    ) -> Result<Pattern, Kind>
+        ensures value { IfOk result (λ p. p ≡ value.now) }
+        ensures profile { OnOk result (in_profile value.now ≡ true) }
+        ensures read { OnOk result (is_pattern value.now ≡ true) }
+        ensures outside { in_profile value.now ≡ false → result ≡ Err kinds.PatternProfile }
+        ensures refused { in_profile value.now ≡ true
+            → IfErr result (λ kind. kind ≢ kinds.Memory → kind ≡ kinds.Pattern) }
+    {
+        if let Some(other) = other
+            && other.text.as_str() == value
+        {
+            return Ok(other.shared(alloc)?);
+        }
+        Pattern::new(alloc, value)
+    }
+
+    /// The same pattern again, which shares what is compiled. Fails only if memory runs out.
+    fn shared(&self, alloc: Global) -> Result<Pattern, AllocError>
+        ensures value { IfOk result (λ p. p ≡ self.now) }
+        ensures profile { in_profile self.now ≡ true }
+        ensures read { is_pattern self.now ≡ true }
+    {
+        let text = String::from_str(alloc, self.text.as_str())?;
+        let nfa = match &self.nfa {
+            Some(nfa) => Some(nfa.clone()?),
+            None => None,
+        };
+        Ok(Pattern { text, nfa })
+    }
+
     /// Reads a pattern. Fails with `PatternProfile` exactly if it is outside the profile. One that
     /// does not have wildcards alone is compiled: that fails with `Pattern` if its grammar does not
     /// read the anchored text, or if what is compiled is too large. Fails with `Memory` if memory
@@ -78,7 +119,7 @@ impl Pattern {
         };
         Ok(Pattern {
             text,
-            nfa: Some(Box::new(alloc, nfa)?),
+            nfa: Some(Rc::new(alloc, nfa)?),
         })
     }
 
