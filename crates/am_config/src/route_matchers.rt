@@ -18,7 +18,7 @@ use am_json::{
     ReadError, as_items, as_object, as_text, field, or_refused, read_each_member, within_field,
     within_item,
 };
-use am_labels::{Matcher, Matchers, Op, parse_matchers};
+use am_labels::{Matcher, Matchers, Op, parse_more_matchers};
 use am_list_files::{new_matcher, read_named_text};
 use am_universe::Kind;
 use serde_json::Value;
@@ -102,16 +102,21 @@ fn read_next_matcher_text(
     ensures { Gives (λ ms. ms) result (next_text_form before (i, view item.now)) }
 {
     let text = within_item(alloc, i, as_text(alloc, item))?;
-    let more = read_matcher_text_at(alloc, i, text)?;
+    let more = read_matcher_text_at(alloc, &before, i, text)?;
     append_matchers(alloc, before, more)
 }
 
-/// Reads the matchers of a text. Too many are refused at the array, and any other fault at the
-/// text.
-fn read_matcher_text_at(alloc: Global, i: usize, text: &str) -> Result<Matchers, ReadError>
+/// Reads the matchers of a text, which follow those before. Too many are refused at the array, and
+/// any other fault at the text.
+fn read_matcher_text_at(
+    alloc: Global,
+    before: &Matchers,
+    i: usize,
+    text: &str,
+) -> Result<Matchers, ReadError>
     ensures { Gives (λ ms. ms) result (matcher_text_form (to_item i) [] text.now) }
 {
-    match parse_matchers(alloc, text) {
+    match parse_more_matchers(alloc, before, text) {
         Ok(found) => Ok(found),
         Err(kind) => refuse_text(alloc, i, kind),
     }
