@@ -1,7 +1,7 @@
 -- A value says a space exactly if reading it finds no fault, and then it says the space that
 -- reading gives.
-use Rattle.std.proofs.Common.{◌≡◌, ℕ, ◌<◌, ◌≤◌, List, [], ◌∷◌, ◌++◌, length, Bool, true, false}
-use Rattle.std.proofs.Common.{cond, Option, Some, None, option_and_then, Ok, nat_le, refl}
+use Rattle.std.proofs.Common.{◌≡◌, ℕ, ◌<◌, ◌≤◌, List, [], ◌∷◌, ◌++◌, length}
+use Rattle.std.proofs.Common.{Option, Some, None, option_and_then, Ok, refl}
 use Rattle.std.proofs.Common.{sym, ap}
 use Rattle.std.proofs.Common.{subst, ◌∙◌, append_assoc, append-nil, length-append, arith}
 use Rattle.std.specs.Prelude.{codes, IsTrue}
@@ -10,12 +10,9 @@ use Rattle.std.proofs.lemmas.List.{map-append}
 use Rattle.std.proofs.lemmas.Slice.Zip.{AllZip-long}
 use borrow.Author.Tests.{lt-leb}
 use Rattle.serde_json.specs.Data.{Data, null}
-use Rattle.am_universe.specs.declared.kind.Kind.{Kind}
-use Rattle.am_universe.specs.declared.label_fault.LabelFault.{LabelFault}
 use Rattle.am_universe.specs.Text.{same_text}
 use Rattle.am_universe.specs.declared.label_fault.LabelPart.TheVariants as parts
 use Rattle.am_universe.specs.declared.limits.TheConstants.{MAX_LABELS}
-use Rattle.std.specs.Option.{option_or}
 use Rattle.am_universe.specs.Universe.{Values, Label, IsLabel, IsUniverse, names}
 use Rattle.am_universe.specs.Universe.{name_fault, count_fault, value_fault, values_fault}
 use Rattle.am_universe.specs.Universe.{label_values_fault, label_fault, any_label_fault, fault_at}
