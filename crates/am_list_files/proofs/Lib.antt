@@ -1,3 +1,4 @@
+mod SeenValueLemmas
 pub mod UniverseSays
 pub mod UniverseTexts
 pub mod UniverseLaws

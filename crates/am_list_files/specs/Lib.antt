@@ -1,3 +1,4 @@
+pub mod SeenValues
 pub mod UniverseFile
 pub mod UniverseForm
 pub mod MatcherFaults

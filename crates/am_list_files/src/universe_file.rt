@@ -1,11 +1,13 @@
 //! Reading the universe file.
 
-ghost use Rattle.std.specs.Prelude.{◌≡◌, ◌<◌, ◌≤◌, [], ◌∷◌, ◌++◌, length, map, None, Ok, Err, IfOk};
-ghost use Rattle.std.specs.Prelude.{IfErr, string_bytes, option_map, codes};
+ghost use Rattle.std.specs.Prelude.{◌≡◌, ◌≢◌, ◌<◌, ◌≤◌, [], ◌∷◌, ◌++◌, length, map, None, Some};
+ghost use Rattle.std.specs.Prelude.{Ok, Err, IfOk, IfErr, string_bytes, option_map, codes};
 ghost use Rattle.std.specs.List.{filter_map};
 ghost use Rattle.serde_json.specs.Find.{as_str};
 ghost use Rattle.serde_json.specs.View.{view};
+ghost use Rattle.am_universe.specs.declared.kind.Kind.TheVariants as kinds;
 ghost use Rattle.am_universe.specs.declared.place.Place.TheVariants as places;
+ghost use Rattle.am_universe.specs.Universe.{Values, value_fault};
 ghost use Rattle.am_universe.specs.UniverseView.{label_of, texts_of};
 ghost use Rattle.am_json.specs.Reading.{Gives, IsRefusalAt, read_items};
 ghost use Rattle.am_json.specs.Json.{field, items_in_field};
@@ -17,6 +19,7 @@ ghost use Rattle.am_list_files.specs.UniverseForm.{labels_form, all_labels_form,
 ghost use Rattle.am_list_files.specs.UniverseForm.{all_lists_form, universe_form};
 ghost use Rattle.am_list_files.specs.UniverseForm.{universe_file_form};
 ghost use Rattle.am_list_files.specs.MatcherTexts.{matcher_text_form};
+ghost use Rattle.am_list_files.specs.SeenValues.{AreSeen, seen_value};
 
 use am_json::{
     ReadError, as_text, check_count, check_only_fields, field, or_refused, read_json,
@@ -25,9 +28,10 @@ use am_json::{
 use am_labels::limits::MAX_IMPOSSIBLE;
 use am_labels::{Matchers, Space, parse_matchers};
 use am_universe::limits::MAX_LABELS;
-use am_universe::{Fault, Place, Universe};
+use am_universe::{Fault, Kind, Place, Universe};
 use serde_json::Value;
 use std::alloc::{AllocError, Global};
+use std::collections::HashSet;
 
 /// Reads a universe file: its labels, their values, and the impossible lists of matchers.
 ///
@@ -159,27 +163,51 @@ fn read_each_value(alloc: Global, items: &[Value]) -> Result<Vec<Option<String>>
         (read_items next_value_form [] (map view items.now)) }
 {
     let mut values = Vec::new(alloc);
+    let mut seen = HashSet::new(alloc);
     for item in items {
-        let found = read_next_value(alloc, values.as_slice(), item);
+        let found = read_next_value(alloc, &mut seen, item);
         let next = within_item(alloc, values.len(), found)?;
         values.push(next)?;
     }
     Ok(values)
 }
 
-/// Reads a value of a label; `before` are the values before it.
+/// Reads a value of a label. The values before it were seen, and then it is seen too.
 #[tactic(auto, unfolding(crate::specs::UniverseForm::next_value_form))]
-fn read_next_value(
+fn read_next_value<'v>(
     alloc: Global,
-    before: &[Option<String>],
-    value: &Value,
+    seen: &mut HashSet<Option<&'v str>>,
+    value: &'v Value,
 ) -> Result<Option<String>, ReadError>
-    ensures { Gives (option_map string_bytes) result
-        (next_value_form (texts_of before.now) (view value.now)) }
+    ensures reading { (before : Values) → AreSeen seen.old before
+        → Gives (option_map string_bytes) result (next_value_form before (view value.now)) }
+    ensures seen { (before : Values) → AreSeen seen.old before → IfOk result (λ next.
+        AreSeen seen.new (before ++ option_map string_bytes next ∷ [])) }
 {
     let value = read_value(alloc, value)?;
-    refuse_for(alloc, Universe::value_fault(before, value))?;
+    refuse_for(alloc, next_value_fault(seen, value)?)?;
     Ok(owned(alloc, value)?)
+}
+
+/// Why a value cannot follow those that were seen, as `Universe::value_fault` says it. If it can,
+/// it is then seen too. Fails only if memory runs out.
+fn next_value_fault<'v>(
+    seen: &mut HashSet<Option<&'v str>>,
+    value: Option<&'v str>,
+) -> Result<Option<Kind>, AllocError>
+    ensures kind { IfOk result (λ fault. fault ≢ Some kinds.Write) }
+    ensures fault { (before : Values) → AreSeen seen.old before → IfOk result (λ fault.
+        fault ≡ value_fault before (seen_value value.entry)) }
+    ensures seen { (before : Values) → AreSeen seen.old before → IfOk result (λ fault.
+        fault ≡ None → AreSeen seen.new (before ++ seen_value value.entry ∷ [])) }
+{
+    if value == Some("") {
+        return Ok(Some(Kind::Empty));
+    }
+    if !seen.insert(value)? {
+        return Ok(Some(Kind::Duplicate));
+    }
+    Ok(None)
 }
 
 /// Reads a text, or `None` for `null`.
