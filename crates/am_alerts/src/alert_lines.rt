@@ -13,7 +13,6 @@ ghost use Rattle.am_alerts.specs.AlertLines.{words_before};
 
 use crate::intervals::intervals_of;
 use crate::outcomes::Outcomes;
-use crate::route_ends::paths_of;
 use crate::truth::truths_of;
 use am_eval::Question;
 use am_report_texts::{Field, Level, Line, Piece, Report, Shown, receiver_names};
@@ -64,8 +63,7 @@ fn alert_line<'o>(
     let outcome = outcomes.at(position);
     let receivers = receiver_names(alloc, world.config(), outcome.receivers)?;
     let silencers = names_of(alloc, names, outcome.silencers)?;
-    let paths = paths_of(alloc, outcome.rows, outcome.alert)?;
-    let intervals = intervals_of(alloc, world.config(), paths.as_slice())?;
+    let intervals = intervals_of(alloc, world.config(), outcome.rows, outcome.alert)?;
     let labels = labels_of(alloc, world.alerts().get(position))?;
     Ok(Line {
         level: Level::Plain,

@@ -6,27 +6,32 @@ ghost use Rattle.am_json.specs.Json.{items_in_field};
 ghost use Rattle.am_config.specs.ConfigView.{config_view};
 ghost use Rattle.am_report_texts.specs.EachOnce.{with_text};
 ghost use Rattle.am_alerts.specs.Intervals.{intervals_of, texts_in};
+ghost use Rattle.am_alerts.specs.RouteEnds.{ends_of};
 
-use am_config::{Config, Path};
+use crate::route_ends::RouteEnds;
+use am_config::Config;
 use am_report_texts::push_new;
 use serde_json::Value;
 use std::alloc::{AllocError, Global};
 
-/// Returns the names of the time intervals of the routes at these paths, each once. Fails only if
-/// memory runs out.
+/// Returns the names of the time intervals of the routes at which the alert at a position ends, each
+/// once. Fails only if memory runs out.
 pub(crate) fn intervals_of<'a>(
     alloc: Global,
     config: &'a Config,
-    paths: &[Path],
+    rows: &[RouteEnds],
+    alert: usize,
 ) -> Result<Vec<&'a str>, AllocError>
     ensures { IfOk result (λ names. map (λ n. n.now) names.items
-        ≡ intervals_of (config_view config.now) paths.now) }
+        ≡ intervals_of (config_view config.now) (ends_of rows.now alert)) }
 {
     let mut names = Vec::new(alloc);
-    for path in paths {
-        if let Some(route) = config.at(path) {
-            push_texts(&route.options().mute_time_intervals, &mut names)?;
-            push_texts(&route.options().active_time_intervals, &mut names)?;
+    for row in rows {
+        if row.has(alert) {
+            if let Some(route) = config.at(&row.path) {
+                push_texts(&route.options().mute_time_intervals, &mut names)?;
+                push_texts(&route.options().active_time_intervals, &mut names)?;
+            }
         }
     }
     Ok(names)

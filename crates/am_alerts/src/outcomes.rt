@@ -6,14 +6,14 @@ ghost use Rattle.am_universe.specs.LabelSet.{LabelMap};
 ghost use Rattle.am_config.specs.ConfigView.{config_view};
 ghost use Rattle.am_eval.specs.Routing.{ends, receivers, receiver_at};
 ghost use Rattle.am_alerts.specs.AlertLists.{AreLists};
-ghost use Rattle.am_alerts.specs.RouteEnds.{AreEnds};
+ghost use Rattle.am_alerts.specs.RouteEnds.{AreEnds, ends_of};
 ghost use Rattle.am_alerts.specs.Outcomes.{HasOutcome};
 
 use crate::alert_ends::ends_of_alerts;
 use crate::alert_hiding::{inhibitors_of_alerts, silencers_of_alerts};
 use crate::alert_labels::AlertLabels;
-use crate::route_ends::{RouteEnds, paths_of};
-use am_config::{Config, Path};
+use crate::route_ends::RouteEnds;
+use am_config::Config;
 use am_eval::World;
 use std::alloc::{AllocError, Global};
 use std::marker::Model;
@@ -129,25 +129,28 @@ fn receivers_of_all(
 {
     let mut found = Vec::with_capacity(alloc, count)?;
     for alert in 0..count {
-        let paths = paths_of(alloc, rows, alert)?;
-        found.push(receivers_at(alloc, config, paths.as_slice())?)?;
+        found.push(receivers_of(alloc, config, rows, alert)?)?;
     }
     Ok(found)
 }
 
-/// The receivers of the routes at these paths, in order.
-pub(crate) fn receivers_at(
+/// The receivers of the routes at which the alert at a position ends, in order. Fails only if memory
+/// runs out.
+pub(crate) fn receivers_of(
     alloc: Global,
     config: &Config,
-    paths: &[Path],
+    rows: &[RouteEnds],
+    alert: usize,
 ) -> Result<Vec<usize>, AllocError>
-    ensures { IfOk result (λ found.
-        found.items ≡ filter_map (receiver_at (config_view config.now)) paths.now) }
+    ensures { IfOk result (λ found. found.items
+        ≡ filter_map (receiver_at (config_view config.now)) (ends_of rows.now alert)) }
 {
     let mut found = Vec::new(alloc);
-    for path in paths {
-        if let Some(route) = config.at(path) {
-            found.push(route.receiver())?;
+    for row in rows {
+        if row.has(alert) {
+            if let Some(route) = config.at(&row.path) {
+                found.push(route.receiver())?;
+            }
         }
     }
     Ok(found)

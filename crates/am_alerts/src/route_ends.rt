@@ -22,29 +22,11 @@ pub(crate) struct RouteEnds {
 
 impl RouteEnds {
     /// Whether the alert at a position ends at the route.
-    fn has(&self, alert: usize) -> bool
+    pub(crate) fn has(&self, alert: usize) -> bool
         ensures { result ≡ flag self.now.alerts.items alert }
     {
         alert < self.alerts.len() && self.alerts[alert]
     }
-}
-
-/// Returns the paths of the routes at which the alert at a position ends. Fails only if memory runs
-/// out.
-pub(crate) fn paths_of(
-    alloc: Global,
-    rows: &[RouteEnds],
-    alert: usize,
-) -> Result<Vec<Path>, AllocError>
-    ensures { IfOk result (λ paths. paths.items ≡ ends_of rows.now alert) }
-{
-    let mut paths = Vec::new(alloc);
-    for row in rows {
-        if row.has(alert) {
-            paths.push(row.path)?;
-        }
-    }
-    Ok(paths)
 }
 
 /// Returns the routes at some paths, where one alert ends at each. Fails only if memory runs out.

@@ -10,7 +10,7 @@ ghost use Rattle.am_alerts.specs.Outcomes.{HasOutcome};
 
 use crate::alert_labels::AlertLabels;
 use crate::alert_lists::without;
-use crate::outcomes::{Outcome, Outcomes, receivers_at};
+use crate::outcomes::{Outcome, Outcomes, receivers_of};
 use crate::route_ends::{reaches, rows_of};
 use am_eval::{Question, Reach, World, ends, inhibited_by, silenced_by};
 use am_universe::LabelSet;
@@ -29,10 +29,10 @@ pub fn is_true_of(
         truth ≡ satisfies world.now (question_view question.now) set.now) }
 {
     let ends = ends(alloc, world.config(), set)?;
-    let receivers = receivers_at(alloc, world.config(), ends.as_slice())?;
+    let rows = rows_of(alloc, ends.as_slice())?;
+    let receivers = receivers_of(alloc, world.config(), rows.as_slice(), 0)?;
     let silencers = silenced_by(alloc, world, set)?;
     let inhibitors = inhibited_by(alloc, world, set)?;
-    let rows = rows_of(alloc, ends.as_slice())?;
     let outcome = Outcome {
         rows: rows.as_slice(),
         alert: 0,

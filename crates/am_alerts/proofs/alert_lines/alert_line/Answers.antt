@@ -25,7 +25,7 @@ returns c = λ ids s named at.
     ∙ names_are w s ids (map string_bytes c.args.names.now) named in
     let muting = c.in_ok-intervals.ensures
     ∙ (λ j. intervals_of ((c.config-2.ensures.config ∙ ap config c.world-world.ensures.world) j)
-    ((c.as_slice.ensures.value ∙ c.in_ok-paths.ensures ∙ outcome.ends) j)) in
+    (outcome.ends j)) in
     let set : c.get.result.now ≡ s =
     same_Some c.get.result.now s (sym c.get.ensures.alert ∙ ap (λ xs. slice_get xs c.args.position)
     (c.alerts.ensures.alerts ∙ ap (λ (w : World). w.alerts) c.world-world.ensures.world) ∙ at) in
@@ -37,7 +37,7 @@ returns c = λ ids s named at.
     ∙ ap (words_before (codes " inhibited ")) outcome.inhibitors in
     let muted_words = c.words_before-3.ensures
     ∙ ap (λ n. if n == 0 then [] else codes " intervals ")
-    (ap length c.as_slice-2.ensures.value
+    (ap length c.as_slice.ensures.value
     ∙ sym (length-map c.in_ok-intervals.intervals.items (λ n. n.now)) ∙ ap length muting) in
     simp (
       c.in_ok-vec.ensures.items,

@@ -15,9 +15,8 @@ loop-alert-preserved c =
     let alert = c.loop-alert.alert in
     let items = λ (v : Vec ℕ). v.items in
     ap (map items) c.in_ok-push.ensures.items
-    ∙ map_push items c.loop-alert.found.items c.in_ok-receivers_at.field-0
-    ∙ (λ j. c.loop-alert.invariant j ++ (c.in_ok-receivers_at.ensures
-    ∙ ap receivers (c.as_slice.ensures.value ∙ c.in_ok-paths.ensures)) j ∷ [])
+    ∙ map_push items c.loop-alert.found.items c.in_ok-receivers_of.field-0
+    ∙ (λ j. c.loop-alert.invariant j ++ c.in_ok-receivers_of.ensures j ∷ [])
     ∙ sym (map-range_with_len_more (λ i. receivers (ends_of c.args.rows.now i)) 0 alert alert (omega arith))
 
 pub returns : goal.returns
