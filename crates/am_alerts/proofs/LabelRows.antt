@@ -1,21 +1,22 @@
 -- Labels in a range, and what rows of labels with one value say of the alerts.
 use Rattle.std.proofs.Common.{◌≡◌, ℕ, ◌+◌, ◌-◌, ◌<◌, ◌≤◌, List, [], ◌∷◌, ◌++◌, map, Bool, true, false, not, ◌&&◌, ◌||◌}
 use Rattle.std.proofs.Common.{arith, Some, refl, sym, ap, ◌∙◌, subst, length, take, drop, All}
-use Rattle.std.proofs.Common.{inl, inr}
+use Rattle.std.proofs.Common.{inl, inr, get_or}
 use Rattle.std.specs.Prelude.{slice_get, slice_range, ◌==◌}
-use Rattle.std.proofs.lemmas.Bool.{true≢false, false≢true, eqb-true}
-use Rattle.std.proofs.lemmas.List.{length-take-le, take-take, drop_at, take-map, drop-map}
+use Rattle.std.proofs.lemmas.Bool.{true≢false, false≢true, eqb-true, cases_lt}
+use Rattle.std.proofs.lemmas.List.{length-take-le, take-take, drop_at, drop_more, take-map, drop-map}
 use Rattle.std.proofs.lemmas.List.Edits.{split_between, get_or-between, length-between}
 use Rattle.std.proofs.lemmas.List.Elements.{All-take, All-drop, All-map}
 use Rattle.std.proofs.lemmas.List.Folds.{list_all-append}
-use Rattle.std.proofs.lemmas.Option.{slice_get-get_or, slice_get_within, get_or_from_slice_get}
+use Rattle.std.proofs.lemmas.Option.{slice_get-get_or, slice_get_within, get_or_from_slice_get, same_Some}
 use Rattle.std.proofs.lemmas.Slice.{between_is}
 use Rattle.am_universe.proofs.ListLemmas.{IsIn}
 use Rattle.am_universe.proofs.Members.{at_in}
 use Rattle.am_alerts.specs.declared.alert_labels.AlertLabel.{AlertLabel}
+use Rattle.am_alerts.specs.declared.alert_labels.Row.{Row}
 use Rattle.am_alerts.specs.declared.judge.ValueTest.{ValueTest}
 use Rattle.am_alerts.specs.Judge.{passes}
-use Rattle.am_alerts.specs.AlertLabels.{is_at, all_pass}
+use Rattle.am_alerts.specs.AlertLabels.{is_at, all_pass, HavePlace, Tile}
 
 -- ---- Ranges of lists.
 
@@ -114,3 +115,52 @@ row_judged labels positions test a k b value placed first second within same i =
     (one_answer test i (passes test value) (slice_range labels k b) (λ l there own. ap (passes test) (same l there))
     ∙ ap (λ ps. passes test value || not (is_at ps i))
     (range_map (λ (l : AlertLabel). l.alert) labels k b ∙ ap (λ ps. slice_range ps k b) placed)))
+
+-- ---- Rows that tile a range.
+
+-- the row at a position that the code reads
+pub row_at : (labels : List AlertLabel) (start end : ℕ) (rows items : List Row) (i : ℕ) (d : Row)
+    → items ≡ rows → Tile labels start end (drop i rows) → i < length items
+    → Tile labels start end (get_or items i d ∷ drop (i + 1) rows)
+row_at labels start end rows items i d same tile lt =
+    subst (λ (xs : List Row). Tile labels start end (get_or xs i d ∷ drop (i + 1) rows)) (sym same)
+    (subst (Tile labels start end) (drop_more rows i d (omega (arith, lt, ap length same))) tile)
+
+-- one more row
+pub row_behind : (labels : List AlertLabel) (start k : ℕ) (rows : List Row) (row : Row)
+    → Tile labels start k rows → k < row.end → HavePlace labels k row.end row.place
+    → Tile labels start row.end (rows ++ row ∷ [])
+row_behind labels start k [] row tile more have = (
+  omega (arith, more, tile),
+  omega arith,
+  λ j l le lt at. have j l (omega (arith, le, tile)) lt at,
+  refl,
+)
+row_behind labels start k (first ∷ rows) row tile more have = (
+  tile.0,
+  omega (arith, tile.1, more),
+  tile.2,
+  row_behind labels first.end k rows row tile.3 more have,
+)
+
+-- one more label of a row
+pub label_behind : (labels : List AlertLabel) (start k place : ℕ) (l : AlertLabel)
+    → HavePlace labels start k place → slice_get labels k ≡ Some l → l.place ≡ place
+    → HavePlace labels start (k + 1) place
+label_behind labels start k place l have here is j m le lt at = elim (cases_lt j k) [
+  | inl less ↦ have j m le less at
+  | inr more ↦
+      let same : j ≡ k = omega (arith, more, lt) in
+      ap (λ (n : AlertLabel). n.place) (same_Some m l (sym at ∙ ap (slice_get labels) same ∙ here)) ∙ is
+]
+
+-- one more label before a row
+pub label_before : (labels : List AlertLabel) (start end place : ℕ) (l : AlertLabel)
+    → slice_get labels start ≡ Some l → l.place ≡ place → HavePlace labels (start + 1) end place
+    → HavePlace labels start end place
+label_before labels start end place l here is have j m le lt at = elim (cases_lt start j) [
+  | inl less ↦ have j m (omega (arith, less)) lt at
+  | inr more ↦
+      let same : j ≡ start = omega (arith, more, le) in
+      ap (λ (n : AlertLabel). n.place) (same_Some m l (sym at ∙ ap (slice_get labels) same ∙ here)) ∙ is
+]

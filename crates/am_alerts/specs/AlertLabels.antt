@@ -1,6 +1,7 @@
 -- The labels of all alerts, as they are sorted, and tests of a label of all alerts.
-use Rattle.std.specs.Prelude.{◌≡◌, ◌==◌, ◌↔◌, ◌<◌, ◌≤◌, ℕ, List, map, length, Bool, false, not, All}
-use Rattle.std.specs.Prelude.{◌&&◌, ◌||◌, slice_get, slice_index, slice_index_or, Some}
+use Rattle.std.specs.Prelude.{◌≡◌, ◌==◌, ◌↔◌, ◌<◌, ◌≤◌, ℕ, List, [], ◌∷◌}
+use Rattle.std.specs.Prelude.{map, length, Bool, false, not, All}
+use Rattle.std.specs.Prelude.{◌&&◌, ◌||◌, slice_get, slice_index_or, Some}
 use Rattle.std.specs.Borrow.{Bor}
 use Rattle.std.specs.List.{flat_map, enumerate_from, list_any, list_all}
 use Rattle.std.specs.List.Sorted.{IsSortedByKey, IsPermutation}
@@ -9,7 +10,8 @@ use Rattle.std.specs.Ordering.{nat_cmp}
 use Rattle.std.specs.Cmp.Lexicographic.{slice_cmp}
 use Rattle.am_universe.specs.LabelSet.{LabelMap}
 use Rattle.am_alerts.specs.declared.alert_labels.AlertLabel.{AlertLabel}
-use Rattle.am_alerts.specs.declared.alert_labels.NameRange.{NameRange}
+use Rattle.am_alerts.specs.declared.alert_labels.NameRows.{NameRows}
+use Rattle.am_alerts.specs.declared.alert_labels.Row.{Row}
 use Rattle.am_alerts.specs.declared.alert_labels.SortedLabels.{SortedLabels}
 use Rattle.am_alerts.specs.declared.judge.ValueTest.{ValueTest}
 use Rattle.am_alerts.specs.Judge.{passes, text_at}
@@ -32,35 +34,37 @@ HasValue values place text = (place < length values) × (text_at values place �
 abbrev pub HasPlace : List (Bor (List ℕ)) → AlertLabel → Type 0
 HasPlace values l = HasValue values l.place l.value.now
 
--- The labels from one on, up to an end, have its place. There is such an end for each label.
-abbrev pub IsRowEnd : List AlertLabel → ℕ → ℕ → Type 0
-IsRowEnd labels k end =
-    (k < end)
-    × ((j : ℕ) (one other : AlertLabel) → k ≤ j → j < end → slice_get labels k ≡ Some one
-    → slice_get labels j ≡ Some other → other.place ≡ one.place)
+-- The labels from one position on, and before another, have a place.
+abbrev pub HavePlace : List AlertLabel → ℕ → ℕ → ℕ → Type 0
+HavePlace labels start end place =
+    (k : ℕ) (l : AlertLabel) → start ≤ k → k < end → slice_get labels k ≡ Some l
+    → l.place ≡ place
 
-abbrev pub AreRowEnds : List AlertLabel → List ℕ → Type 0
-AreRowEnds labels ends =
-    (length ends ≡ length labels)
-    × ((k : ℕ) → k < length labels → IsRowEnd labels k (slice_index ends k))
+-- Rows tile a range of labels: each begins where the one before it ends, and its labels have its
+-- place.
+abbrev pub Tile : List AlertLabel → ℕ → ℕ → List Row → Type 0
+Tile labels start end [] = start ≡ end
+Tile labels start end (row ∷ rows) =
+    (start < row.end) × (row.end ≤ end) × HavePlace labels start row.end row.place
+    × Tile labels row.end end rows
 
--- The labels with a name are those in a range of positions.
+-- The labels with a name are those in a range of positions; and rows tile this range.
 pub record IsRangeOf (labels : List AlertLabel) (name : List ℕ) (range : ℕ × ℕ) : Type 0 where
   pub ordered : (range.0 ≤ range.1) × (range.1 ≤ length labels)
   pub exactly : (k : ℕ) (l : AlertLabel) → slice_get labels k ≡ Some l
       → (l.name.now ≡ name ↔ ((range.0 ≤ k) × (k < range.1)))
 
-abbrev pub IsNameRange : List AlertLabel → NameRange → Type 0
-IsNameRange labels n = IsRangeOf labels n.name.now n.range
+pub record AreNameRows (labels : List AlertLabel) (known : NameRows) : Type 0 where
+  pub range : IsRangeOf labels known.name.now known.range
+  pub rows : Tile labels known.range.0 known.range.1 known.rows.items
 
 -- The labels are those of the alerts, sorted by their names.
 pub record AreSorted (sorted : SortedLabels) : Type 0 where
   pub all : IsPermutation (all_labels sorted.alerts.now) (map label_view sorted.labels.items)
   pub by_name : IsSortedByKey (λ l. l.name.now) (slice_cmp nat_cmp) sorted.labels.items
   pub positions : map (λ l. l.alert) sorted.labels.items ≡ sorted.positions.items
-  pub rows : AreRowEnds sorted.labels.items sorted.ends.items
   pub places : All (HasPlace sorted.values.items) sorted.labels.items
-  pub names : All (IsNameRange sorted.labels.items) sorted.names.items
+  pub names : All (AreNameRows sorted.labels.items) sorted.names.items
 
 -- A truth for each alert: that of a test; and those alerts of some that pass a test.
 abbrev pub flag : List Bool → ℕ → Bool

@@ -5,8 +5,8 @@
 //! all alerts of a row are looked at only if its value fails. A value is known by its place among
 //! all values, because there may be many matchers and alerts, and a text may be anywhere in memory.
 
-ghost use Rattle.std.specs.Prelude.{◌≡◌, ◌++◌, ◌≤◌, ◌<◌, ◌-◌, ◌↔◌, ℕ, List, length, map};
-ghost use Rattle.std.specs.Prelude.{slice_get, Some};
+ghost use Rattle.std.specs.Prelude.{◌≡◌, ◌++◌, ◌≤◌, ◌<◌, ℕ, List, length, map};
+ghost use Rattle.std.specs.Prelude.{slice_get, Some, IfSome, false};
 ghost use Rattle.std.specs.Prelude.{IfOk, slice_range};
 ghost use Rattle.std.specs.Prelude.{◌&&◌, ◌||◌, not, All, OnOk, true, replicate};
 ghost use Rattle.std.specs.List.{list_any};
@@ -20,9 +20,9 @@ ghost use Rattle.am_eval.specs.Inhibition.{have_equal};
 ghost use Rattle.am_alerts.specs.declared.alert_labels.AlertLabel.{AlertLabel};
 ghost use Rattle.am_alerts.specs.Judge.{passes, text_at, IsSound};
 ghost use Rattle.am_alerts.specs.AlertLabels.{label_view, labels_of, all_labels};
-ghost use Rattle.am_alerts.specs.AlertLabels.{HasValue, HasPlace, IsRowEnd, AreRowEnds};
+ghost use Rattle.am_alerts.specs.AlertLabels.{HasValue, HasPlace, HavePlace, Tile};
 ghost use Rattle.am_alerts.specs.AlertLabels.{is_at, all_pass};
-ghost use Rattle.am_alerts.specs.AlertLabels.{IsNameRange, IsRangeOf};
+ghost use Rattle.am_alerts.specs.AlertLabels.{IsRangeOf, AreNameRows};
 ghost use Rattle.am_alerts.specs.AlertLabels.{AreSorted, AreTruths, Keeps, flag};
 
 use crate::judge::{Judge, ValueTest, judge_for};
@@ -43,12 +43,26 @@ pub(crate) struct AlertLabel<'w> {
     pub(crate) place: usize,
 }
 
-/// Where the labels of a name are.
+/// A row of labels with one name and one value.
 #[derive(Clone, Copy, Drop)]
-pub(crate) struct NameRange<'w> {
+pub(crate) struct Row {
+    /// The position after its last label.
+    pub(crate) end: usize,
+    /// The place of the value among all values.
+    pub(crate) place: usize,
+    /// The position of the alert of its first label.
+    pub(crate) first: usize,
+}
+
+/// Where the labels of a name are.
+#[derive(Drop)]
+pub(crate) struct NameRows<'w> {
     pub(crate) name: &'w str,
     /// The positions of the first one, and of the one after the last.
     pub(crate) range: (usize, usize),
+    /// Their rows, in order. They stand close together in memory, because all of them are gone
+    /// through for each matcher of this name.
+    pub(crate) rows: Vec<Row>,
 }
 
 /// Some alerts, and their labels, sorted.
@@ -59,13 +73,11 @@ pub(crate) struct SortedLabels<'w> {
     pub(crate) labels: Vec<AlertLabel<'w>>,
     /// For each label, the position of its alert.
     pub(crate) positions: Vec<usize>,
-    /// For each label, where the row of labels with its value ends.
-    pub(crate) ends: Vec<usize>,
     /// The values of all labels, each once.
     pub(crate) values: Vec<&'w str>,
-    /// The names of all labels, in their order, each with its range. They are far fewer than the
+    /// The names of all labels, in their order, each with its rows. They are far fewer than the
     /// labels, so a name is found in few places of memory.
-    pub(crate) names: Vec<NameRange<'w>>,
+    pub(crate) names: Vec<NameRows<'w>>,
 }
 
 /// The labels of some alerts, sorted.
@@ -100,13 +112,11 @@ impl<'w> AlertLabels<'w> {
         let values = place_values(alloc, &mut labels)?;
         labels.sort_by_key(|label| label.name)?;
         let positions = positions_in(alloc, labels.as_slice())?;
-        let ends = row_ends(alloc, labels.as_slice())?;
         let names = names_in(alloc, labels.as_slice())?;
         let sorted = SortedLabels {
             alerts,
             labels,
             positions,
-            ends,
             values,
             names,
         };
@@ -208,11 +218,36 @@ fn kept(
     ensures test { OnOk result (judge.new.test ≡ judge.old.test) }
     ensures sound { OnOk result (IsSound sorted.now.values.items judge.new) }
 {
-    let range = range_in(sorted, name);
+    if let Some(known) = known_rows(sorted, name) {
+        return kept_in(alloc, sorted, known, judge, among);
+    }
+    // Then no label has it. That the names are all is not proved, so the labels are searched.
+    let found = name_rows(alloc, sorted.labels.as_slice(), name)?;
+    kept_in(alloc, sorted, &found, judge, among)
+}
+
+/// The same, by the rows of the labels of the name.
+fn kept_in(
+    alloc: Global,
+    sorted: &SortedLabels<'_>,
+    known: &NameRows<'_>,
+    judge: &mut Judge<'_>,
+    among: Vec<bool>,
+) -> Result<Vec<bool>, AllocError>
+    requires sorted { AreSorted sorted.now }
+    requires rows { AreNameRows sorted.now.labels.items known.now }
+    requires count { length among.items ≡ length sorted.now.alerts.now }
+    requires sound { IsSound sorted.now.values.items judge.old }
+    ensures kept { IfOk result (λ kept. Keeps sorted.now.alerts.now
+        (λ s. passes judge.old.test (value_of s known.now.name.now)) among.items kept.items) }
+    ensures test { OnOk result (judge.new.test ≡ judge.old.test) }
+    ensures sound { OnOk result (IsSound sorted.now.values.items judge.new) }
+{
+    let range = known.range;
     let positions = &sorted.positions[range.0..range.1];
     let absent = judge.begin();
     let mut kept = those_judged(alloc, positions, absent, among)?;
-    judge_all(sorted, range, judge, &mut kept)?;
+    judge_all(sorted, known, judge, &mut kept)?;
     Ok(kept)
 }
 
@@ -254,58 +289,67 @@ fn those_at(alloc: Global, positions: &[usize], among: &[bool]) -> Result<Vec<bo
     Ok(those)
 }
 
-/// Judges each row of labels with one value in a range, and drops the alerts of those that fail.
-/// Fails only if memory runs out.
+/// Judges each row of the labels of a name, and drops the alerts of those that fail. Fails only if
+/// memory runs out.
 fn judge_all(
     sorted: &SortedLabels<'_>,
-    range: (usize, usize),
+    known: &NameRows<'_>,
     judge: &mut Judge<'_>,
     kept: &mut [bool],
 ) -> Result<(), AllocError>
     requires sorted { AreSorted sorted.now }
-    requires range { (range.0 ≤ range.1) × (range.1 ≤ length sorted.now.labels.items) }
+    requires rows { AreNameRows sorted.now.labels.items known.now }
     requires count { length kept.old ≡ length sorted.now.alerts.now }
     requires sound { IsSound sorted.now.values.items judge.old }
     ensures count { OnOk result (length kept.new ≡ length kept.old) }
     ensures judged { OnOk result ((i : ℕ) → flag kept.new i ≡ (flag kept.old i
-        && all_pass judge.old.test (slice_range sorted.now.labels.items range.0 range.1) i)) }
+        && all_pass judge.old.test
+        (slice_range sorted.now.labels.items known.now.range.0 known.now.range.1) i)) }
     ensures test { OnOk result (judge.new.test ≡ judge.old.test) }
     ensures sound { OnOk result (IsSound sorted.now.values.items judge.new) }
 {
     let values = sorted.values.as_slice();
-    let mut start = range.0;
-    while start < range.1 {
-        let end = sorted.ends[start].min(range.1);
-        let row = &sorted.positions[start..end];
-        judge_row(row, values, &sorted.labels[start], judge, kept)?;
-        start = end;
+    let mut start = known.range.0;
+    for row in &known.rows {
+        let positions = &sorted.positions[start..row.end];
+        judge_row(positions, values, row, judge, kept)?;
+        start = row.end;
     }
     Ok(())
 }
 
-/// Drops the alerts at these positions, unless their value, which a label has, passes a test. The
-/// label is not looked at if none of them is left. Fails only if memory runs out.
+/// Drops the alerts at these positions, those of a row, unless its value passes a test. The value
+/// is not looked at if none of them is left. Fails only if memory runs out.
 fn judge_row(
     positions: &[usize],
     values: &[&str],
-    label: &AlertLabel<'_>,
+    row: &Row,
     judge: &mut Judge<'_>,
     kept: &mut [bool],
 ) -> Result<(), AllocError>
     requires positions { All (λ p. p < length kept.old) positions.now }
-    requires place { label.now.place < length values.now }
+    requires place { row.now.place < length values.now }
     requires sound { IsSound values.now judge.old }
     ensures count { OnOk result (length kept.new ≡ length kept.old) }
     ensures judged { OnOk result ((i : ℕ) → flag kept.new i ≡ (flag kept.old i
-        && (passes judge.old.test (text_at values.now label.now.place)
+        && (passes judge.old.test (text_at values.now row.now.place)
         || not (is_at positions.now i)))) }
     ensures test { OnOk result (judge.new.test ≡ judge.old.test) }
     ensures sound { OnOk result (IsSound values.now judge.new) }
 {
-    if has_any(kept, positions) && !judge.passes(values, label.place)? {
+    if may_be_left(kept, row.first, positions) && !judge.passes(values, row.place)? {
         drop_all(positions, kept);
     }
     Ok(())
+}
+
+/// Whether one of some alerts may be at one of these positions, those of a row. The positions are
+/// not read if the first alert of the row is among these alerts, as it mostly is.
+fn may_be_left(among: &[bool], first: usize, positions: &[usize]) -> bool
+    requires { All (λ p. p < length among.now) positions.now }
+    ensures none { result ≡ false → list_any (flag among.now) positions.now ≡ false }
+{
+    (first < among.len() && among[first]) || has_any(among, positions)
 }
 
 /// Whether one of some alerts is at one of these positions.
@@ -333,38 +377,52 @@ fn drop_all(positions: &[usize], kept: &mut [bool])
     }
 }
 
-/// The positions of the labels of this name: of the first one, and of the one after the last.
-fn range_in(sorted: &SortedLabels<'_>, name: &str) -> (usize, usize)
+/// The labels of this name, if it is among the names.
+fn known_rows<'a, 'w>(sorted: &'a SortedLabels<'w>, name: &str) -> Option<&'a NameRows<'w>>
     requires sorted { AreSorted sorted.now }
-    ensures range { IsRangeOf sorted.now.labels.items name.now result }
+    ensures name { IfSome result (λ known. known.now.name.now ≡ name.now) }
+    ensures rows { IfSome result (λ known. AreNameRows sorted.now.labels.items known.now) }
 {
     let at = sorted.names.partition_point(|known| known.name < name);
     if let Some(known) = sorted.names.get(at) {
         if known.name == name {
-            return known.range;
+            return Some(known);
         }
     }
-    // Then no label has it. That the names are all is not proved, so the labels are searched.
-    range_of(sorted.labels.as_slice(), name)
+    None
 }
 
-/// Returns the names of labels, each with its range. Fails only if memory runs out.
-fn names_in<'w>(alloc: Global, labels: &[AlertLabel<'w>]) -> Result<Vec<NameRange<'w>>, AllocError>
+/// Returns the names of labels, each with its rows. Fails only if memory runs out.
+fn names_in<'w>(alloc: Global, labels: &[AlertLabel<'w>]) -> Result<Vec<NameRows<'w>>, AllocError>
     requires { IsSortedByKey (λ l. l.name.now) (slice_cmp nat_cmp) labels.now }
-    ensures { IfOk result (λ names. All (IsNameRange labels.now) names.items) }
+    ensures { IfOk result (λ names. All (AreNameRows labels.now) names.items) }
 {
     let mut names = Vec::new(alloc);
     let mut start = 0;
     while start < labels.len() {
-        let name = labels[start].name;
-        let range = range_of(labels, name);
-        names.push(NameRange { name, range })?;
-        start = range.1;
+        let found = name_rows(alloc, labels, labels[start].name)?;
+        start = found.range.1;
+        names.push(found)?;
     }
     Ok(names)
 }
 
-/// The same, found among all labels.
+/// Returns where the labels of a name are. Fails only if memory runs out.
+fn name_rows<'w>(
+    alloc: Global,
+    labels: &[AlertLabel<'_>],
+    name: &'w str,
+) -> Result<NameRows<'w>, AllocError>
+    requires { IsSortedByKey (λ l. l.name.now) (slice_cmp nat_cmp) labels.now }
+    ensures name { IfOk result (λ found. found.name.now ≡ name.now) }
+    ensures rows { IfOk result (AreNameRows labels.now) }
+{
+    let range = range_of(labels, name);
+    let rows = rows_in(alloc, labels, range)?;
+    Ok(NameRows { name, range, rows })
+}
+
+/// The positions of the labels of a name: of the first one, and of the one after the last.
 fn range_of(labels: &[AlertLabel<'_>], name: &str) -> (usize, usize)
     requires { IsSortedByKey (λ l. l.name.now) (slice_cmp nat_cmp) labels.now }
     ensures range { IsRangeOf labels.now name.now result }
@@ -372,6 +430,44 @@ fn range_of(labels: &[AlertLabel<'_>], name: &str) -> (usize, usize)
     let start = labels.partition_point(|label| label.name < name);
     let end = labels.partition_point(|label| label.name <= name);
     (start, end)
+}
+
+/// Returns the rows of the labels in a range. Fails only if memory runs out.
+fn rows_in(
+    alloc: Global,
+    labels: &[AlertLabel<'_>],
+    range: (usize, usize),
+) -> Result<Vec<Row>, AllocError>
+    requires range { (range.0 ≤ range.1) × (range.1 ≤ length labels.now) }
+    ensures rows { IfOk result (λ rows. Tile labels.now range.0 range.1 rows.items) }
+{
+    let mut rows = Vec::new(alloc);
+    let mut start = range.0;
+    while start < range.1 {
+        let label = labels[start];
+        let end = row_end(labels, label.place, start + 1, range.1);
+        rows.push(Row {
+            end,
+            place: label.place,
+            first: label.alert,
+        })?;
+        start = end;
+    }
+    Ok(rows)
+}
+
+/// Where the labels with a place end, of those from one position on and before another.
+fn row_end(labels: &[AlertLabel<'_>], place: usize, start: usize, limit: usize) -> usize
+    requires range { (start ≤ limit) × (limit ≤ length labels.now) }
+    ensures within { (start ≤ result) × (result ≤ limit) }
+    ensures places { HavePlace labels.now start result place }
+{
+    for k in start..limit {
+        if labels[k].place != place {
+            return k;
+        }
+    }
+    limit
 }
 
 /// Returns the labels of some alerts, alert by alert.
@@ -444,31 +540,4 @@ fn positions_in(alloc: Global, labels: &[AlertLabel<'_>]) -> Result<Vec<usize>, 
         positions.push(label.alert)?;
     }
     Ok(positions)
-}
-
-/// Returns for each label where the row of labels with its value ends. Fails only if memory runs
-/// out.
-fn row_ends(alloc: Global, labels: &[AlertLabel<'_>]) -> Result<Vec<usize>, AllocError>
-    ensures { IfOk result (λ ends. AreRowEnds labels.now ends.items) }
-{
-    let count = labels.len();
-    let mut ends = vec![in alloc; count; count]?;
-    for before in (1..count).rev() {
-        ends[before - 1] = end_before(labels, before, ends[before]);
-    }
-    Ok(ends)
-}
-
-/// Where the row of labels ends that has the label before a position, if the row from there on ends
-/// at this end.
-fn end_before(labels: &[AlertLabel<'_>], position: usize, end: usize) -> usize
-    requires within { (0 < position) × (position < length labels.now) }
-    requires row { IsRowEnd labels.now position end }
-    ensures row { IsRowEnd labels.now (position - 1) result }
-{
-    if labels[position - 1].place == labels[position].place {
-        end
-    } else {
-        position
-    }
 }

@@ -5,12 +5,12 @@ use Rattle.std.specs.Cmp.Lexicographic.{slice_cmp}
 use Rattle.std.specs.List.Sorted.{IsPermutation, IsSortedByKey}
 use Rattle.std.proofs.Common.{rules}
 use Rattle.am_alerts.specs.declared.alert_labels.AlertLabel.{AlertLabel}
-use Rattle.am_alerts.specs.AlertLabels.{label_view, all_labels, AreRowEnds, HasPlace, IsNameRange}
+use Rattle.am_alerts.specs.AlertLabels.{label_view, all_labels, HasPlace, AreNameRows}
 use Rattle.am_alerts.proofs.alert_labels.AlertLabels.of.Goals as goal
 
 pub names_in-requires : goal.names_in-requires
 names_in-requires c =
-    subst (IsSortedByKey (λ (l : AlertLabel). l.name.now) (slice_cmp nat_cmp)) (sym c.as_slice-3.ensures.value)
+    subst (IsSortedByKey (λ (l : AlertLabel). l.name.now) (slice_cmp nat_cmp)) (sym c.as_slice-2.ensures.value)
     (c.in_ok-sort_by_key.ensures.sorted (λ l. l.name)
     (answers_always _ _ _ (λ f a r g h. search rules)))
 
@@ -28,9 +28,7 @@ invariant_of-result c =
       by_name = c.in_ok-sort_by_key.ensures.sorted (λ l. l.name)
           (answers_always _ _ _ (λ f a r g h. search rules));
       positions = ap (map (λ (l : AlertLabel). l.alert)) (sym c.as_slice.ensures.value) ∙ c.in_ok-positions.ensures;
-      rows = subst (λ labels. AreRowEnds labels c.in_ok-ends.ends.items)
-          c.as_slice-2.ensures.value c.in_ok-ends.ensures;
       places = All-permutation (HasPlace values) _ _ by_name placed.placed;
-      names = subst (λ labels. All (IsNameRange labels) c.in_ok-names.names.items)
-          c.as_slice-3.ensures.value c.in_ok-names.ensures;
+      names = subst (λ labels. All (AreNameRows labels) c.in_ok-names.names.items)
+          c.as_slice-2.ensures.value c.in_ok-names.ensures;
     }
