@@ -62,6 +62,7 @@ blank = record {
   name = record { ref_ptr = (0, 0); now = [] };
   value = record { ref_ptr = (0, 0); now = [] };
   alert = 0;
+  name_place = 0;
   place = 0;
 }
 

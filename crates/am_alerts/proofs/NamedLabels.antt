@@ -93,7 +93,7 @@ filter_in p (y ∷ ys) x there = elim (cases_Bool (p y)) [
       let r = filter_in p ys x (subst (λ zs. IsIn zs x) (cond-false (p y) _ _ none) there) in (inr r.0, r.1)
 ]
 
-any_in : {X : Type 0} (p : X → Bool) (xs : List X) (x : X) → IsIn xs x → p x ≡ true → list_any p xs ≡ true
+pub any_in : {X : Type 0} (p : X → Bool) (xs : List X) (x : X) → IsIn xs x → p x ≡ true → list_any p xs ≡ true
 any_in p [] x there holds = absurd there
 any_in p (y ∷ ys) x (inl same) holds = or_left (p y) _ (ap p same ∙ holds)
 any_in p (y ∷ ys) x (inr later) holds = or_right (p y) _ (any_in p ys x later holds)

@@ -1,13 +1,11 @@
 -- The labels of all alerts, as they are sorted, and tests of a label of all alerts.
-use Rattle.std.specs.Prelude.{◌≡◌, ◌==◌, ◌↔◌, ◌<◌, ◌≤◌, ℕ, List, [], ◌∷◌}
+use Rattle.std.specs.Prelude.{◌≡◌, ◌≢◌, ◌==◌, ◌↔◌, ◌<◌, ◌≤◌, ℕ, List, [], ◌∷◌}
 use Rattle.std.specs.Prelude.{map, length, Bool, false, not, All}
 use Rattle.std.specs.Prelude.{◌&&◌, ◌||◌, slice_get, slice_index_or, Some}
 use Rattle.std.specs.Borrow.{Bor}
 use Rattle.std.specs.List.{flat_map, enumerate_from, list_any, list_all}
-use Rattle.std.specs.List.Sorted.{IsSortedByKey, IsPermutation}
+use Rattle.std.specs.List.Sorted.{IsPermutation}
 use Rattle.std.specs.FinMap.{entries}
-use Rattle.std.specs.Ordering.{nat_cmp}
-use Rattle.std.specs.Cmp.Lexicographic.{slice_cmp}
 use Rattle.am_universe.specs.LabelSet.{LabelMap}
 use Rattle.am_alerts.specs.declared.alert_labels.AlertLabel.{AlertLabel}
 use Rattle.am_alerts.specs.declared.alert_labels.NameRows.{NameRows}
@@ -27,12 +25,20 @@ labels_of alert = map (λ e. (alert.0, e)) (entries alert.1)
 abbrev pub all_labels : List LabelMap → List (ℕ × (List ℕ × List ℕ))
 all_labels alerts = flat_map labels_of (enumerate_from 0 alerts)
 
--- A text is at a place among some values; and a label has the place of its value.
+-- A text is at a place among some texts; and a label has the places of its name and of its value.
 abbrev pub HasValue : List (Bor (List ℕ)) → ℕ → List ℕ → Type 0
-HasValue values place text = (place < length values) × (text_at values place ≡ text)
+HasValue texts place text = (place < length texts) × (text_at texts place ≡ text)
+
+abbrev pub HasNamePlace : List (Bor (List ℕ)) → AlertLabel → Type 0
+HasNamePlace names l = HasValue names l.name_place l.name.now
 
 abbrev pub HasPlace : List (Bor (List ℕ)) → AlertLabel → Type 0
 HasPlace values l = HasValue values l.place l.value.now
+
+-- No text is there twice.
+abbrev pub AreDistinct : List (Bor (List ℕ)) → Type 0
+AreDistinct texts =
+    (i j : ℕ) → i < j → j < length texts → text_at texts i ≢ text_at texts j
 
 -- The labels from one position on, and before another, have a place.
 abbrev pub HavePlace : List AlertLabel → ℕ → ℕ → ℕ → Type 0
@@ -58,13 +64,15 @@ pub record AreNameRows (labels : List AlertLabel) (known : NameRows) : Type 0 wh
   pub range : IsRangeOf labels known.name.now known.range
   pub rows : Tile labels known.range.0 known.range.1 known.rows.items
 
--- The labels are those of the alerts, sorted by their names.
+-- The labels are those of the alerts, and each name that a label has has its rows.
 pub record AreSorted (sorted : SortedLabels) : Type 0 where
   pub all : IsPermutation (all_labels sorted.alerts.now) (map label_view sorted.labels.items)
-  pub by_name : IsSortedByKey (λ l. l.name.now) (slice_cmp nat_cmp) sorted.labels.items
   pub positions : map (λ l. l.alert) sorted.labels.items ≡ sorted.positions.items
-  pub places : All (HasPlace sorted.values.items) sorted.labels.items
-  pub names : All (AreNameRows sorted.labels.items) sorted.names.items
+  pub name_places : All (HasNamePlace sorted.names.keys) sorted.labels.items
+  pub places : All (HasPlace sorted.values.keys) sorted.labels.items
+  pub names : map (λ known. known.name.now) sorted.rows.items
+      ≡ map (λ name. name.now) sorted.names.keys
+  pub rows : All (AreNameRows sorted.labels.items) sorted.rows.items
 
 -- A truth for each alert: that of a test; and those alerts of some that pass a test.
 abbrev pub flag : List Bool → ℕ → Bool

@@ -2,17 +2,16 @@
 //!
 //! To test a pattern on a text takes far longer than to look at an alert, and most alerts share the
 //! values of a label with others. So the labels with one name and one value stand in a row, and
-//! all alerts of a row are looked at only if its value fails. A value is known by its place among
-//! all values, because there may be many matchers and alerts, and a text may be anywhere in memory.
+//! all alerts of a row are looked at only if its value fails. A name or a value is known by its
+//! place among all of them, because there may be many matchers and alerts, and a text may be
+//! anywhere in memory.
 
 ghost use Rattle.std.specs.Prelude.{◌≡◌, ◌++◌, ◌≤◌, ◌<◌, ℕ, List, length, map};
-ghost use Rattle.std.specs.Prelude.{slice_get, Some, IfSome, false};
+ghost use Rattle.std.specs.Prelude.{slice_get, Some, IfSome, IfNone, false};
 ghost use Rattle.std.specs.Prelude.{IfOk, slice_range};
 ghost use Rattle.std.specs.Prelude.{◌&&◌, ◌||◌, not, All, OnOk, true, replicate};
 ghost use Rattle.std.specs.List.{list_any};
-ghost use Rattle.std.specs.Ordering.{nat_cmp};
-ghost use Rattle.std.specs.Cmp.Lexicographic.{slice_cmp};
-ghost use Rattle.std.specs.List.Sorted.{IsSortedByKey};
+ghost use Rattle.std.specs.List.Sorted.{IsNonDecreasingBy};
 ghost use Rattle.am_universe.specs.LabelSet.{LabelMap, value_of};
 ghost use Rattle.am_labels.specs.Matcher.{all_hold};
 ghost use Rattle.am_config.specs.RouteView.{names_of};
@@ -20,7 +19,8 @@ ghost use Rattle.am_eval.specs.Inhibition.{have_equal};
 ghost use Rattle.am_alerts.specs.declared.alert_labels.AlertLabel.{AlertLabel};
 ghost use Rattle.am_alerts.specs.Judge.{passes, text_at, IsSound};
 ghost use Rattle.am_alerts.specs.AlertLabels.{label_view, labels_of, all_labels};
-ghost use Rattle.am_alerts.specs.AlertLabels.{HasValue, HasPlace, HavePlace, Tile};
+ghost use Rattle.am_alerts.specs.AlertLabels.{HasValue, HasPlace, HasNamePlace};
+ghost use Rattle.am_alerts.specs.AlertLabels.{AreDistinct, HavePlace, Tile};
 ghost use Rattle.am_alerts.specs.AlertLabels.{is_at, all_pass};
 ghost use Rattle.am_alerts.specs.AlertLabels.{IsRangeOf, AreNameRows};
 ghost use Rattle.am_alerts.specs.AlertLabels.{AreSorted, AreTruths, Keeps, flag};
@@ -29,6 +29,7 @@ use crate::judge::{Judge, ValueTest, judge_for};
 use am_labels::Matchers;
 use am_list_files::Alerts;
 use am_universe::LabelSet;
+use indexmap::IndexSet;
 use std::alloc::{AllocError, Global};
 use std::marker::Model;
 
@@ -39,6 +40,8 @@ pub(crate) struct AlertLabel<'w> {
     pub(crate) value: &'w str,
     /// The position of the alert.
     pub(crate) alert: usize,
+    /// The place of the name among all names.
+    pub(crate) name_place: usize,
     /// The place of the value among all values.
     pub(crate) place: usize,
 }
@@ -69,15 +72,15 @@ pub(crate) struct NameRows<'w> {
 #[derive(Drop)]
 pub(crate) struct SortedLabels<'w> {
     pub(crate) alerts: &'w Alerts,
-    /// By name, and those of a name by value.
+    /// By the places of their names, and those of a name by the places of their values.
     pub(crate) labels: Vec<AlertLabel<'w>>,
     /// For each label, the position of its alert.
     pub(crate) positions: Vec<usize>,
-    /// The values of all labels, each once.
-    pub(crate) values: Vec<&'w str>,
-    /// The names of all labels, in their order, each with its rows. They are far fewer than the
-    /// labels, so a name is found in few places of memory.
-    pub(crate) names: Vec<NameRows<'w>>,
+    /// The names of all labels, and the values, each once.
+    pub(crate) names: IndexSet<&'w str>,
+    pub(crate) values: IndexSet<&'w str>,
+    /// For each name, its rows.
+    pub(crate) rows: Vec<NameRows<'w>>,
 }
 
 /// The labels of some alerts, sorted.
@@ -107,18 +110,20 @@ impl<'w> AlertLabels<'w> {
     pub(crate) fn of(alloc: Global, alerts: &'w Alerts) -> Result<AlertLabels<'w>, AllocError>
         ensures alerts { IfOk result (λ labels. labels ≡ alerts.now) }
     {
-        let mut labels = labels_of(alloc, alerts)?;
-        labels.sort_unstable_by_key(|label| label.value);
-        let values = place_values(alloc, &mut labels)?;
-        labels.sort_by_key(|label| label.name)?;
+        let mut names = IndexSet::new(alloc);
+        let mut values = IndexSet::new(alloc);
+        let mut labels = labels_of(alloc, alerts, &mut names, &mut values)?;
+        labels.sort_unstable_by_key(|label| label.place);
+        labels.sort_by_key(|label| label.name_place)?;
         let positions = positions_in(alloc, labels.as_slice())?;
-        let names = names_in(alloc, labels.as_slice())?;
+        let rows = all_rows(alloc, names.as_slice(), labels.as_slice())?;
         let sorted = SortedLabels {
             alerts,
             labels,
             positions,
-            values,
             names,
+            values,
+            rows,
         };
         Ok(AlertLabels { sorted })
     }
@@ -212,18 +217,23 @@ fn kept(
 ) -> Result<Vec<bool>, AllocError>
     requires sorted { AreSorted sorted.now }
     requires count { length among.items ≡ length sorted.now.alerts.now }
-    requires sound { IsSound sorted.now.values.items judge.old }
+    requires sound { IsSound sorted.now.values.keys judge.old }
     ensures kept { IfOk result (λ kept. Keeps sorted.now.alerts.now
         (λ s. passes judge.old.test (value_of s name.now)) among.items kept.items) }
     ensures test { OnOk result (judge.new.test ≡ judge.old.test) }
-    ensures sound { OnOk result (IsSound sorted.now.values.items judge.new) }
+    ensures sound { OnOk result (IsSound sorted.now.values.keys judge.new) }
 {
-    if let Some(known) = known_rows(sorted, name) {
-        return kept_in(alloc, sorted, known, judge, among);
+    match known_rows(sorted, name) {
+        Some(known) => kept_in(alloc, sorted, known, judge, among),
+        None => {
+            let none = NameRows {
+                name,
+                range: (0, 0),
+                rows: Vec::new(alloc),
+            };
+            kept_in(alloc, sorted, &none, judge, among)
+        }
     }
-    // Then no label has it. That the names are all is not proved, so the labels are searched.
-    let found = name_rows(alloc, sorted.labels.as_slice(), name)?;
-    kept_in(alloc, sorted, &found, judge, among)
 }
 
 /// The same, by the rows of the labels of the name.
@@ -237,11 +247,11 @@ fn kept_in(
     requires sorted { AreSorted sorted.now }
     requires rows { AreNameRows sorted.now.labels.items known.now }
     requires count { length among.items ≡ length sorted.now.alerts.now }
-    requires sound { IsSound sorted.now.values.items judge.old }
+    requires sound { IsSound sorted.now.values.keys judge.old }
     ensures kept { IfOk result (λ kept. Keeps sorted.now.alerts.now
         (λ s. passes judge.old.test (value_of s known.now.name.now)) among.items kept.items) }
     ensures test { OnOk result (judge.new.test ≡ judge.old.test) }
-    ensures sound { OnOk result (IsSound sorted.now.values.items judge.new) }
+    ensures sound { OnOk result (IsSound sorted.now.values.keys judge.new) }
 {
     let range = known.range;
     let positions = &sorted.positions[range.0..range.1];
@@ -300,13 +310,13 @@ fn judge_all(
     requires sorted { AreSorted sorted.now }
     requires rows { AreNameRows sorted.now.labels.items known.now }
     requires count { length kept.old ≡ length sorted.now.alerts.now }
-    requires sound { IsSound sorted.now.values.items judge.old }
+    requires sound { IsSound sorted.now.values.keys judge.old }
     ensures count { OnOk result (length kept.new ≡ length kept.old) }
     ensures judged { OnOk result ((i : ℕ) → flag kept.new i ≡ (flag kept.old i
         && all_pass judge.old.test
         (slice_range sorted.now.labels.items known.now.range.0 known.now.range.1) i)) }
     ensures test { OnOk result (judge.new.test ≡ judge.old.test) }
-    ensures sound { OnOk result (IsSound sorted.now.values.items judge.new) }
+    ensures sound { OnOk result (IsSound sorted.now.values.keys judge.new) }
 {
     let values = sorted.values.as_slice();
     let mut start = known.range.0;
@@ -377,58 +387,55 @@ fn drop_all(positions: &[usize], kept: &mut [bool])
     }
 }
 
-/// The labels of this name, if it is among the names.
+/// The rows of this name, unless no label has it.
 fn known_rows<'a, 'w>(sorted: &'a SortedLabels<'w>, name: &str) -> Option<&'a NameRows<'w>>
     requires sorted { AreSorted sorted.now }
     ensures name { IfSome result (λ known. known.now.name.now ≡ name.now) }
     ensures rows { IfSome result (λ known. AreNameRows sorted.now.labels.items known.now) }
+    ensures none { IfNone result (IsRangeOf sorted.now.labels.items name.now (0, 0)) }
 {
-    let at = sorted.names.partition_point(|known| known.name < name);
-    if let Some(known) = sorted.names.get(at) {
-        if known.name == name {
-            return Some(known);
-        }
+    match sorted.names.get_index_of(name) {
+        Some(place) => Some(&sorted.rows[place]),
+        None => None,
     }
-    None
 }
 
-/// Returns the names of labels, each with its rows. Fails only if memory runs out.
-fn names_in<'w>(alloc: Global, labels: &[AlertLabel<'w>]) -> Result<Vec<NameRows<'w>>, AllocError>
-    requires { IsSortedByKey (λ l. l.name.now) (slice_cmp nat_cmp) labels.now }
-    ensures { IfOk result (λ names. All (AreNameRows labels.now) names.items) }
-{
-    let mut names = Vec::new(alloc);
-    let mut start = 0;
-    while start < labels.len() {
-        let found = name_rows(alloc, labels, labels[start].name)?;
-        start = found.range.1;
-        names.push(found)?;
-    }
-    Ok(names)
-}
-
-/// Returns where the labels of a name are. Fails only if memory runs out.
-fn name_rows<'w>(
+/// Returns the rows of each name, from all labels. Fails only if memory runs out.
+fn all_rows<'w>(
     alloc: Global,
-    labels: &[AlertLabel<'_>],
-    name: &'w str,
-) -> Result<NameRows<'w>, AllocError>
-    requires { IsSortedByKey (λ l. l.name.now) (slice_cmp nat_cmp) labels.now }
-    ensures name { IfOk result (λ found. found.name.now ≡ name.now) }
-    ensures rows { IfOk result (AreNameRows labels.now) }
+    names: &[&'w str],
+    labels: &[AlertLabel<'w>],
+) -> Result<Vec<NameRows<'w>>, AllocError>
+    requires sorted { IsNonDecreasingBy (λ l. l.name_place) labels.now }
+    requires placed { All (HasNamePlace names.now) labels.now }
+    requires distinct { AreDistinct names.now }
+    ensures names { IfOk result (λ rows.
+        map (λ known. known.name.now) rows.items ≡ map (λ name. name.now) names.now) }
+    ensures rows { IfOk result (λ rows. All (AreNameRows labels.now) rows.items) }
 {
-    let range = range_of(labels, name);
-    let rows = rows_in(alloc, labels, range)?;
-    Ok(NameRows { name, range, rows })
+    let mut rows = Vec::with_capacity(alloc, names.len())?;
+    for (place, name) in names.iter().enumerate() {
+        let range = range_of(names, labels, place);
+        rows.push(NameRows {
+            name: *name,
+            range,
+            rows: rows_in(alloc, labels, range)?,
+        })?;
+    }
+    Ok(rows)
 }
 
-/// The positions of the labels of a name: of the first one, and of the one after the last.
-fn range_of(labels: &[AlertLabel<'_>], name: &str) -> (usize, usize)
-    requires { IsSortedByKey (λ l. l.name.now) (slice_cmp nat_cmp) labels.now }
-    ensures range { IsRangeOf labels.now name.now result }
+/// The positions of the labels of the name at a place: of the first one, and of the one after the
+/// last.
+fn range_of(names: &[&str], labels: &[AlertLabel<'_>], place: usize) -> (usize, usize)
+    requires sorted { IsNonDecreasingBy (λ l. l.name_place) labels.now }
+    requires placed { All (HasNamePlace names.now) labels.now }
+    requires distinct { AreDistinct names.now }
+    requires place { place < length names.now }
+    ensures range { IsRangeOf labels.now (text_at names.now place) result }
 {
-    let start = labels.partition_point(|label| label.name < name);
-    let end = labels.partition_point(|label| label.name <= name);
+    let start = labels.partition_point(|label| label.name_place < place);
+    let end = labels.partition_point(|label| label.name_place <= place);
     (start, end)
 }
 
@@ -470,13 +477,21 @@ fn row_end(labels: &[AlertLabel<'_>], place: usize, start: usize, limit: usize) 
     limit
 }
 
-/// Returns the labels of some alerts, alert by alert.
-fn labels_of<'w>(alloc: Global, alerts: &'w Alerts) -> Result<Vec<AlertLabel<'w>>, AllocError>
-    ensures { IfOk result (λ labels. map label_view labels.items ≡ all_labels alerts.now) }
+/// Returns the labels of some alerts, alert by alert, and adds their names and values to those that
+/// are known. Fails only if memory runs out.
+fn labels_of<'w>(
+    alloc: Global,
+    alerts: &'w Alerts,
+    names: &mut IndexSet<&'w str>,
+    values: &mut IndexSet<&'w str>,
+) -> Result<Vec<AlertLabel<'w>>, AllocError>
+    ensures labels { IfOk result (λ labels. map label_view labels.items ≡ all_labels alerts.now) }
+    ensures names { IfOk result (λ labels. All (HasNamePlace names.new.keys) labels.items) }
+    ensures values { IfOk result (λ labels. All (HasPlace values.new.keys) labels.items) }
 {
     let mut labels = Vec::new(alloc);
     for alert in 0..alerts.len() {
-        add_labels(alert, alerts.get(alert), &mut labels)?;
+        add_labels(alert, alerts.get(alert), names, values, &mut labels)?;
     }
     Ok(labels)
 }
@@ -485,50 +500,42 @@ fn labels_of<'w>(alloc: Global, alerts: &'w Alerts) -> Result<Vec<AlertLabel<'w>
 fn add_labels<'w>(
     alert: usize,
     set: &'w LabelSet,
+    names: &mut IndexSet<&'w str>,
+    values: &mut IndexSet<&'w str>,
     labels: &mut Vec<AlertLabel<'w>>,
 ) -> Result<(), AllocError>
-    ensures { OnOk result (map label_view labels.new.items
+    requires names { All (HasNamePlace names.old.keys) labels.old.items }
+    requires values { All (HasPlace values.old.keys) labels.old.items }
+    ensures labels { OnOk result (map label_view labels.new.items
         ≡ map label_view labels.old.items ++ labels_of (alert, set.now)) }
+    ensures names { OnOk result (All (HasNamePlace names.new.keys) labels.new.items) }
+    ensures values { OnOk result (All (HasPlace values.new.keys) labels.new.items) }
 {
     for (name, value) in set.values() {
+        let name = name.as_str();
+        let value = value.as_str();
+        let name_place = place_of(name, names)?;
+        let place = place_of(value, values)?;
         labels.push(AlertLabel {
-            name: name.as_str(),
-            value: value.as_str(),
+            name,
+            value,
             alert,
-            place: 0,
+            name_place,
+            place,
         })?;
     }
     Ok(())
 }
 
-/// Gives each label the place of its value, and returns the values, each once if the labels are
-/// sorted by their values. Fails only if memory runs out.
-fn place_values<'w>(
-    alloc: Global,
-    labels: &mut Vec<AlertLabel<'w>>,
-) -> Result<Vec<&'w str>, AllocError>
-    ensures same { OnOk result (map label_view labels.new.items ≡ map label_view labels.old.items) }
-    ensures placed { IfOk result (λ values. All (HasPlace values.items) labels.new.items) }
+/// Returns the place of a text among texts, and adds it unless it is there. Fails only if memory
+/// runs out.
+fn place_of<'w>(text: &'w str, texts: &mut IndexSet<&'w str>) -> Result<usize, AllocError>
+    ensures grows { OnOk result ((k : ℕ) (other : List ℕ) → HasValue texts.old.keys k other
+        → HasValue texts.new.keys k other) }
+    ensures place { IfOk result (λ place. HasValue texts.new.keys place text.now) }
 {
-    let mut values = Vec::new(alloc);
-    for k in 0..labels.len() {
-        labels[k].place = place_of(labels[k].value, &mut values)?;
-    }
-    Ok(values)
-}
-
-/// Returns the place of a value, and adds the value unless it is the last one.
-fn place_of<'w>(value: &'w str, values: &mut Vec<&'w str>) -> Result<usize, AllocError>
-    ensures grows { (k : ℕ) (text : List ℕ) → HasValue values.old.items k text
-        → HasValue values.new.items k text }
-    ensures place { IfOk result (λ place. HasValue values.new.items place value.now) }
-{
-    let count = values.len();
-    if count > 0 && values[count - 1] == value {
-        return Ok(count - 1);
-    }
-    values.push(value)?;
-    Ok(count)
+    let (place, _) = texts.insert_full(text)?;
+    Ok(place)
 }
 
 /// Returns for each label the position of its alert.

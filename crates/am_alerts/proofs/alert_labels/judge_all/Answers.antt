@@ -15,10 +15,10 @@ blank_row = record { end = 0; place = 0; first = 0 }
 
 -- each label has its place
 placed_at : (sorted : SortedLabels) → AreSorted sorted → (k : ℕ) (l : AlertLabel)
-    → slice_get sorted.labels.items k ≡ Some l → HasPlace sorted.values.items l
+    → slice_get sorted.labels.items k ≡ Some l → HasPlace sorted.values.keys l
 placed_at sorted are k l at =
     let labels = sorted.labels.items in
-    subst (HasPlace sorted.values.items) (get_or_from_slice_get labels k l l at)
+    subst (HasPlace sorted.values.keys) (get_or_from_slice_get labels k l l at)
     (are.places k l (slice_get_within labels k l at))
 
 pub judge_row-requires-clause-positions : goal.judge_row-requires-clause-positions
@@ -49,7 +49,7 @@ judge_row-requires-clause-place c =
       arith,
       there,
       tile.2 k l (omega arith) tile.0 here,
-      ap length c.as_slice-values.ensures.value,
+      ap length c.as_slice-values.ensures.keys,
     )
 
 pub loop-row-preserved : goal.loop-row-preserved
@@ -87,6 +87,6 @@ loop-row-preserved c =
           (λ m there.
           let r = in_range labels k b m within there in
           sym (placed_at sorted c.requires.sorted r.0 m r.3).1
-          ∙ ap (text_at sorted.values.items) (tile.2 r.0 m r.1 r.2 r.3)
-          ∙ ap (λ vs. text_at vs row.place) (sym c.as_slice-values.ensures.value)) i);
+          ∙ ap (text_at sorted.values.keys) (tile.2 r.0 m r.1 r.2 r.3)
+          ∙ ap (λ vs. text_at vs row.place) (sym c.as_slice-values.ensures.keys)) i);
     }

@@ -33,7 +33,7 @@ those_judged-requires-clause-each c =
 
 pub judge_all-requires-clause-sound : goal.judge_all-requires-clause-sound
 judge_all-requires-clause-sound c =
-    c.begin-absent.ensures.sound c.args.sorted.now.values.items c.requires.sound
+    c.begin-absent.ensures.sound c.args.sorted.now.values.keys c.requires.sound
 
 pub returns-clause-kept : goal.returns-clause-kept
 returns-clause-kept c =

@@ -1,47 +1,43 @@
-use Rattle.std.proofs.Common.{◌≡◌, ◌<◌, ◌-◌, ◌++◌, ◌∷◌, [], ℕ, List, length, refl, sym, ap, ◌∙◌, subst, arith}
+use Rattle.std.proofs.Common.{◌≡◌, ◌++◌, ◌∷◌, [], ℕ, List, Bool, true, false, if◌then◌else◌, sym, ap, ◌∙◌, subst, arith}
 use Rattle.std.specs.Borrow.{Bor}
-use Rattle.std.specs.Cmp.Lexicographic.{same_text}
-use Rattle.std.proofs.lemmas.List.{length_push, get_or_push, get_or_append_left, get_or_read}
+use Rattle.std.specs.List.{list_any}
+use Rattle.std.proofs.lemmas.List.{length_push, get_or_append_left}
+use Rattle.std.proofs.lemmas.Option.{slice_get_within, get_or_from_slice_get}
+use Rattle.std.specs.Prelude.{bytes_eq}
+use Rattle.std.proofs.lemmas.Slice.Eq.{bytes_eq-Decides}
+use Rattle.indexmap.specs.IndexSet.{insert_key}
 use Rattle.am_alerts.specs.AlertLabels.{HasValue}
 use Rattle.am_alerts.proofs.alert_labels.place_of.Goals as goal
 
 abbrev blank : Bor (List ℕ)
 blank = record { ref_ptr = (0, 0); now = [] }
 
-still : (values : List (Bor (List ℕ))) (value : Bor (List ℕ)) (k : ℕ) (text : List ℕ)
-    → HasValue values k text → HasValue (values ++ value ∷ []) k text
-still values value k text there = (
-  omega (arith, length_push values value, there.0),
-  ap (λ (b : Bor (List ℕ)). b.now) (get_or_append_left values (value ∷ []) blank k there.0) ∙ there.1,
+still : (texts : List (Bor (List ℕ))) (text : Bor (List ℕ)) (k : ℕ) (other : List ℕ)
+    → HasValue texts k other → HasValue (texts ++ text ∷ []) k other
+still texts text k other there = (
+  omega (arith, length_push texts text, there.0),
+  ap (λ (b : Bor (List ℕ)). b.now) (get_or_append_left texts (text ∷ []) blank k there.0) ∙ there.1,
 )
 
-last : (values : List (Bor (List ℕ))) (value : Bor (List ℕ))
-    → HasValue (values ++ value ∷ []) (length values) value.now
-last values value = (
-  omega (arith, length_push values value),
-  ap (λ (b : Bor (List ℕ)). b.now) (get_or_push values value blank (length values) refl),
-)
+-- a text that is inserted leaves each text in its place
+grows : (eq : Bor (List ℕ) → Bor (List ℕ) → Bool) (old new : List (Bor (List ℕ))) (text : Bor (List ℕ))
+    → new ≡ insert_key eq old text → (k : ℕ) (other : List ℕ) → HasValue old k other → HasValue new k other
+grows eq old new text is k other there =
+    subst (λ texts. HasValue texts k other) (sym is) (by (list_any (eq text) old))
+  where
+    by : (b : Bool) → HasValue (if b then old else old ++ text ∷ []) k other
+    by true = there
+    by false = still old text k other there
 
-pub returns-then-eq-clause-place : goal.returns-then-eq-clause-place
-returns-then-eq-clause-place c =
-    let values = c.args.values.now.items in
-    let at = c.len-count.result - 1 in
-    let within : at < length values =
-    omega (arith, c.if-count-gt0.true, c.len-count.ensures, c.args.values.now.ok.0) in (
-      within,
-      ap (λ (b : Bor (List ℕ)). b.now) (sym (get_or_read values at c.index.result.now within c.index.ensures blank))
-          ∙ same_text _ _ c.if-eq.ensures,
-    )
-
-pub returns-clause-grows : goal.returns-clause-grows
-returns-clause-grows c = λ k text there.
-    subst (λ vs. HasValue vs k text) (sym c.in_ok-push.ensures.items)
-    (still c.args.values.now.items c.args.value k text there)
-
-pub returns-clause-place : goal.returns-clause-place
-returns-clause-place c =
-    let count : c.len-count.result ≡ length c.args.values.now.items =
-    omega (arith, c.len-count.ensures, c.args.values.now.ok.0) in
-    subst (λ vs. HasValue vs c.len-count.result c.args.value.now) (sym c.in_ok-push.ensures.items)
-    (subst (λ k. HasValue (c.args.values.now.items ++ c.args.value ∷ []) k c.args.value.now) (sym count)
-    (last c.args.values.now.items c.args.value))
+pub returns : goal.returns
+returns c =
+    let new = c.insert_full.new.self.keys in
+    let stored = c.in_ok-place.ensures.stored in
+    record {
+      grows = grows (λ x y. bytes_eq x.now y.now) c.args.texts.now.keys new c.args.text c.in_ok-place.ensures.keys;
+      place = (
+        slice_get_within new c.in_ok-place.place stored.0 stored.1,
+        ap (λ (b : Bor (List ℕ)). b.now) (get_or_from_slice_get new c.in_ok-place.place stored.0 blank stored.1)
+            ∙ sym ((bytes_eq-Decides c.args.text.now stored.0.now).0 stored.2),
+      );
+    }

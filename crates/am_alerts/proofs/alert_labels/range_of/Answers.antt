@@ -1,86 +1,83 @@
-use Rattle.std.proofs.Common.{◌≡◌, ◌<◌, length, true, false, inl, inr, refl, sym, ap, ◌∙◌, arith, rules, get_or, ltb}
-use Rattle.std.specs.Ordering.{nat_cmp, is_lt, is_le, ordering_index}
-use Rattle.std.specs.Cmp.{tied_itself}
-use Rattle.std.specs.Cmp.Lexicographic.{slice_cmp, nat_list_cmp_total}
-use Rattle.std.specs.FinMap.{nat_cmp-IsAntisymmetric, slice_cmp-IsAntisymmetric}
-use Rattle.std.specs.List.Sorted.{IsPartitionedBy}
-use Rattle.std.specs.declared.cmp.Ordering.{Ordering}
-use Rattle.std.specs.declared.cmp.Ordering.TheVariants.{Less, Equal, Greater}
-use Rattle.std.proofs.lemmas.Bool.{cases_lt, false≢true}
-use Rattle.std.proofs.lemmas.List.Sorted.{searchable_from_sorted, IsPartitionedBy-ltb, IsPartitionPoint-from_clause}
-use Rattle.std.proofs.lemmas.Option.{slice_get_within, slice_get_cases, get_or_from_slice_get}
+use Rattle.std.proofs.Common.{◌≡◌, ◌<◌, ◌≤◌, ℕ, List, All, length, true, false, inl, inr, sym, ap, ◌∙◌, subst, arith, rules, ltb}
+use lib.Dec.{leb}
+use Rattle.std.specs.Borrow.{Bor}
+use Rattle.std.specs.List.Sorted.{IsPartitionPoint}
+use Rattle.std.proofs.lemmas.Bool.{cases_lt, ltb-true, ltb-false, leb-true, leb-false}
+use Rattle.std.proofs.lemmas.List.Sorted.{IsPartitionedBy-ltb, IsPartitionedBy-leb, IsPartitionPoint-from_clause}
+use Rattle.std.proofs.lemmas.Option.{slice_get_within, get_or_from_slice_get}
 use Rattle.am_alerts.specs.declared.alert_labels.AlertLabel.{AlertLabel}
+use Rattle.am_alerts.specs.Judge.{text_at}
+use Rattle.am_alerts.specs.AlertLabels.{AreDistinct, HasNamePlace, IsRangeOf}
+use Rattle.am_alerts.proofs.LabelRows.{blank}
 use Rattle.am_alerts.proofs.alert_labels.range_of.Goals as goal
 
-below : (o : Ordering) → is_lt o ≡ ltb (ordering_index o) 1
-below Less = refl
-below Equal = refl
-below Greater = refl
+-- the same text is at one place
+one_place : (texts : List (Bor (List ℕ))) → AreDistinct texts → (i j : ℕ) → i < length texts → j < length texts
+    → text_at texts i ≡ text_at texts j → i ≡ j
+one_place texts distinct i j first second same = elim (cases_lt i j) [
+  | inl less ↦ absurd (distinct i j less second same)
+  | inr more ↦ elim (cases_lt j i) [
+    | inl less ↦ absurd (distinct j i less first (sym same))
+    | inr most ↦ omega (arith, more, most)
+  ]
+]
 
-up_to : (o : Ordering) → is_le o ≡ ltb (ordering_index o) 2
-up_to Less = refl
-up_to Equal = refl
-up_to Greater = refl
-
-between : (o : Ordering) → is_lt o ≡ false → is_le o ≡ true → o ≡ Equal
-between Less e f = absurd (false≢true (sym e))
-between Equal e f = refl
-between Greater e f = absurd (false≢true f)
-
-apart : (o : Ordering) → is_lt o ≡ true → is_le o ≡ false → ⊥
-apart Less e f = false≢true (sym f)
-apart Equal e f = false≢true e
-apart Greater e f = false≢true e
+-- the labels of a name are those from one point to another
+between : (names : List (Bor (List ℕ))) (labels : List AlertLabel) (place a b : ℕ) → place < length names
+    → AreDistinct names → All (HasNamePlace names) labels → a ≤ length labels → b ≤ length labels
+    → IsPartitionPoint (λ (l : AlertLabel). ltb l.name_place place ≡ true) (λ (l : AlertLabel). ltb l.name_place place ≡ false) labels a
+    → IsPartitionPoint (λ (l : AlertLabel). leb l.name_place place ≡ true) (λ (l : AlertLabel). leb l.name_place place ≡ false) labels b
+    → IsRangeOf labels (text_at names place) (a, b)
+between names labels place a b there distinct placed short within start end = record {
+  ordered = (
+    elim (cases_lt b a) [
+      | inl less ↦
+          let lt : b < length labels = omega (arith, less, short) in
+          let one = ltb-true _ _ (start.0 b blank (omega arith) less) in
+          let other = leb-false _ _ (end.1 b blank (omega arith) lt) in absurd (omega (arith, one, other))
+      | inr more ↦ more
+    ],
+    within,
+  );
+  exactly = λ k l at.
+      let lt : k < length labels = slice_get_within labels k l at in
+      let here = get_or_from_slice_get labels k l l at in
+      let has : HasNamePlace names l = subst (HasNamePlace names) here (placed k l lt) in (
+        λ named.
+            let same : l.name_place ≡ place = one_place names distinct l.name_place place has.0 there (has.1 ∙ named) in
+            let mine = ap (λ (m : AlertLabel). m.name_place) here in (
+              elim (cases_lt k a) [
+                | inl less ↦
+                    let one = ltb-true _ _ (start.0 k l (omega arith) less) in absurd (omega (arith, one, mine, same))
+                | inr more ↦ more
+              ],
+              elim (cases_lt k b) [
+                | inl less ↦ less
+                | inr more ↦
+                    let one = leb-false _ _ (end.1 k l more lt) in absurd (omega (arith, one, mine, same))
+              ],
+            ),
+        λ inside.
+            let one = ltb-false _ _ (start.1 k l inside.0 lt) in
+            let other = leb-true _ _ (end.0 k l (omega arith) inside.1) in
+            let same : l.name_place ≡ place = omega (arith, one, other, ap (λ (m : AlertLabel). m.name_place) here) in
+            sym has.1 ∙ ap (text_at names) same,
+      );
+}
 
 pub returns : goal.returns
 returns c =
     let labels = c.args.labels.now in
-    let name = c.args.name.now in
-    let order = λ (l : AlertLabel). slice_cmp nat_cmp l.name.now name in
-    let rises = searchable_from_sorted nat_list_cmp_total (λ (l : AlertLabel). l.name.now) labels name c.requires in
-    let before = λ (l : AlertLabel). is_lt (order l) in
-    let not_behind = λ (l : AlertLabel). is_le (order l) in
-    let first : IsPartitionedBy before labels =
-    λ i j d le lt e. below (order (get_or labels i d))
-    ∙ IsPartitionedBy-ltb (λ l. ordering_index (order l)) labels 1 rises i j d le lt (sym (below (order (get_or labels j d))) ∙ e) in
-    let last : IsPartitionedBy not_behind labels =
-    λ i j d le lt e. up_to (order (get_or labels i d))
-    ∙ IsPartitionedBy-ltb (λ l. ordering_index (order l)) labels 2 rises i j d le lt (sym (up_to (order (get_or labels j d))) ∙ e) in
-    let start = IsPartitionPoint-from_clause before labels _ c.partition_point-start.ensures.partitioned first (λ a r q k. search rules) in
-    let end = IsPartitionPoint-from_clause not_behind labels _ c.partition_point-end.ensures.partitioned last (λ a r q k. search rules) in
+    let place = c.args.place in
+    let at = λ (l : AlertLabel). l.name_place in
     record {
-      range = record {
-        ordered = (
-          elim (cases_lt c.partition_point-end.result c.partition_point-start.result) [
-            | inl less ↦ elim (slice_get_cases labels c.partition_point-end.result).1 [
-              | inl found ↦ absurd (apart (order (get_or labels c.partition_point-end.result found.0))
-                  (start.0 c.partition_point-end.result found.0 (omega arith) less)
-                  (end.1 c.partition_point-end.result found.0 (omega arith) found.1))
-              | inr past ↦ absurd (omega (arith, past.0, less, c.partition_point-start.ensures.bound))
-            ]
-            | inr more ↦ more
-          ],
-          c.partition_point-end.ensures.bound,
-        );
-        exactly = λ k l at.
-            let here : get_or labels k l ≡ l = get_or_from_slice_get labels k l l at in
-            let lt : k < length labels = slice_get_within labels k l at in (
-              λ named.
-                  let tie : order (get_or labels k l) ≡ Equal =
-                  ap order here ∙ ap (λ n. slice_cmp nat_cmp n name) named ∙ tied_itself nat_list_cmp_total name in (
-                    elim (cases_lt k c.partition_point-start.result) [
-                      | inl less ↦ absurd (false≢true (sym (ap is_lt tie) ∙ start.0 k l (omega arith) less))
-                      | inr more ↦ more
-                    ],
-                    elim (cases_lt k c.partition_point-end.result) [
-                      | inl less ↦ less
-                      | inr more ↦ absurd (false≢true (sym (end.1 k l more lt) ∙ ap is_le tie))
-                    ],
-                  ),
-              λ inside. slice_cmp-IsAntisymmetric nat_cmp-IsAntisymmetric l.name.now name
-                  (ap order (sym here)
-                  ∙ between (order (get_or labels k l)) (start.1 k l inside.0 lt)
-                  (end.0 k l (omega arith) inside.1)),
-            );
-      };
+      range = between c.args.names.now labels place c.partition_point-start.result c.partition_point-end.result
+          c.requires.place c.requires.distinct c.requires.placed c.partition_point-start.ensures.bound
+          c.partition_point-end.ensures.bound
+          (IsPartitionPoint-from_clause (λ (l : AlertLabel). ltb l.name_place place) labels _
+          c.partition_point-start.ensures.partitioned (IsPartitionedBy-ltb at labels place c.requires.sorted)
+          (λ a r q k. search rules))
+          (IsPartitionPoint-from_clause (λ (l : AlertLabel). leb l.name_place place) labels _
+          c.partition_point-end.ensures.partitioned (IsPartitionedBy-leb at labels place c.requires.sorted)
+          (λ a r q k. search rules));
     }

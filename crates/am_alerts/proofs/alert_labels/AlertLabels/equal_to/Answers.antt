@@ -17,7 +17,7 @@ and_true true = refl
 and_true false = refl
 
 pub kept-requires-clause-sound : goal.kept-requires-clause-sound
-kept-requires-clause-sound c = c.of-judge.ensures.sound c.self.inside.sorted.values.items
+kept-requires-clause-sound c = c.of-judge.ensures.sound c.self.inside.sorted.values.keys
 
 pub loop-name-preserved : goal.loop-name-preserved
 loop-name-preserved c =

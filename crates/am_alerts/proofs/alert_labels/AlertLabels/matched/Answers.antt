@@ -23,7 +23,7 @@ none_left false p q x e f = f
 
 pub kept-requires-clause-sound : goal.kept-requires-clause-sound
 kept-requires-clause-sound c =
-    c.in_ok-judge.ensures.sound c.self.inside.sorted.values.items
+    c.in_ok-judge.ensures.sound c.self.inside.sorted.values.keys
     (IfSome_then c.loop-i.last c.loop-i.invariant.last (λ known is. is.0))
 
 pub loop-i-preserved : goal.loop-i-preserved

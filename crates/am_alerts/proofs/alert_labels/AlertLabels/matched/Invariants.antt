@@ -9,5 +9,5 @@ use Rattle.am_alerts.proofs.alert_labels.AlertLabels.matched.Given as goal
 abbrev pub invariant-loop-i : goal.invariant-loop-i
 invariant-loop-i l = record {
   kept : Keeps l.self (λ s. all_hold s (take l.i l.matchers)) l.among l.left.items;
-  last : IfSome l.last (λ known. IsSound l.sorted.values.items known.1 × IsTestOf known.1.test known.0.now);
+  last : IfSome l.last (λ known. IsSound l.sorted.values.keys known.1 × IsTestOf known.1.test known.0.now);
 }
