@@ -10,7 +10,10 @@ use Rattle.std.proofs.lemmas.Option.{same_Some, slice_get-map, slice_get-get_or}
 use Rattle.std.proofs.lemmas.Option.{get_or_from_slice_get}
 use Rattle.am_scan.specs.declared.pattern_automaton.PatternAutomaton.{PatternAutomaton}
 use Rattle.am_scan.specs.Automaton.{number_of, pattern_of}
-use Rattle.am_classes.specs.Automata.{MakeSame, AreAutomataOf}
+use Rattle.am_labels.specs.Pattern.{finds}
+use Rattle.am_classes.specs.Automata.{MakeSame, AreAutomataOf, found_by}
+use Rattle.am_classes.specs.Places.{places_where}
+use Rattle.am_classes.proofs.PlaceLemmas.{places_mapped}
 
 -- The result of a function for the element at a position is at the same position.
 pub get_under : {X Y : Type 0} (f : X → Y) (xs : List X) (k : ℕ) (x : X) → slice_get xs k ≡ Some x
@@ -63,3 +66,11 @@ pub automata_for : (patterns : List (Bor (List ℕ))) (automata : List PatternAu
 automata_for patterns automata same = λ k automaton pattern at also.
     same_Some (pattern_of automaton) pattern.now (sym (get_under pattern_of automata k automaton at)
     ∙ ap (λ l. slice_get l k) same ∙ get_under (λ p. p.now) patterns k pattern also)
+
+-- Automata of the same patterns find the same texts.
+pub found_alike : (automata others : List PatternAutomaton) (text : List ℕ)
+    → map pattern_of automata ≡ map pattern_of others → found_by automata text ≡ found_by others text
+found_alike automata others text same =
+    sym (places_mapped 0 pattern_of (λ p. finds p text) automata)
+    ∙ ap (places_where (λ p. finds p text)) same
+    ∙ places_mapped 0 pattern_of (λ p. finds p text) others

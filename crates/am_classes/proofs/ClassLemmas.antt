@@ -2,9 +2,7 @@
 -- classes, one for each.
 use Rattle.std.proofs.Common.{◌≡◌, ◌<◌, ℕ, ◌+◌, true, false, List, [], ◌∷◌, ◌++◌, Bool, ◌||◌, ◌⊎◌}
 use Rattle.std.proofs.Common.{Some, slice_get, length, map, string_bytes, inl, inr, refl, subst}
-use Rattle.std.proofs.Common.{sym, ap, ap₂, ◌∙◌, arith, Bor, Contains, String}
-use Rattle.std.specs.Global.{Vec}
-use Rattle.std.specs.declared.alloc.Global.{Global}
+use Rattle.std.proofs.Common.{sym, ap, ap₂, ◌∙◌, arith, Contains, String}
 use Rattle.std.specs.List.{list_any, AllByRecursion, AllZip}
 use Rattle.std.proofs.lemmas.Bool.{false_from_ne_true, cases_Bool}
 use Rattle.std.proofs.lemmas.Slice.Eq.{bytes_eq-Decides}
@@ -18,7 +16,6 @@ use Rattle.am_labels.specs.Pattern.{finds}
 use Rattle.am_labels.proofs.OperatorLemmas.{holds_same, asks_same, asks_pattern}
 use Rattle.am_labels.proofs.Passing.{any_in, in_any}
 use Rattle.am_scan.specs.Automaton.{pattern_of}
-use Rattle.am_scan.specs.declared.pattern_automaton.PatternAutomaton.{PatternAutomaton}
 use Rattle.am_classes.specs.declared.questions.Questions.{Questions}
 use Rattle.am_classes.specs.declared.candidate.Candidate.{Candidate}
 use Rattle.am_classes.specs.declared.alphabet.Alphabet.{Alphabet}
@@ -32,6 +29,9 @@ use Rattle.am_classes.specs.State.{named_texts, patterns_of, IsNamed}
 use Rattle.am_classes.specs.Candidates.{AreApartCandidates, AreCandidates, AreTied}
 use Rattle.am_classes.specs.Candidates.{IsCandidate, IsShortestFound}
 use Rattle.am_classes.specs.ClassTexts.{IsClassText, IsShortest, Names, others}
+use Rattle.am_classes.specs.LabelTests.{IsTestsOf}
+use Rattle.am_classes.specs.Parts.{AskOf}
+use Rattle.am_classes.specs.declared.label_tests.LabelTests.{LabelTests}
 use Rattle.am_classes.specs.Truths.{AreNewIn}
 use Rattle.am_classes.specs.declared.limits.TheConstants.{MAX_SAMPLE_NUMBERS}
 use Rattle.am_classes.proofs.AlikeLemmas.{alike_turned}
@@ -257,15 +257,11 @@ module _ (ms : List Matcher) (q : Questions) (named : List (List ℕ)) (cs : Lis
       ])
 
 -- The questions that are asked by automata of the other patterns, and by the named texts.
-pub are_asked : (ms : List Matcher) (q : Questions) (texts : Vec (String Global)) (automata : Vec PatternAutomaton)
-    (keys : List (Bor (List ℕ))) → q.texts ≡ texts → q.automata ≡ automata
-    → map pattern_of automata.items ≡ map (λ p. p.now) keys
-    → AreEachOnce (named_over q.alphabet ms) (map string_bytes texts.items)
-    → AreEachOnce (other_patterns ms) (map (λ p. p.now) keys) → AreAsked ms q
-are_asked ms q texts automata keys same_texts same_automata patterns named others = record {
-  texts = subst (λ v. AreEachOnce (named_over q.alphabet ms) (map string_bytes v.items)) (sym same_texts) named;
-  patterns = subst (AreEachOnce (other_patterns ms))
-      (sym (ap (λ v. map pattern_of v.items) same_automata ∙ patterns)) others;
+pub asked_by : (ms : List Matcher) (a : Alphabet) (tests : LabelTests) (texts : List (List ℕ)) (q : Questions)
+    → IsTestsOf ms tests → AreEachOnce (named_over a ms) texts → AskOf a tests texts q → AreAsked ms q
+asked_by ms a tests texts q is once asks = record {
+  texts = subst (λ v. AreEachOnce (named_over v.0 ms) v.1.0) (sym asks) once;
+  patterns = subst (λ v. AreEachOnce (other_patterns ms) v.1.1) (sym asks) is.patterns;
   only = all_known ms;
 }
 

@@ -1,6 +1,6 @@
 -- The places of things that pass a test.
 use Rattle.std.proofs.Common.{◌≡◌, ℕ, ◌+◌, ◌<◌, Bool, true, if◌then◌else◌, List, [], ◌∷◌, ◌++◌}
-use Rattle.std.proofs.Common.{Some, slice_get, length, take, get_or, refl, sym, ap, subst, inl, inr, ◌∙◌, arith}
+use Rattle.std.proofs.Common.{Some, slice_get, length, map, take, get_or, refl, sym, ap, subst, inl, inr, ◌∙◌, arith}
 use Rattle.std.specs.List.{filter, enumerate_from, AllByRecursion}
 use Rattle.std.proofs.lemmas.Bool.{cases_Bool}
 use Rattle.std.proofs.lemmas.List.{length-take, take_more}
@@ -81,4 +81,13 @@ same_there test other xs k x same at = elim (cases_Bool (test x)) [
     | inl passes ↦ let here = passes_too other test xs k x (sym same) at passes in absurd cc
     | inr missed ↦ fails ∙ sym missed
   ]
+]
+
+-- The places of things whose results pass a test.
+pub places_mapped : {X Y : Type 0} (from : ℕ) (f : X → Y) (test : Y → Bool) (xs : List X)
+    → places_from from test (map f xs) ≡ places_from from (λ x. test (f x)) xs
+places_mapped from f test [] = refl
+places_mapped from f test (x ∷ xs) = elim (cases_Bool (test (f x))) [
+  | inl passes ↦ rw passes (ap (λ ks. from ∷ ks) (places_mapped (from + 1) f test xs))
+  | inr fails ↦ rw fails (places_mapped (from + 1) f test xs)
 ]

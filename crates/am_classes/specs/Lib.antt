@@ -9,6 +9,7 @@ pub mod Fronts
 pub mod State
 pub mod Named
 pub mod Truths
+pub mod AskedPatterns
 pub mod LabelTests
 pub mod PatternPlaces
 pub mod Asked
@@ -16,4 +17,6 @@ pub mod Limits
 pub mod Exploration
 pub mod ClassTexts
 pub mod Candidates
+pub mod Found
+pub mod Parts
 pub mod Samples

@@ -14,31 +14,31 @@
 //! matchers, some of them may tell so many texts apart, and then all do. So those that name texts
 //! are looked at first, and then `PART` matchers at a time, with texts that their patterns find.
 
-ghost use Rattle.std.specs.Prelude.{◌≡◌, ◌++◌, ◌<◌, ◌⊎◌, List, [], false, map, IfOk, IfSome};
+ghost use Rattle.std.specs.Prelude.{◌≡◌, ◌++◌, ◌<◌, ◌⊎◌, ℕ, List, false, map, IfOk, IfSome};
 ghost use Rattle.std.specs.Prelude.{IfNone, IsTrue, Contains, length, string_bytes, vec_len};
 ghost use Rattle.std.specs.List.{AllByRecursion};
 ghost use Rattle.am_universe.specs.declared.limits.TheConstants.{MAX_VALUES};
 ghost use Rattle.am_labels.specs.Matcher.{Matcher};
 ghost use Rattle.am_classes.specs.Alike.{Covers, AreApart, HasOtherPattern};
 ghost use Rattle.am_classes.specs.Alphabet.{AreOver};
-ghost use Rattle.am_classes.specs.Automata.{AreAutomataOf, AreFor};
+ghost use Rattle.am_classes.specs.declared.alphabet.Alphabet.{Alphabet};
+ghost use Rattle.am_classes.specs.Found.{IsFoundFor};
+ghost use Rattle.am_classes.specs.Named.{AreEachOnce, named_over};
+ghost use Rattle.am_classes.specs.Parts.{AreClassTexts, AreParts};
+ghost use Rattle.am_classes.specs.State.{patterns_of};
 ghost use Rattle.am_classes.specs.Limits.{HaveTooManyStates, HaveWildcardsAlone};
 ghost use Rattle.am_classes.specs.ClassTexts.{IsClassText, AreManyClasses};
 ghost use Rattle.am_classes.specs.LabelTests.{IsTestsOf};
-ghost use Rattle.am_classes.specs.Truths.{AreNewIn};
 ghost use Rattle.am_classes.specs.declared.limits.TheConstants.{MAX_SAMPLE_NUMBERS};
 
-use crate::automata::automata_of;
 use crate::candidate::Candidate;
-use crate::candidates::candidates;
-use crate::enough_bytes::enough_bytes;
+use crate::found::Found;
+use crate::label_tests::Asked;
 use crate::named_texts::{named_texts, names_texts, naming_matchers};
-use crate::questions::Questions;
+use crate::parts::{Parts, apart_texts, parts_of, questions_of};
 use crate::samples::samples;
-use crate::tested::new_texts;
 use crate::{Alphabet, LabelTests, SpareAutomata};
 use am_labels::Matcher;
-use am_scan::{ByteSet, PatternAutomaton};
 use am_universe::limits::MAX_VALUES;
 use std::alloc::{AllocError, Global};
 
@@ -65,8 +65,9 @@ pub struct ClassTexts<'m> {
 /// `other`, repeated until it is not named. Returns `None` if the classes cannot be computed: a
 /// pattern cannot be followed, or there are too many states. If each pattern is an alternation of
 /// plain texts, all classes are always found. If the others are made of plain characters, `.*` and
-/// bars, they are found unless there are too many states or classes. Automata that are spare are
-/// taken where they fit. Fails only if memory runs out.
+/// bars, they are found unless there are too many states or classes. What is spare is taken where
+/// it fits: automata, and all that was found if the last label was asked the same. Fails only if
+/// memory runs out.
 pub fn classes<'m>(
     alloc: Global,
     alphabet: Alphabet,
@@ -99,22 +100,37 @@ pub fn classes<'m>(
         return Ok(Some(many));
     }
     let tests = LabelTests::of(alloc, matchers)?;
-    let patterns = tests.patterns.as_slice();
     let texts = named_texts(alloc, alphabet, matchers)?;
-    let bytes = enough_bytes(alloc, alphabet, texts.as_slice(), patterns)?;
-    let Some(automata) = automata_of(alloc, bytes, patterns, spare)? else {
+    let Some(parts) = parts_of(alloc, alphabet, &tests, texts, spare)? else {
         return Ok(None);
     };
-    let named = apart_texts(alloc, &tests, &bytes, automata.as_slice(), texts.as_slice())?;
-    let room = MAX_VALUES.saturating_sub(named.len());
-    let questions = Questions::of(alphabet, bytes, texts, automata);
-    let Some(candidates) = candidates(alloc, &questions, room)? else {
-        return Ok(None);
-    };
+    let classes = classes_of(alloc, tests, parts)?;
+    Ok(Some(classes))
+}
+
+/// Returns the classes of a label from its parts.
+fn classes_of<'m>(
+    alloc: Global,
+    tests: LabelTests<'m>,
+    parts: Parts,
+) -> Result<ClassTexts<'m>, AllocError>
+    requires patterns { patterns_of parts.questions ≡ map (λ p. p.now) tests.patterns.keys }
+    requires found { IsFoundFor parts.questions parts.candidates }
+    ensures { IfOk result (λ classes. (ms : List Matcher) (a : Alphabet) (texts : List (List ℕ))
+        → IsTestsOf ms tests.entry → AreEachOnce (named_over a ms) texts
+        → AreParts a tests.entry texts parts
+        → AreClassTexts a ms classes) }
+{
+    let Parts {
+        questions,
+        named,
+        candidates,
+    } = parts;
     let all = candidates.all;
-    let texts = with_texts(named, candidates.items)?;
-    let tests = tests.with_automata(bytes, questions.automata);
-    Ok(Some(ClassTexts { texts, all, tests }))
+    let texts = with_texts(alloc, named, candidates.items.as_slice())?;
+    let found = Found::of(alloc, questions, candidates)?;
+    let tests = tests.with_asked(Asked::Found(found));
+    Ok(ClassTexts { texts, all, tests })
 }
 
 /// Returns more texts than a label may have values, no two of which are alike, if a part of many
@@ -174,24 +190,25 @@ fn many_of_part<'m>(
 {
     let tests = LabelTests::of(alloc, matchers)?;
     let patterns = tests.patterns.as_slice();
-    let mut texts = named_texts(alloc, alphabet, matchers)?;
-    let bytes = enough_bytes(alloc, alphabet, texts.as_slice(), patterns)?;
+    let texts = named_texts(alloc, alphabet, matchers)?;
     let mut spare = SpareAutomata::none(alloc);
-    let Some(automata) = automata_of(alloc, bytes, patterns, &mut spare)? else {
+    let Some(questions) = questions_of(alloc, alphabet, texts, patterns, &mut spare)? else {
         return Ok(None);
     };
+    let automata = questions.automata.as_slice();
+    let mut texts = questions.texts.as_slice().to_vec(alloc)?;
     // Each text is tested by each pattern. So if there are patterns, only the first texts are.
     texts.truncate(if automata.is_empty() {
         usize::MAX
     } else {
         PART
     });
-    texts.append(&mut samples(alloc, alphabet, patterns, automata.as_slice())?)?;
-    let texts = apart_texts(alloc, &tests, &bytes, automata.as_slice(), texts.as_slice())?;
+    texts.append(&mut samples(alloc, alphabet, patterns, automata)?)?;
+    let texts = apart_texts(alloc, &tests, &questions, texts.as_slice())?;
     if texts.len() <= MAX_VALUES {
         return Ok(None);
     }
-    let tests = tests.with_automata(bytes, automata);
+    let tests = tests.with_asked(Asked::Questions(questions));
     Ok(Some(ClassTexts {
         texts,
         all: false,
@@ -199,31 +216,17 @@ fn many_of_part<'m>(
     }))
 }
 
-/// Returns those of some texts that are alike to none before them. The automata are those of the
-/// first patterns of the tests, and read texts that have only certain bytes.
-fn apart_texts(
+/// Returns texts, followed by copies of those of candidates.
+fn with_texts(
     alloc: Global,
-    tests: &LabelTests<'_>,
-    bytes: &ByteSet,
-    automata: &[PatternAutomaton],
-    texts: &[String],
+    mut texts: Vec<String>,
+    candidates: &[Candidate],
 ) -> Result<Vec<String>, AllocError>
-    requires fit { AreAutomataOf tests.now.patterns.keys automata.now }
-    requires read { AreFor bytes.now automata.now }
-    ensures { IfOk result (λ apart. (ms : List Matcher) → IsTestsOf ms tests.now
-        → AreNewIn ms [] (map string_bytes texts.now) (map string_bytes apart.items)) }
-{
-    let tested = tests.tested_with(alloc, bytes, automata, texts.to_vec(alloc)?)?;
-    new_texts(alloc, Vec::new(alloc), tested)
-}
-
-/// Returns texts, followed by those of candidates.
-fn with_texts(mut texts: Vec<String>, candidates: Vec<Candidate>) -> Result<Vec<String>, AllocError>
     ensures { IfOk result (λ all. map string_bytes all.items
-        ≡ map string_bytes texts.items ++ map (λ c. string_bytes c.text) candidates.items) }
+        ≡ map string_bytes texts.items ++ map (λ c. string_bytes c.text) candidates.now) }
 {
     for candidate in candidates {
-        texts.push(candidate.text)?;
+        texts.push(String::from_str(alloc, candidate.text.as_str())?)?;
     }
     Ok(texts)
 }

@@ -5,20 +5,24 @@
 //! tests all texts before the next one does.
 
 ghost use Rattle.std.specs.Prelude.{◌≡◌, ◌<◌, ◌++◌, ℕ, List, IfOk, IfSome, OnOk, IsTrue, false};
-ghost use Rattle.std.specs.Prelude.{◌∷◌, [], if◌then◌else◌};
+ghost use Rattle.std.specs.Prelude.{◌∷◌, [], Some, if◌then◌else◌};
 ghost use Rattle.std.specs.Prelude.{length, map, slice_index_or, string_bytes, vec_len};
 ghost use Rattle.std.specs.List.{AllByRecursion};
 ghost use Rattle.am_labels.specs.Matcher.{Matcher};
 ghost use Rattle.am_scan.specs.Arrivals.{items_at};
+ghost use Rattle.am_scan.specs.Automaton.{pattern_of};
 ghost use Rattle.am_scan.specs.Closure.{contains};
 ghost use Rattle.am_scan.specs.Sight.{IsScanned};
-ghost use Rattle.am_classes.specs.Automata.{AreAutomataOf, AreFor, AreScanned};
+ghost use Rattle.am_classes.specs.Automata.{AreAutomataOf, AreFor, AreScanned, found_by};
 ghost use Rattle.am_classes.specs.PatternPlaces.{ArePlaced, ArePlacesWith, is_found, is_marked};
 ghost use Rattle.am_classes.specs.Places.{places_where};
+ghost use Rattle.am_classes.specs.AskedPatterns.{patterns_asked};
 
 use crate::finder::Finder;
+use crate::found::Found;
 use crate::named_texts::{names_texts, other_patterns};
 use crate::naming::naming_places;
+use crate::questions::Questions;
 use crate::tested::{Tested, tested_by};
 use crate::text_ends::TextEnds;
 use am_labels::Matcher;
@@ -26,6 +30,17 @@ use am_scan::{ByteSet, PatternAutomaton};
 use indexmap::IndexSet;
 use std::alloc::{AllocError, Global};
 use std::collections::HashMap;
+
+/// What is known of the questions of a label.
+#[derive(Drop)]
+pub(crate) enum Asked {
+    /// Nothing yet.
+    Nothing,
+    /// The questions.
+    Questions(Questions),
+    /// The questions, and the candidates that were found.
+    Found(Found),
+}
 
 /// The matchers of a label, made ready to test texts.
 #[derive(Drop)]
@@ -35,12 +50,10 @@ pub struct LabelTests<'m> {
     pub(crate) named: HashMap<&'m str, Vec<usize>>,
     /// The patterns of the others, each once.
     pub(crate) patterns: IndexSet<&'m str>,
-    /// The bytes of the texts that the automata read.
-    pub(crate) bytes: ByteSet,
-    /// The automata of the first patterns.
-    pub(crate) automata: Vec<PatternAutomaton>,
-    ghost fit: { AreAutomataOf patterns.keys automata.items },
-    ghost read: { AreFor bytes automata.items },
+    /// What they ask, by these patterns.
+    pub(crate) asked: Asked,
+    ghost fit: { (asked_by : List (List ℕ)) → patterns_asked asked ≡ Some asked_by
+        → asked_by ≡ map (λ p. p.now) patterns.keys },
 }
 
 impl<'m> LabelTests<'m> {
@@ -56,28 +69,21 @@ impl<'m> LabelTests<'m> {
             matchers: Vec::from_slice(alloc, matchers)?,
             named: naming_places(alloc, matchers)?,
             patterns: other_patterns(alloc, matchers)?,
-            bytes: ByteSet::empty(),
-            automata: Vec::new(alloc),
+            asked: Asked::Nothing,
         })
     }
 
-    /// The same with automata, those of the first patterns, which read texts that have only certain
-    /// bytes.
-    pub(crate) fn with_automata(
-        self,
-        bytes: ByteSet,
-        automata: Vec<PatternAutomaton>,
-    ) -> LabelTests<'m>
-        requires fit { AreAutomataOf self.patterns.keys automata.items }
-        requires read { AreFor bytes automata.items }
+    /// The same with what they ask.
+    pub(crate) fn with_asked(self, asked: Asked) -> LabelTests<'m>
+        requires fit { (asked_by : List (List ℕ)) → patterns_asked asked ≡ Some asked_by
+            → asked_by ≡ map (λ p. p.now) self.patterns.keys }
         ensures { (ms : List Matcher) → IsTestsOf ms self.entry → IsTestsOf ms result }
     {
         LabelTests {
             matchers: self.matchers,
             named: self.named,
             patterns: self.patterns,
-            bytes,
-            automata,
+            asked,
         }
     }
 
@@ -87,20 +93,33 @@ impl<'m> LabelTests<'m> {
         ensures tested { IfOk result (λ all. (ms : List Matcher) → IsTestsOf ms self.now
             → AreTested ms all.items) }
     {
-        self.tested_with(alloc, &self.bytes, self.automata.as_slice(), texts)
+        match &self.asked {
+            Asked::Found(found) => {
+                let questions = found.questions();
+                let automata = questions.automata.as_slice();
+                self.tested_with(alloc, &questions.bytes, automata, Some(found), texts)
+            }
+            Asked::Questions(questions) => {
+                let automata = questions.automata.as_slice();
+                self.tested_with(alloc, &questions.bytes, automata, None, texts)
+            }
+            Asked::Nothing => self.tested_in_turn(alloc, &[], texts),
+        }
     }
 
     /// Tests texts, with automata of the first patterns, which read texts that have only certain
-    /// bytes.
+    /// bytes. What was found by all of them is taken over if it is given.
     pub(crate) fn tested_with(
         &self,
         alloc: Global,
         bytes: &ByteSet,
         automata: &[PatternAutomaton],
+        found: Option<&Found>,
         texts: Vec<String>,
     ) -> Result<Vec<Tested>, AllocError>
         requires fit { AreAutomataOf self.now.patterns.keys automata.now }
         requires read { AreFor bytes.now automata.now }
+        requires found { IfSome found (λ f. f.now.1.1 ≡ map pattern_of automata.now) }
         ensures texts { IfOk result (λ all. texts_of all.items ≡ map string_bytes texts.items) }
         ensures tested { IfOk result (λ all. (ms : List Matcher) → IsTestsOf ms self.now
             → AreTested ms all.items) }
@@ -117,7 +136,7 @@ impl<'m> LabelTests<'m> {
             if let Some(places) = self.pattern_places(alloc)? {
                 let lasts = last_bytes(texts.as_slice());
                 let ends = TextEnds::of(alloc, automata, &lasts, texts.len())?;
-                return self.tested_from_ends(alloc, &ends, places.as_slice(), texts);
+                return self.tested_from_ends(alloc, &ends, found, places.as_slice(), texts);
             }
         }
         self.tested_in_turn(alloc, automata, texts)
@@ -148,9 +167,11 @@ impl<'m> LabelTests<'m> {
         &self,
         alloc: Global,
         ends: &TextEnds<'_>,
+        found: Option<&Found>,
         patterns: &[Option<usize>],
         texts: Vec<String>,
     ) -> Result<Vec<Tested>, AllocError>
+        requires found { IfSome found (λ f. f.now.1.1 ≡ map pattern_of ends.now.automata.now) }
         requires fit { AreAutomataOf self.now.patterns.keys ends.now.automata.now }
         requires count { length ends.now.automata.now ≡ length self.now.patterns.keys }
         requires placed { ArePlaced self.now.matchers.items self.now.patterns.keys patterns.now }
@@ -163,13 +184,13 @@ impl<'m> LabelTests<'m> {
         let lists = places_with(alloc, patterns, self.patterns.len())?;
         let mut all = Vec::with_capacity(alloc, texts.len())?;
         for text in texts {
-            let found = ends.found(alloc, text.as_str())?;
+            let places = found_by(alloc, ends, found, text.as_str())?;
             let mut hits = self.naming(alloc, text.as_str())?;
             self.push_hits(
                 alloc,
                 patterns,
                 lists.as_slice(),
-                found.as_slice(),
+                places.as_slice(),
                 &mut hits,
             )?;
             all.push(Tested { text, hits })?;
@@ -260,6 +281,26 @@ impl<'m> LabelTests<'m> {
         };
         Finder::of(matcher, automata.get(place))
     }
+}
+
+/// Returns the places of the patterns that find a text that all automata read: those that were
+/// found for it, or else those that its end leads to.
+fn found_by(
+    alloc: Global,
+    ends: &TextEnds<'_>,
+    found: Option<&Found>,
+    text: &str,
+) -> Result<Vec<usize>, AllocError>
+    requires found { IfSome found (λ f. f.now.1.1 ≡ map pattern_of ends.now.automata.now) }
+    ensures { IfOk result (λ found. AreScanned ends.now.automata.now text.now
+        → found.items ≡ found_by ends.now.automata.now text.now) }
+{
+    if let Some(found) = found {
+        if let Some(places) = found.found(text) {
+            return places.to_vec(alloc);
+        }
+    }
+    ends.found(alloc, text)
 }
 
 /// Returns the bytes with which texts end.

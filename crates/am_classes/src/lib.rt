@@ -46,6 +46,8 @@ pub use tested::{Tested, new_texts};
 mod candidate;
 mod candidates;
 mod class_texts;
+mod found;
+mod parts;
 mod samples;
 
 pub use class_texts::{ClassTexts, classes};

@@ -190,7 +190,7 @@ fn missing_of<'m>(
     let wanted = possible_texts(alloc, space.impossible(), name, texts)?;
     let count = wanted.len();
     let texts = missing_texts(alloc, space, name, &tests, wanted)?;
-    *spare = SpareAutomata::of(alloc, tests)?;
+    *spare = SpareAutomata::of(alloc, tests);
     Ok(Missing {
         name,
         named: may_declare(alloc, allowed, name),

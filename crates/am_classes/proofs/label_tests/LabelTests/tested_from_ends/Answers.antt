@@ -20,12 +20,12 @@ loop-text-preserved c =
     let t = string_bytes text in
     let automata = c.args.ends.now.automata.now in
     let tests = c.args.self.now in
-    let found = c.in_ok-found.found.items in
+    let found = c.in_ok-places.places.items in
     record {
       texts = simp (c.in_ok-push.ensures.items, map-append) (λ i. c.loop-text.invariant.texts i ++ t ∷ []);
       tested = λ ms is all.
           let parts = all_pushed _ c.loop-text.yielded text all in
-          let are : found ≡ found_by automata t = (rw c.as_str.ensures.value at c.in_ok-found.ensures) parts.1 in
+          let are : found ≡ found_by automata t = (rw c.as_str.ensures.value at c.in_ok-places.ensures) parts.1 in
           let asked = found_finding tests.patterns.keys found automata t c.requires.fit c.requires.count are
           tests.matchers.items c.args.patterns.now c.requires.placed (length-map tests.matchers.items (λ (m : Bor Matcher). m.now)) in
           let named = c.in_ok-hits.ensures ∙ ap (named_places tests.named) c.as_str-in-loop-text.ensures.value ∙ is.named t in
