@@ -12,6 +12,7 @@ pub use asked::digits_of_command;
 
 // The parts.
 mod classes;
+mod labels;
 mod matchers;
 mod readers;
 mod search;

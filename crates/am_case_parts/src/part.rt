@@ -1,6 +1,7 @@
 //! The parts of `amcover` that tables call, by their names.
 
 use crate::classes::of_classes;
+use crate::labels::of_label;
 use crate::matchers::{of_match, of_matcher, of_matchers, of_put, of_row};
 use crate::readers::{of_config, of_instant, of_silences};
 use crate::search::{of_boxes, of_count, of_judge};
@@ -26,6 +27,7 @@ pub fn call<R: Files + AllocGlobal>(
         "matchers" => of_matchers(alloc, one),
         "matcher" => of_matcher(alloc, one, two, three),
         "match" => of_match(alloc, one, two),
+        "label" => of_label(alloc, words),
         "put" => of_put(alloc, words),
         "row" => of_row(files, one, two),
         "classes" => of_classes(alloc, Alphabet::Unicode, one),
