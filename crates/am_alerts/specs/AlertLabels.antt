@@ -26,14 +26,14 @@ abbrev pub all_labels : List LabelMap → List (ℕ × (List ℕ × List ℕ))
 all_labels alerts = flat_map labels_of (enumerate_from 0 alerts)
 
 -- A text is at a place among some texts; and a label has the places of its name and of its value.
-abbrev pub HasValue : List (Bor (List ℕ)) → ℕ → List ℕ → Type 0
-HasValue texts place text = (place < length texts) × (text_at texts place ≡ text)
+abbrev pub HasText : List (Bor (List ℕ)) → ℕ → List ℕ → Type 0
+HasText texts place text = (place < length texts) × (text_at texts place ≡ text)
 
 abbrev pub HasNamePlace : List (Bor (List ℕ)) → AlertLabel → Type 0
-HasNamePlace names l = HasValue names l.name_place l.name.now
+HasNamePlace names l = HasText names l.name_place l.name.now
 
 abbrev pub HasPlace : List (Bor (List ℕ)) → AlertLabel → Type 0
-HasPlace values l = HasValue values l.place l.value.now
+HasPlace values l = HasText values l.place l.value.now
 
 -- No text is there twice.
 abbrev pub AreDistinct : List (Bor (List ℕ)) → Type 0

@@ -1,5 +1,6 @@
 pub mod SilenceIds
 pub mod Intervals
+pub mod MutingRoutes
 pub mod Judge
 pub mod AlertLabels
 pub mod AlertLists

@@ -19,7 +19,7 @@ ghost use Rattle.am_eval.specs.Inhibition.{have_equal};
 ghost use Rattle.am_alerts.specs.declared.alert_labels.AlertLabel.{AlertLabel};
 ghost use Rattle.am_alerts.specs.Judge.{passes, text_at, IsSound};
 ghost use Rattle.am_alerts.specs.AlertLabels.{label_view, labels_of, all_labels};
-ghost use Rattle.am_alerts.specs.AlertLabels.{HasValue, HasPlace, HasNamePlace};
+ghost use Rattle.am_alerts.specs.AlertLabels.{HasText, HasPlace, HasNamePlace};
 ghost use Rattle.am_alerts.specs.AlertLabels.{AreDistinct, HavePlace, Tile};
 ghost use Rattle.am_alerts.specs.AlertLabels.{is_at, all_pass};
 ghost use Rattle.am_alerts.specs.AlertLabels.{IsRangeOf, AreNameRows};
@@ -530,9 +530,9 @@ fn add_labels<'w>(
 /// Returns the place of a text among texts, and adds it unless it is there. Fails only if memory
 /// runs out.
 fn place_of<'w>(text: &'w str, texts: &mut IndexSet<&'w str>) -> Result<usize, AllocError>
-    ensures grows { OnOk result ((k : ℕ) (other : List ℕ) → HasValue texts.old.keys k other
-        → HasValue texts.new.keys k other) }
-    ensures place { IfOk result (λ place. HasValue texts.new.keys place text.now) }
+    ensures grows { OnOk result ((k : ℕ) (other : List ℕ) → HasText texts.old.keys k other
+        → HasText texts.new.keys k other) }
+    ensures place { IfOk result (λ place. HasText texts.new.keys place text.now) }
 {
     let (place, _) = texts.insert_full(text)?;
     Ok(place)

@@ -10,8 +10,9 @@ ghost use Rattle.am_report_texts.specs.LineView.{line_view, report_view, shown_v
 ghost use Rattle.am_alerts.specs.SilenceIds.{AreNames, name_at};
 ghost use Rattle.am_alerts.specs.AlertLines.{alert_line, alerts_report, line_of, lines_of};
 ghost use Rattle.am_alerts.specs.AlertLines.{words_before};
+ghost use Rattle.am_alerts.specs.MutingRoutes.{TellIntervals};
 
-use crate::intervals::intervals_of;
+use crate::intervals::{MutingRoute, intervals_of};
 use crate::outcomes::Outcomes;
 use crate::truth::truths_of;
 use am_eval::Question;
@@ -33,10 +34,11 @@ pub(crate) fn alerts_report<'o>(
         (lines_of outcomes.now ids (question_view question.now))) }
 {
     let truths = truths_of(alloc, outcomes, question)?;
+    let muting = outcomes.muting_routes(alloc)?;
     let mut lines = Vec::new(alloc);
     for position in 0..outcomes.world().alerts().len() {
         if truths[position] {
-            lines.push(alert_line(alloc, outcomes, names, position)?)?;
+            lines.push(alert_line(alloc, outcomes, names, muting.as_slice(), position)?)?;
         }
     }
     Ok(Report {
@@ -50,9 +52,11 @@ fn alert_line<'o>(
     alloc: Global,
     outcomes: &'o Outcomes<'_>,
     names: &'o [String],
+    muting: &[MutingRoute<'o>],
     position: usize,
 ) -> Result<Line<'o>, AllocError>
-    requires { position < length outcomes.now.alerts }
+    requires position { position < length outcomes.now.alerts }
+    requires muting { TellIntervals outcomes.now muting.now position }
     ensures { IfOk result (λ line. (ids : List (Option (List ℕ))) (s : LabelMap)
         → AreNames ids (length outcomes.now.silences) (map string_bytes names.now)
         → slice_get outcomes.now.alerts position ≡ Some s
@@ -63,7 +67,7 @@ fn alert_line<'o>(
     let outcome = outcomes.at(position);
     let receivers = receiver_names(alloc, world.config(), outcome.receivers)?;
     let silencers = names_of(alloc, names, outcome.silencers)?;
-    let intervals = intervals_of(alloc, world.config(), outcome.rows, outcome.alert)?;
+    let intervals = intervals_of(alloc, muting, position)?;
     let labels = labels_of(alloc, world.alerts().get(position))?;
     Ok(Line {
         level: Level::Plain,

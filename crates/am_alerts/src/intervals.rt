@@ -1,37 +1,74 @@
 //! The time intervals on which it depends whether an alert is muted.
 
-ghost use Rattle.std.specs.Prelude.{◌≡◌, fold, map, IfOk, OnOk, Some};
+ghost use Rattle.std.specs.Prelude.{◌≡◌, ℕ, [], false, fold, map, IfOk, OnOk, Some};
 ghost use Rattle.serde_json.specs.View.{view};
 ghost use Rattle.am_json.specs.Json.{items_in_field};
 ghost use Rattle.am_config.specs.ConfigView.{config_view};
-ghost use Rattle.am_report_texts.specs.EachOnce.{with_text};
-ghost use Rattle.am_alerts.specs.Intervals.{intervals_of, texts_in};
+ghost use Rattle.am_config.specs.RouteView.{route_view};
+ghost use Rattle.am_report_texts.specs.EachOnce.{each_once, with_text};
+ghost use Rattle.am_alerts.specs.Intervals.{route_intervals, texts_in};
+ghost use Rattle.am_alerts.specs.MutingRoutes.{intervals_among, intervals_at};
 ghost use Rattle.am_alerts.specs.RouteEnds.{ends_of};
 
 use crate::route_ends::RouteEnds;
-use am_config::Config;
+use am_config::{Config, Route};
 use am_report_texts::push_new;
 use serde_json::Value;
 use std::alloc::{AllocError, Global};
 
-/// Returns the names of the time intervals of the routes at which the alert at a position ends, each
-/// once. Fails only if memory runs out.
+/// A route that has time intervals, and the alerts that end at it.
+#[derive(Clone, Copy, Drop)]
+pub(crate) struct MutingRoute<'o> {
+    pub(crate) route: &'o Route,
+    pub(crate) ends: &'o RouteEnds,
+}
+
+/// Returns those of the routes at which alerts end that have time intervals. They are mostly few,
+/// and there may be many alerts. Fails only if memory runs out.
+pub(crate) fn muting_routes<'o>(
+    alloc: Global,
+    config: &'o Config,
+    rows: &'o [RouteEnds],
+) -> Result<Vec<MutingRoute<'o>>, AllocError>
+    ensures { IfOk result (λ muting. (alert : ℕ) → intervals_at muting.items alert
+        ≡ intervals_among (config_view config.now) (ends_of rows.now alert)) }
+{
+    let mut muting = Vec::new(alloc);
+    for ends in rows {
+        if let Some(route) = config.at(&ends.path) {
+            if has_intervals(route) {
+                muting.push(MutingRoute { route, ends })?;
+            }
+        }
+    }
+    Ok(muting)
+}
+
+/// Whether a route has time intervals, or values that may be names of some.
+fn has_intervals(route: &Route) -> bool
+    ensures { result ≡ false → route_intervals (route_view route.now) ≡ [] }
+{
+    let options = route.options();
+    !items_in(&options.mute_time_intervals).is_empty()
+        || !items_in(&options.active_time_intervals).is_empty()
+}
+
+/// Returns the names of the time intervals of those routes at which the alert at a position ends,
+/// each once. Fails only if memory runs out.
 pub(crate) fn intervals_of<'a>(
     alloc: Global,
-    config: &'a Config,
-    rows: &[RouteEnds],
+    muting: &[MutingRoute<'a>],
     alert: usize,
 ) -> Result<Vec<&'a str>, AllocError>
-    ensures { IfOk result (λ names. map (λ n. n.now) names.items
-        ≡ intervals_of (config_view config.now) (ends_of rows.now alert)) }
+    ensures { IfOk result (λ names.
+        map (λ n. n.now) names.items ≡ each_once (intervals_at muting.now alert)) }
 {
     let mut names = Vec::new(alloc);
-    for row in rows {
-        if row.has(alert) {
-            if let Some(route) = config.at(&row.path) {
-                push_texts(&route.options().mute_time_intervals, &mut names)?;
-                push_texts(&route.options().active_time_intervals, &mut names)?;
-            }
+    for one in muting {
+        if one.ends.has(alert) {
+            let options = one.route.options();
+            push_texts(&options.mute_time_intervals, &mut names)?;
+            push_texts(&options.active_time_intervals, &mut names)?;
         }
     }
     Ok(names)

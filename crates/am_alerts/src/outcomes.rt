@@ -1,17 +1,19 @@
 //! The outcomes of all alerts of a world.
 
-ghost use Rattle.std.specs.Prelude.{◌≡◌, ◌<◌, List, length, slice_get, Some, IfOk};
+ghost use Rattle.std.specs.Prelude.{◌≡◌, ◌<◌, ℕ, List, length, slice_get, Some, IfOk};
 ghost use Rattle.std.specs.List.{filter_map};
 ghost use Rattle.am_universe.specs.LabelSet.{LabelMap};
 ghost use Rattle.am_config.specs.ConfigView.{config_view};
 ghost use Rattle.am_eval.specs.Routing.{ends, receivers, receiver_at};
 ghost use Rattle.am_alerts.specs.AlertLists.{AreLists};
 ghost use Rattle.am_alerts.specs.RouteEnds.{AreEnds, ends_of};
+ghost use Rattle.am_alerts.specs.MutingRoutes.{TellIntervals};
 ghost use Rattle.am_alerts.specs.Outcomes.{HasOutcome};
 
 use crate::alert_ends::ends_of_alerts;
 use crate::alert_hiding::{inhibitors_of_alerts, silencers_of_alerts};
 use crate::alert_labels::AlertLabels;
+use crate::intervals::{MutingRoute, muting_routes};
 use crate::route_ends::RouteEnds;
 use am_config::Config;
 use am_eval::World;
@@ -100,6 +102,15 @@ impl<'w> Outcomes<'w> {
         &self.labels
     }
 
+    /// Returns the routes that have time intervals and at which alerts end. Fails only if memory
+    /// runs out.
+    pub(crate) fn muting_routes(&self, alloc: Global) -> Result<Vec<MutingRoute<'_>>, AllocError>
+        ensures intervals { IfOk result (λ muting.
+            (alert : ℕ) → TellIntervals self.now muting.items alert) }
+    {
+        muting_routes(alloc, self.world.config(), self.ends.as_slice())
+    }
+
     /// The outcome of the alert at a position.
     pub(crate) fn at(&self, position: usize) -> Outcome<'_>
         requires alert { position < length self.now.alerts }
@@ -134,8 +145,8 @@ fn receivers_of_all(
     Ok(found)
 }
 
-/// The receivers of the routes at which the alert at a position ends, in order. Fails only if memory
-/// runs out.
+/// The receivers of the routes at which the alert at a position ends, in order. Fails only if
+/// memory runs out.
 pub(crate) fn receivers_of(
     alloc: Global,
     config: &Config,

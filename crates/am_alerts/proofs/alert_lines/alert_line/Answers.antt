@@ -9,7 +9,6 @@ use Rattle.am_eval.specs.Silencing.{silencers}
 use Rattle.am_report_texts.specs.Line as spec
 use Rattle.am_report_texts.specs.ReceiverNames.{receiver_names}
 use Rattle.am_alerts.specs.AlertLines.{words_before}
-use Rattle.am_alerts.specs.Intervals.{intervals_of}
 use Rattle.am_alerts.specs.SilenceIds.{called, name_at}
 use Rattle.am_alerts.proofs.SilenceNames.{names_are}
 use Rattle.am_alerts.proofs.alert_lines.alert_line.Goals as goal
@@ -23,9 +22,7 @@ returns c = λ ids s named at.
     ∙ (λ j. receiver_names ((c.config.ensures.config ∙ ap config c.world-world.ensures.world) j) (outcome.receivers j)) in
     let silencing = c.in_ok-silencers.ensures ∙ ap (map (name_at (map string_bytes c.args.names.now))) outcome.silencers
     ∙ names_are w s ids (map string_bytes c.args.names.now) named in
-    let muting = c.in_ok-intervals.ensures
-    ∙ (λ j. intervals_of ((c.config-2.ensures.config ∙ ap config c.world-world.ensures.world) j)
-    (outcome.ends j)) in
+    let muting = c.in_ok-intervals.ensures ∙ c.requires.muting s at in
     let set : c.get.result.now ≡ s =
     same_Some c.get.result.now s (sym c.get.ensures.alert ∙ ap (λ xs. slice_get xs c.args.position)
     (c.alerts.ensures.alerts ∙ ap (λ (w : World). w.alerts) c.world-world.ensures.world) ∙ at) in
