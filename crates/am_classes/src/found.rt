@@ -104,8 +104,9 @@ impl Found {
     }
 }
 
-/// Returns the places of the patterns that find the candidate of a text, if it is among some. Their
-/// places are in this order if they are in that of their texts.
+/// Returns the places of the patterns that find a text, if it is the text of one of these
+/// candidates. `order` has the places of the candidates, sorted by their texts; by any other order
+/// a candidate may be missed.
 fn found_in<'f>(candidates: &'f [Candidate], order: &[usize], text: &str) -> Option<&'f [usize]>
     ensures { IfSome result (λ found. (k : ℕ) × (candidate : Candidate)
         × (slice_get candidates.now k ≡ Some candidate)
